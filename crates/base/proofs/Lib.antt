@@ -1,0 +1,7 @@
+pub mod Tests
+pub mod Parts
+pub mod WriteLaws
+pub mod ParseLaws
+pub mod ManyLaws
+pub mod MomentLaws
+pub mod RunLaws

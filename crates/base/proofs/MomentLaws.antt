@@ -1,0 +1,27 @@
+-- The test of an instant, and what a moment is. Assumes nothing.
+use mathlib.Core.Path.{_≡_}
+use mathlib.Core.Bool.{true, false}
+use mathlib.Core.Logic.{_⊎_}
+use Prim.Native.Nat.{ℕ, _≤_}
+use native.Mathlib.Omega.{arith}
+use lib.Dec.{leb}
+use borrow.Author.Tests.{le-leb, leb-true}
+use Rattle.base.specs.Pick.{both}
+use Rattle.base.specs.Moment.{Finite, finite, firstInstant, lastInstant, startOfTime, endOfTime}
+use Rattle.base.proofs.Tests.{never, both-left, both-right}
+
+-- a mark or an instant
+abbrev pub Moment : ℕ → Type 0
+Moment m = (m ≡ startOfTime) ⊎ ((m ≡ endOfTime) ⊎ Finite m)
+
+pub finite-true : (t : ℕ) → finite t ≡ true → Finite t
+finite-true t e = record {
+  low = leb-true firstInstant t (both-left (leb firstInstant t) (leb t lastInstant) e);
+  high = leb-true t lastInstant (both-right (leb firstInstant t) (leb t lastInstant) e);
+}
+
+pub finite-yes : (t : ℕ) → Finite t → finite t ≡ true
+finite-yes t h = rw (le-leb firstInstant t (h .low), le-leb t lastInstant (h .high))
+
+pub finite-false : (t : ℕ) → finite t ≡ false → Finite t → ⊥
+finite-false t e h = never (finite-yes t h) e

@@ -1,0 +1,46 @@
+-- Laws of readers in a row. Assumes nothing.
+use mathlib.Core.Path.{_≡_, refl}
+use mathlib.Core.Bool.{Bool, true, false}
+use mathlib.Core.List.{List, [], _∷_}
+use Prim.Native.Nat.{ℕ, _≤_}
+use native.Mathlib.Omega.{arith}
+use lib.ListN.{length}
+use Rattle.base.specs.Pick.{pick}
+use Rattle.base.specs.Parsed.{Parsed, got, bad, bind, ended}
+
+pub bad-got : {A G : Type 0} {k : ℕ} {a : A} {r : List ℕ} → bad k ≡ got a r → G
+bad-got e = let z : _≡_ {A = ℕ} 0 1 = cc in absurd (omega arith)
+
+pub bind-id : {A : Type 0} (p : Parsed A) → p ≡ bind p got
+bind-id (got a q) = refl
+bind-id (bad k) = refl
+
+pub bind-assoc : {A B C : Type 0} (p : Parsed A) (f : A → List ℕ → Parsed B) (g : B → List ℕ → Parsed C)
+    → bind (bind p f) g ≡ bind p (λ a r. bind (f a r) g)
+bind-assoc (got a q) f g = refl
+bind-assoc (bad k) f g = refl
+
+-- what a good row has read first
+pub record Split {A B : Type 0} (p : Parsed A) (k : A → List ℕ → Parsed B) (b : B) (q : List ℕ) : Type 0 where
+  pub first : A
+  pub rest : List ℕ
+  pub is : p ≡ got first rest
+  pub on : k first rest ≡ got b q
+
+pub bind-good : {A B : Type 0} (p : Parsed A) (k : A → List ℕ → Parsed B) (b : B) (q : List ℕ) → bind p k ≡ got b q → Split p k b q
+bind-good (got a r) k b q e = record { first = a; rest = r; is = refl; on = e }
+bind-good (bad n) k b q e = bad-got e
+
+-- a test that must hold for a row to be good
+pub pick-good : {A : Type 0} (t : Bool) (x : Parsed A) (n : ℕ) (a : A) (q : List ℕ) → pick t x (bad n) ≡ got a q → (t ≡ true) × (x ≡ got a q)
+pick-good true x n a q e = (refl, e)
+pick-good false x n a q e = bad-got e
+
+pub pick-bad : {A : Type 0} (t : Bool) (x : Parsed A) (n : ℕ) (a : A) (q : List ℕ) → pick t (bad n) x ≡ got a q → (t ≡ false) × (x ≡ got a q)
+pick-bad true x n a q e = bad-got e
+pick-bad false x n a q e = (refl, e)
+
+pub ended-good : {A : Type 0} (a b : A) (r q : List ℕ) → ended a r ≡ got b q → (a ≡ b) × (r ≡ []) × (q ≡ [])
+unfolding ended
+ended-good a b [] q e = let x : a ≡ b = cc in let y : [] ≡ q = cc in (x, refl, cc)
+ended-good a b (c ∷ r) q e = bad-got e

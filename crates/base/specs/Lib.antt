@@ -1,0 +1,5 @@
+pub mod Pick
+pub mod Writing
+pub mod Parsed
+pub mod Moment
+pub mod Run

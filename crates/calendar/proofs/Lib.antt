@@ -1,0 +1,4 @@
+pub mod Tables
+pub mod Years
+pub mod Months
+pub mod Dates

@@ -1,0 +1,4 @@
+pub mod Number
+pub mod Instant
+pub mod OffsetSum
+pub mod Zigzag

@@ -1,0 +1,121 @@
+//! The commands on files.
+
+use crate::cases;
+use crate::Done;
+use second_reader::generate;
+use second_reader::{ask, file, lines, rewrite, version_text, Mark, Refusal};
+use std::ffi::{OsStr, OsString};
+use std::fs;
+use std::io::{ErrorKind, Read};
+use std::path::Path;
+
+/// Why a command wasn't carried out.
+pub(crate) enum Misuse {
+    /// The words don't make a command.
+    Usage,
+    /// What is wrong.
+    Words(String),
+}
+
+impl From<String> for Misuse {
+    fn from(words: String) -> Misuse {
+        Misuse::Words(words)
+    }
+}
+
+/// Carries out the command that the arguments name.
+pub(crate) fn run(arguments: &[OsString]) -> Result<Done, Misuse> {
+    let (command, rest) = arguments.split_first().ok_or(Misuse::Usage)?;
+    let words: Vec<&OsStr> = rest.iter().map(OsString::as_os_str).collect();
+    match (command.to_str(), words.as_slice()) {
+        (Some("check"), [file]) => {
+            let bytes = read(file)?;
+            Ok(done(file::read_file(&bytes).map(|_| b"0".to_vec())))
+        }
+        (Some("ask"), [file, zone, ticks]) => ask_file(file, zone, ticks, Mark::ThisIsAll),
+        (Some("ask"), [file, zone, ticks, mark]) => match mark.to_str() {
+            Some("part") => ask_file(file, zone, ticks, Mark::MoreMayCome),
+            Some("all") => ask_file(file, zone, ticks, Mark::ThisIsAll),
+            _ => Err(Misuse::Words("the mark is neither part nor all".to_string())),
+        },
+        (Some("version"), [file]) => {
+            let bytes = read(file)?;
+            Ok(done(version_text(&bytes).map(|part| bytes[part].to_vec())))
+        }
+        (Some("rewrite"), [file, out]) => rewrite_file(file, out),
+        (Some("lines"), [file]) => answer_lines(file),
+        (Some("generate"), [seed, count, dir]) => generate_files(number(seed)?, number(count)?, Path::new(dir)),
+        (Some(name @ ("code" | "rule" | "tail" | "date")), words) => cases::run(name, words),
+        _ => Err(Misuse::Usage),
+    }
+}
+
+/// `0` and the text, or number and place.
+fn done(result: Result<Vec<u8>, Refusal>) -> Done {
+    match result {
+        Ok(text) => Done { output: [b"0 ", text.as_slice(), b"\n"].concat(), refused: None },
+        Err(refusal) => Done { output: format!("{refusal}\n").into_bytes(), refused: Some(refusal.number.words()) },
+    }
+}
+
+fn number<T: std::str::FromStr>(word: &OsStr) -> Result<T, Misuse> {
+    let parsed = word.to_str().and_then(|text| text.parse().ok());
+    parsed.ok_or_else(|| Misuse::Words(format!("{} is not a number that fits", word.display())))
+}
+
+fn read(file: &OsStr) -> Result<Vec<u8>, Misuse> {
+    fs::read(file).map_err(|fault| Misuse::Words(format!("{} can't be read: {fault}", file.display())))
+}
+
+fn write(file: &Path, bytes: &[u8]) -> Result<(), Misuse> {
+    fs::write(file, bytes).map_err(|fault| Misuse::Words(format!("{} can't be written: {fault}", file.display())))
+}
+
+/// Standard input to its end.
+pub(crate) fn standard_input() -> Result<Vec<u8>, Misuse> {
+    let mut input = Vec::new();
+    let read = std::io::stdin().read_to_end(&mut input);
+    read.map_err(|fault| Misuse::Words(format!("standard input can't be read: {fault}")))?;
+    Ok(input)
+}
+
+fn ask_file(file: &OsStr, zone: &OsStr, ticks: &OsStr, mark: Mark) -> Result<Done, Misuse> {
+    let bytes = read(file)?;
+    let asked = ask(&bytes, zone.as_encoded_bytes(), number(ticks)?, mark);
+    Ok(done(asked.map(|answer| {
+        let mut text = format!("{} {} {} {} ", answer.wall, answer.savings, answer.start, answer.end).into_bytes();
+        text.extend(&bytes[answer.name]);
+        text
+    })))
+}
+
+fn rewrite_file(file: &OsStr, out: &OsStr) -> Result<Done, Misuse> {
+    let bytes = read(file)?;
+    // "It is never longer than its source."
+    let mut output = vec![0; bytes.len()];
+    let length = rewrite(&bytes, &mut output);
+    if let Ok(length) = length {
+        write(Path::new(out), &output[..length])?;
+    }
+    Ok(done(length.map(|length| length.to_string().into_bytes())))
+}
+
+/// "A missing file counts as no bytes".
+fn answer_lines(file: &OsStr) -> Result<Done, Misuse> {
+    let bytes = match fs::read(file) {
+        Err(fault) if fault.kind() == ErrorKind::NotFound => Vec::new(),
+        _ => read(file)?,
+    };
+    Ok(Done { output: lines(&bytes, &standard_input()?), refused: None })
+}
+
+fn generate_files(seed: u64, count: u64, dir: &Path) -> Result<Done, Misuse> {
+    fs::create_dir_all(dir).map_err(|fault| format!("{} can't be made: {fault}", dir.display()))?;
+    for number in 1..=count {
+        let case = generate::case(seed, number);
+        for (ending, bytes) in [("nzd", &case.file), ("questions", &case.questions), ("expected", &case.expected)] {
+            write(&dir.join(format!("{number:04}.{ending}")), bytes)?;
+        }
+    }
+    Ok(Done { output: format!("{count} files\n").into_bytes(), refused: None })
+}

@@ -1,0 +1,236 @@
+//! A file: version and fields, the whole-file check, the question and the version text.
+
+use crate::codes;
+use crate::data::Data;
+use crate::number::{Number, Refusal};
+use crate::pool::{read_pool, Pool};
+use crate::transition::{in_range, Transition};
+use crate::zone::{read_zone, Zone};
+use std::collections::BTreeSet;
+use std::ops::Range;
+
+/// "the place just past a field is at most 4,194,304"
+pub const LAST_END: usize = 4_194_304;
+
+const POOL: u8 = 0;
+const ZONE: u8 = 1;
+const VERSION_TEXT: u8 = 2;
+
+/// "The marked question says \"more may come\" or \"this is all\"."
+#[derive(Clone, Copy, Debug, PartialEq, Eq)]
+pub enum Mark {
+    /// The bytes may be the first part of a file.
+    MoreMayCome,
+    /// The bytes are all there are.
+    ThisIsAll,
+}
+
+impl Mark {
+    /// The number for bytes that end in the version or in a field.
+    fn cut(self) -> Number {
+        match self {
+            Mark::MoreMayCome => Number::NotYet,
+            Mark::ThisIsAll => Number::CutShort,
+        }
+    }
+
+    /// The number for bytes that end at the version's or a field's end with the zone unseen.
+    fn unseen(self) -> Number {
+        match self {
+            Mark::MoreMayCome => Number::NotYet,
+            Mark::ThisIsAll => Number::NotFound,
+        }
+    }
+}
+
+/// "An answer carries wall offset, savings, the name as a part of the lent bytes, and the interval's start and end."
+#[derive(Clone, Debug, PartialEq, Eq)]
+pub struct Answer {
+    /// Wall offset in milliseconds.
+    pub wall: i32,
+    /// Savings in milliseconds.
+    pub savings: i32,
+    /// Where the name stands in the lent bytes: the pool string of the number stored (reading 25).
+    pub name: Range<usize>,
+    /// The interval's start.
+    pub start: Transition,
+    /// The interval's end.
+    pub end: Transition,
+}
+
+/// One whole field.
+#[derive(Clone, Debug, PartialEq, Eq)]
+pub struct Field<'a> {
+    /// The ID byte.
+    pub id: u8,
+    /// The place of the ID byte.
+    pub place: usize,
+    /// The place of the first data byte.
+    pub data_place: usize,
+    /// The data bytes.
+    pub data: &'a [u8],
+}
+
+/// The fields of a file, stepped through in file order.
+struct Fields<'a> {
+    bytes: &'a [u8],
+    mark: Mark,
+    at: usize,
+    before: Option<u8>,
+}
+
+impl<'a> Fields<'a> {
+    /// "version; then fields in file order". A version that isn't all there is cut, right or wrong (reading 9).
+    fn new(bytes: &'a [u8], mark: Mark) -> Result<Fields<'a>, Refusal> {
+        match bytes.get(..4) {
+            None => Err(mark.cut().at(0)),
+            Some([0, 0, 0, 0]) => Ok(Fields { bytes, mark, at: 4, before: None }),
+            Some(_) => Err(Number::WrongVersion.at(0)),
+        }
+    }
+
+    /// "At each ID byte: 6, 5". None at the bytes' end. The place stays at the ID byte.
+    fn id(&self) -> Result<Option<u8>, Refusal> {
+        let Some(&id) = self.bytes.get(self.at) else {
+            return Ok(None);
+        };
+        match self.before {
+            None if id != POOL => Err(Number::FirstField.at(self.at)),
+            // "field ID lower than the one before, or 0 or 2 to 7 a second time"; 1 and 8 to 255 may repeat.
+            Some(before) if id < before => Err(Number::FieldOrder.at(self.at)),
+            Some(before) if id == before && matches!(id, 0 | 2..=7) => Err(Number::FieldOrder.at(self.at)),
+            _ => Ok(Some(id)),
+        }
+    }
+
+    /// "Then the size code (7), 4, then 1 or 2 if the field isn't whole." Steps over the field.
+    fn field(&mut self, id: u8) -> Result<Field<'a>, Refusal> {
+        let place = self.at;
+        let (size, length) = match codes::read_count(&self.bytes[place + 1..]) {
+            Ok(read) => read,
+            // A size cut by the bytes' end: the field isn't whole (readings 7 and 8).
+            Err(Number::BadData) => return Err(self.mark.cut().at(place)),
+            Err(number) => return Err(number.at(place)),
+        };
+        let data_place = place + 1 + length;
+        let end = data_place + size as usize;
+        if end > LAST_END {
+            return Err(Number::TooLarge.at(place));
+        }
+        let data = self.bytes.get(data_place..end).ok_or_else(|| self.mark.cut().at(place))?;
+        self.at = end;
+        self.before = Some(id);
+        Ok(Field { id, place, data_place, data })
+    }
+}
+
+/// What a well-formed file holds.
+#[derive(Clone, Debug, PartialEq, Eq)]
+pub struct Contents<'a> {
+    /// Every field, in file order.
+    pub fields: Vec<Field<'a>>,
+    /// The strings of field 0.
+    pub pool: Pool,
+    /// The zones, each with its number among the fields.
+    pub zones: Vec<(usize, Zone)>,
+    /// Where field 2's text stands.
+    pub version_text: Option<Range<usize>>,
+}
+
+/// "checking a whole file": its contents if it is well formed, else the refusal.
+pub fn read_file(bytes: &[u8]) -> Result<Contents<'_>, Refusal> {
+    let mut fields = Fields::new(bytes, Mark::ThisIsAll)?;
+    let mut contents = Contents { fields: Vec::new(), pool: Pool::new(), zones: Vec::new(), version_text: None };
+    let mut ids = BTreeSet::new();
+    while let Some(id) = fields.id()? {
+        let field = fields.field(id)?;
+        let refuse = |number: Number| number.at(field.place);
+        match id {
+            POOL => contents.pool = read_pool(field.data, field.data_place).map_err(refuse)?,
+            ZONE => {
+                let zone = read_zone(field.data, contents.pool.len()).map_err(refuse)?;
+                // "13 after that", in the second zone's own turn (reading 1).
+                if !ids.insert(&bytes[contents.pool[zone.id].clone()]) {
+                    return Err(refuse(Number::SecondZone));
+                }
+                contents.zones.push((contents.fields.len(), zone));
+            }
+            VERSION_TEXT => {
+                let part = read_version(field.data).map_err(refuse)?;
+                contents.version_text = Some(field.data_place + part.start..field.data_place + part.end);
+            }
+            // "Fields 3 and up are stepped over by their size."
+            _ => {}
+        }
+        contents.fields.push(field);
+    }
+    // "a whole-file check finds no field"
+    if contents.fields.is_empty() {
+        return Err(Number::FirstField.at(bytes.len()));
+    }
+    Ok(contents)
+}
+
+/// "in field 2 (tzdb version) length and bytes stand in place"
+fn read_version(bytes: &[u8]) -> Result<Range<usize>, Number> {
+    let mut data = Data::new(bytes);
+    let part = data.text()?;
+    data.end()?;
+    Ok(part)
+}
+
+/// The whole-file check: `(0, 0)` if the file is well formed, else number and place.
+pub fn check(bytes: &[u8]) -> (u8, u64) {
+    match read_file(bytes) {
+        Ok(_) => (0, 0),
+        Err(refusal) => (refusal.number.value(), refusal.place),
+    }
+}
+
+/// The marked question: the interval of `zone` that holds `ticks`.
+///
+/// "A question checks field 0 and every zone in full, up to and with the first that has the asked ID, and doesn't
+/// look past it."
+pub fn ask(bytes: &[u8], zone: &[u8], ticks: i64, mark: Mark) -> Result<Answer, Refusal> {
+    // "Order: 14; version; then fields in file order."
+    if !in_range(ticks) {
+        return Err(Number::InstantRange.at(0));
+    }
+    let mut fields = Fields::new(bytes, mark)?;
+    let mut pool = Pool::new();
+    while let Some(id) = fields.id()? {
+        // "then for a question 12 if the ID is above 1"
+        if id > ZONE {
+            return Err(Number::NotFound.at(fields.at));
+        }
+        let field = fields.field(id)?;
+        let refuse = |number: Number| number.at(field.place);
+        if id == POOL {
+            pool = read_pool(field.data, field.data_place).map_err(refuse)?;
+            continue;
+        }
+        let read = read_zone(field.data, pool.len()).map_err(refuse)?;
+        if &bytes[pool[read.id].clone()] == zone {
+            let holding = read.at(ticks);
+            return Ok(Answer {
+                wall: holding.interval.wall,
+                savings: holding.interval.savings,
+                name: pool[holding.interval.name].clone(),
+                start: holding.interval.start,
+                end: holding.end,
+            });
+        }
+    }
+    Err(mark.unseen().at(bytes.len()))
+}
+
+/// "The plain question carries no mark and means \"this is all\"."
+pub fn ask_plain(bytes: &[u8], zone: &[u8], ticks: i64) -> Result<Answer, Refusal> {
+    ask(bytes, zone, ticks, Mark::ThisIsAll)
+}
+
+/// The tzdb version text, as a part of the lent bytes: "check all first; then 15 or 12", "for 12 on the version text,
+/// the bytes' end".
+pub fn version_text(bytes: &[u8]) -> Result<Range<usize>, Refusal> {
+    read_file(bytes)?.version_text.ok_or_else(|| Number::NotFound.at(bytes.len()))
+}

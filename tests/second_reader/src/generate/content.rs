@@ -1,0 +1,234 @@
+//! What a generated file holds, before any byte of it is written.
+
+use crate::generate::prng::Prng;
+use crate::pool::MOST_STRINGS;
+use crate::recurrence::{Mode, Rule, Tail};
+use crate::transition::{Transition, FIRST, LAST, TICKS_PER_HOUR, TICKS_PER_MINUTE};
+use crate::zone::{Interval, Rest, Zone, MOST_INTERVALS};
+use crate::{calendar, codes};
+use std::collections::BTreeSet;
+
+const DAY_MS: i64 = 86_400_000;
+const YEAR_1800: i64 = -53_646_624_000_000_000;
+
+/// How large a file may grow.
+#[derive(Clone, Copy, Debug, PartialEq, Eq)]
+pub enum Size {
+    /// A few hundred bytes, for tests that take every prefix.
+    Small,
+    /// Mostly a few hundred bytes, now and then up to the largest sizes.
+    Any,
+}
+
+/// The content of a well-formed file.
+#[derive(Clone, Debug, PartialEq, Eq)]
+pub struct FileContent {
+    /// The strings of field 0.
+    pub pool: Vec<Vec<u8>>,
+    /// The zones, no two with the same ID bytes.
+    pub zones: Vec<Zone>,
+    /// The text of field 2.
+    pub version: Option<Vec<u8>>,
+    /// Fields 3 and up in file order, with their data.
+    pub others: Vec<(u8, Vec<u8>)>,
+}
+
+impl FileContent {
+    /// The ID bytes of a zone.
+    pub fn id(&self, zone: &Zone) -> &[u8] {
+        &self.pool[zone.id]
+    }
+}
+
+/// A well-formed file's content.
+pub fn random_content(prng: &mut Prng, size: Size) -> FileContent {
+    let pool = random_pool(prng, size);
+    let mut zones = Vec::new();
+    let mut ids = BTreeSet::new();
+    // An empty pool can name no zone.
+    if !pool.is_empty() {
+        for _ in 0..prng.below(6) {
+            let id = prng.below(pool.len());
+            if ids.insert(pool[id].clone()) {
+                zones.push(Zone { id, rest: random_rest(prng, pool.len(), size) });
+            }
+        }
+    }
+    let version = (!prng.one_in(3)).then(|| random_text(prng, size));
+    FileContent { pool, zones, version, others: random_others(prng) }
+}
+
+/// Strings with duplicates and empty ones among them.
+fn random_pool(prng: &mut Prng, size: Size) -> Vec<Vec<u8>> {
+    let count = if size == Size::Any && prng.one_in(100) { MOST_STRINGS } else { prng.below(12) };
+    let mut pool: Vec<Vec<u8>> = Vec::new();
+    while pool.len() < count {
+        let string = match prng.below(6) {
+            0 => Vec::new(),
+            1 if !pool.is_empty() => prng.pick(&pool).clone(),
+            _ => random_text(prng, size),
+        };
+        pool.push(string);
+    }
+    pool
+}
+
+/// UTF-8 with characters of every length, spaces and line feeds among them.
+fn random_text(prng: &mut Prng, size: Size) -> Vec<u8> {
+    if size == Size::Any && prng.one_in(100) {
+        return vec![b'x'; codes::LONGEST_TEXT];
+    }
+    let letters = ['A', 'b', 'Z', '/', '_', '+', '-', '9', ' ', '\n', 'é', 'ø', '\u{7ff}', '\u{800}', '中', '\u{d7ff}'];
+    let rare = ['\0', '\u{e000}', '\u{ffff}', '\u{10000}', '\u{1f41f}', '\u{10ffff}'];
+    let plain = prng.one_in(2);
+    let length = prng.below(8);
+    let text: String = (0..length)
+        .map(|_| match prng.below(12) {
+            0 if !plain => *prng.pick(&rare),
+            _ if !plain => *prng.pick(&letters),
+            _ => *prng.pick(&letters[..8]),
+        })
+        .collect();
+    text.into_bytes()
+}
+
+/// Fields 3 to 9 and one above; only 8 and up may repeat.
+fn random_others(prng: &mut Prng) -> Vec<(u8, Vec<u8>)> {
+    let mut others = Vec::new();
+    for id in [3, 4, 5, 6, 7, 8, 9, 255] {
+        let most = if id > 7 { 2 } else { 1 };
+        let count = if prng.one_in(3) { 1 + prng.below(most) } else { 0 };
+        for _ in 0..count {
+            let length = prng.below(12);
+            others.push((id, prng.bytes(length)));
+        }
+    }
+    others
+}
+
+/// Fixed, listed and tail zones.
+fn random_rest(prng: &mut Prng, pool_count: usize, size: Size) -> Rest {
+    if prng.one_in(4) {
+        return Rest::Fixed { offset: random_offset(prng), name: prng.below(pool_count) };
+    }
+    let count = match size {
+        Size::Any if prng.one_in(150) => MOST_INTERVALS,
+        Size::Any if prng.one_in(20) => 60,
+        _ => 1 + prng.below(5),
+    };
+    let mut intervals: Vec<Interval> = Vec::new();
+    let mut previous = Transition::StartOfTime;
+    for number in 0..count {
+        if number > 0 {
+            // A long list takes small steps, so that it fits into the range.
+            match instant_after(prng, previous, count > 20) {
+                Some(ticks) => previous = Transition::Finite(ticks),
+                None => break,
+            }
+        }
+        intervals.push(Interval {
+            start: previous,
+            name: prng.below(pool_count),
+            wall: random_offset(prng),
+            savings: random_offset(prng),
+        });
+    }
+    if !prng.one_in(3) {
+        if let Some(ticks) = instant_after(prng, previous, false) {
+            let tail = random_tail(prng, pool_count);
+            return Rest::Listed { intervals, end: Transition::Finite(ticks), tail: Some(tail) };
+        }
+    }
+    Rest::Listed { intervals, end: Transition::EndOfTime, tail: None }
+}
+
+/// A finite instant after `previous`, shaped for one of the transition forms or for one of their borders.
+fn instant_after(prng: &mut Prng, previous: Transition, small_steps: bool) -> Option<i64> {
+    let (before, low) = match previous {
+        Transition::Finite(ticks) => (ticks, ticks.checked_add(1)?),
+        // Any instant may follow start of time; steps are then taken from year 1.
+        _ => (FIRST, FIRST),
+    };
+    let minutes = |count: i64| YEAR_1800 + count * TICKS_PER_MINUTE;
+    // Few tries fail, save where `previous` is near the end of the range.
+    (0..20)
+        .map(|_| match prng.below(if small_steps { 4 } else { 12 }) {
+            0 | 1 => before + prng.range(128, 9000) * TICKS_PER_HOUR,
+            2 => before + prng.range(1, 127) * TICKS_PER_HOUR,
+            3 => before + prng.range(1, 10_000_000) * TICKS_PER_MINUTE / 60,
+            4 => before + prng.range(128, 2_097_151) * TICKS_PER_HOUR,
+            5 => before + prng.pick(&[127, 128, 2_097_151, 2_097_152]) * TICKS_PER_HOUR,
+            6 => minutes(*prng.pick(&[2_097_151, 2_097_152, 2_147_483_647, 2_147_483_648])),
+            7 => minutes(prng.range(2_097_152, 2_147_483_647)),
+            8 => minutes(prng.range(50_000_000, 150_000_000)) / TICKS_PER_HOUR * TICKS_PER_HOUR,
+            9 => low,
+            10 => LAST - prng.range(0, 1_000_000_000_000_000) * prng.range(0, 1),
+            _ => prng.range(low.min(LAST), LAST),
+        })
+        .find(|ticks| (low..=LAST).contains(ticks))
+}
+
+/// Offsets in every form, and the outermost of each.
+fn random_offset(prng: &mut Prng) -> i32 {
+    let unit = *prng.pick(&[1_800_000, 1_800_000, 60_000, 1_000, 1]);
+    let most = (DAY_MS - 1) / unit;
+    let number = match prng.below(8) {
+        0 => most,
+        1 => -most,
+        2 => 0,
+        _ => prng.range(-most, most),
+    };
+    (number * unit) as i32
+}
+
+fn random_rule(prng: &mut Prng) -> Rule {
+    let mode = *prng.pick(&[Mode::Utc, Mode::Wall, Mode::Standard]);
+    let (month, day) = match prng.below(6) {
+        // Spills over the end of the year, either way.
+        0 => (12, *prng.pick(&[31, 30, 26, -1, -2])),
+        1 => (1, *prng.pick(&[1, 2, 6, -31])),
+        2 => (2, *prng.pick(&[29, 28, 1, -1, -28])),
+        _ => {
+            let month = prng.range(1, 12) as u32;
+            let day = match prng.one_in(2) {
+                true => prng.range(1, calendar::longest_length(month)),
+                false => prng.range(-calendar::shortest_length(month), -1),
+            };
+            (month, day as i32)
+        }
+    };
+    Rule {
+        mode,
+        weekday: prng.below(8) as u8,
+        on_or_after: prng.one_in(2),
+        extra_day: prng.one_in(3),
+        month,
+        day,
+        time: random_offset(prng).abs(),
+    }
+}
+
+/// Rules that alternate, fall together or near each other, or have nothing to do with each other.
+pub fn random_tail(prng: &mut Prng, pool_count: usize) -> Tail {
+    let (standard, savings) = loop {
+        let standard = random_offset(prng);
+        let savings = random_offset(prng);
+        if i64::from(standard + savings).abs() < DAY_MS {
+            break (standard, savings);
+        }
+    };
+    let standard_rule = random_rule(prng);
+    let daylight_rule = match prng.below(4) {
+        0 => standard_rule,
+        1 => Rule { day: standard_rule.day.signum(), time: random_offset(prng).abs(), ..standard_rule },
+        _ => random_rule(prng),
+    };
+    Tail {
+        standard,
+        standard_name: prng.below(pool_count),
+        standard_rule,
+        daylight_name: prng.below(pool_count),
+        daylight_rule,
+        savings,
+    }
+}

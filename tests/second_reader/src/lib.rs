@@ -1,0 +1,26 @@
+//! A second reader of NodaZoneData (`.nzd`) files.
+//!
+//! It is written from the papers alone (`01-scope.md`, `readings.md`, the published format) and shares no code,
+//! table or text with the proved reader, so that its results can stand as expected results for that one.
+//! Plain over clever: everything is decoded first and judged in the order that the paper gives.
+//!
+//! The comments cite the sentences of `01-scope.md` as "01", entries of `readings.md` as "reading N".
+
+pub mod calendar;
+pub mod codes;
+mod data;
+pub mod file;
+pub mod generate;
+pub mod lines;
+pub mod number;
+pub mod pool;
+pub mod recurrence;
+pub mod rewrite;
+pub mod transition;
+pub mod zone;
+
+pub use file::{ask, ask_plain, check, version_text, Answer, Mark};
+pub use lines::lines;
+pub use number::{Number, Refusal};
+pub use rewrite::rewrite;
+pub use transition::Transition;

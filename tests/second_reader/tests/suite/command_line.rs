@@ -1,0 +1,155 @@
+//! The binary's commands, as they are run.
+
+use second_reader::generate::case;
+use std::fs;
+use std::io::Write;
+use std::path::PathBuf;
+use std::process::{Command, Output, Stdio};
+
+/// A folder of this test's own, made anew.
+fn folder(name: &str) -> PathBuf {
+    let dir = PathBuf::from(env!("CARGO_TARGET_TMPDIR")).join(name);
+    if dir.exists() {
+        fs::remove_dir_all(&dir).expect("an old folder removed");
+    }
+    fs::create_dir_all(&dir).expect("a folder");
+    dir
+}
+
+fn run(words: &[&str], input: &[u8]) -> Output {
+    let mut child = Command::new(env!("CARGO_BIN_EXE_second_reader"))
+        .args(words)
+        .stdin(Stdio::piped())
+        .stdout(Stdio::piped())
+        .stderr(Stdio::piped())
+        .spawn()
+        .expect("the binary runs");
+    child.stdin.take().expect("standard input").write_all(input).expect("input written");
+    child.wait_with_output().expect("the binary ends")
+}
+
+fn prints(words: &[&str], input: &str, output: &str, status: i32) {
+    let done = run(words, input.as_bytes());
+    assert_eq!(String::from_utf8_lossy(&done.stdout), output, "{words:?}");
+    assert_eq!(done.status.code(), Some(status), "{words:?}");
+    // Whatever isn't done says so in words.
+    assert_eq!(done.stderr.is_empty(), status == 0, "{words:?}");
+}
+
+const EUROPE: &str = concat!(env!("CARGO_MANIFEST_DIR"), "/../data/europe.nzd");
+
+#[test]
+fn commands_on_files() {
+    let dir = folder("commands_on_files");
+    let path = |name: &str| dir.join(name).to_str().expect("a path in UTF-8").to_string();
+    prints(&["check", EUROPE], "", "0 0\n", 0);
+    prints(&["version", EUROPE], "", "0 2025b\n", 0);
+    let oslo = "0 7200000 3600000 17118468000000000 17299908000000000 CEST\n";
+    prints(&["ask", EUROPE, "Europe/Oslo", "17118468000000000"], "", oslo, 0);
+    prints(&["ask", EUROPE, "Europe/Oslo", "17118468000000000", "part"], "", oslo, 0);
+    prints(&["ask", EUROPE, "Europe/Atlantis", "2534023008000000000", "all"], "", "14 0\n", 1);
+    prints(&["rewrite", EUROPE, &path("out")], "", "0 21993\n", 0);
+    assert!(fs::read(dir.join("out")).ok() == fs::read(EUROPE).ok());
+    prints(&["lines", EUROPE], "Europe/Oslo 0\nEurope/Oslo\n", "0 3600000 0 CET\n16 0\n", 0);
+    // A missing file counts as no bytes for the program only.
+    prints(&["lines", &path("missing")], "UTC 0\nUTC 0 part", "2 0\n1 0\n", 0);
+    prints(&["check", &path("missing")], "", "", 2);
+    fs::write(dir.join("bad"), [0, 0, 0, 1]).expect("a file");
+    prints(&["check", &path("bad")], "", "3 0\n", 1);
+    prints(&["rewrite", &path("bad"), &path("never")], "", "3 0\n", 1);
+    assert!(!dir.join("never").exists());
+}
+
+#[test]
+fn generate_writes_cases() {
+    let dir = folder("generate");
+    let path = dir.to_str().expect("a path in UTF-8");
+    prints(&["generate", "5", "6", path], "", "6 files\n", 0);
+    assert_eq!(fs::read_dir(&dir).expect("a folder").count(), 18);
+    for number in 1..=6 {
+        let written = |ending: &str| fs::read(dir.join(format!("{number:04}.{ending}"))).expect("a file");
+        let expected = case(5, number);
+        assert!(written("nzd") == expected.file);
+        assert!(written("questions") == expected.questions);
+        assert!(written("expected") == expected.expected);
+        let file = dir.join(format!("{number:04}.nzd"));
+        let done = run(&["lines", file.to_str().expect("a path in UTF-8")], &expected.questions);
+        assert!(done.stdout == expected.expected);
+    }
+}
+
+#[test]
+fn single_codes() {
+    prints(&["code", "read", "count", "EA02ff"], "", "0 2 362\n", 0);
+    prints(&["code", "read", "signed", "FFFFFFFF0F"], "", "0 5 -2147483648\n", 0);
+    prints(&["code", "read", "offset", "86F9"], "", "0 2 20700000\n", 0);
+    prints(&["code", "read", "offset", "60"], "", "7 0\n", 1);
+    prints(&["code", "read", "offset", "-"], "", "9 0\n", 1);
+    prints(&["code", "read", "transition", "b027", "0"], "", "0 2 181440000000000\n", 0);
+    prints(&["code", "read", "transition", "b027", "none"], "", "7 0\n", 1);
+    prints(&["code", "read", "transition", "01", "none"], "", "0 1 end\n", 0);
+    prints(&["code", "read", "text", "03555443"], "", "0 4 555443\n", 0);
+    prints(&["code", "write", "count", "362", "2"], "", "0 2 ea02\n", 0);
+    prints(&["code", "write", "count", "362", "1"], "", "15 0\n", 1);
+    prints(&["code", "write", "signed", "-2", "1"], "", "0 1 03\n", 0);
+    prints(&["code", "write", "offset", "-75000", "3"], "", "0 3 a15135\n", 0);
+    prints(&["code", "write", "transition", "181440000000000", "0", "9"], "", "0 2 b027\n", 0);
+    prints(&["code", "write", "transition", "start", "none", "9"], "", "0 1 00\n", 0);
+    prints(&["code", "write", "text", "ff", "9"], "", "8 0\n", 1);
+    prints(&["code", "write", "text", "-", "9"], "", "0 1 00\n", 0);
+    let list = "read count EA02\nwrite offset 86400000 4\nread transition 8001 start\n";
+    prints(&["code"], list, "0 2 362\n7 0\n7 0\n", 0);
+}
+
+#[test]
+fn rules_tails_and_dates() {
+    prints(&["rule", "1C030132", "0", "0", "2024"], "", "0 17118468000000000\n", 0);
+    prints(&["rule", "1C000132", "0", "0", "2024"], "", "11 0\n", 1);
+    prints(&["date", "2024", "3", "31"], "", "19813\n", 0);
+    prints(&["date"], "1970 1 1\n0001 1 1\n10000 1 1\n", "0\n-719162\n2932897\n", 0);
+    // Oslo's tail, on the day of a change and a tick before.
+    let tail = "32001C0A0132011C03013232";
+    let start = "0";
+    prints(
+        &["tail", tail, start, "17118468000000000"],
+        "",
+        "0 7200000 3600000 daylight 17118468000000000 17299908000000000\n",
+        0,
+    );
+    let list = format!("{tail} {start} 17118467999999999\n{tail} 17118467999999999 17118467999999999\n");
+    let lines = "0 3600000 0 standard 16985412000000000 17118468000000000\n\
+                 0 3600000 0 standard 17118467999999999 17118468000000000\n";
+    prints(&["tail"], &list, lines, 0);
+    prints(&["tail", tail, start, "2534023007999999999"], "", "0 3600000 0 standard 2533969476000000000 end\n", 0);
+}
+
+#[test]
+fn misuse_is_said_in_words() {
+    for words in [
+        &[][..],
+        &["nothing"],
+        &["check"],
+        &["check", "a", "b"],
+        &["ask", EUROPE, "Europe/Oslo"],
+        &["ask", EUROPE, "Europe/Oslo", "x"],
+        &["ask", EUROPE, "Europe/Oslo", "0", "some"],
+        &["generate", "1", "-1", "x"],
+        &["code", "read", "count"],
+        &["code", "read", "count", "0"],
+        &["code", "read", "count", "0g"],
+        &["code", "read", "transition", "00"],
+        &["code", "write", "count", "1"],
+        &["code", "write", "count", "1", "1000000000000"],
+        &["date", "2023", "2", "29"],
+        &["date", "99999", "1", "1"],
+        &["date", "2023", "13", "1"],
+        &["rule", "1C030132", "86400000", "0", "2024"],
+        &["tail", "32", "0", "-1"],
+        &["tail", "32", "0", "2534023008000000000"],
+    ] {
+        prints(words, "", "", 2);
+    }
+    let done = run(&["date"], b"1970 1 1\n1970 1\n");
+    assert_eq!((done.status.code(), done.stdout.is_empty()), (Some(2), true));
+    assert_eq!(String::from_utf8_lossy(&done.stderr), "second_reader: line 2: these words make no case of date\n");
+}

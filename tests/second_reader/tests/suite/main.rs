@@ -1,0 +1,15 @@
+//! The second reader's tests, one binary so that they link once.
+
+mod calendar;
+mod codes;
+mod command_line;
+mod common;
+mod demand3;
+mod generator;
+mod intervals;
+mod numbers;
+mod program;
+mod readings;
+mod realistic;
+mod recurrences;
+mod rewriting;

@@ -1,5 +1,6 @@
 pub mod Tests
 pub mod Parts
+pub mod ByteLaws
 pub mod WriteLaws
 pub mod ParseLaws
 pub mod ManyLaws

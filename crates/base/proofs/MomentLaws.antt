@@ -2,11 +2,10 @@
 use mathlib.Core.Path.{_≡_}
 use mathlib.Core.Bool.{true, false}
 use mathlib.Core.Logic.{_⊎_}
-use Prim.Native.Nat.{ℕ, _≤_}
+use Prim.Native.Nat.{ℕ, _<_}
 use native.Mathlib.Omega.{arith}
 use lib.Dec.{leb}
-use borrow.Author.Tests.{le-leb, leb-true}
-use Rattle.base.specs.Pick.{both}
+use borrow.Author.Tests.{le-leb, lt-leb, leb-true}
 use Rattle.base.specs.Moment.{Finite, finite, firstInstant, lastInstant, startOfTime, endOfTime}
 use Rattle.base.proofs.Tests.{never, both-left, both-right}
 
@@ -25,3 +24,9 @@ finite-yes t h = rw (le-leb firstInstant t (h .low), le-leb t lastInstant (h .hi
 
 pub finite-false : (t : ℕ) → finite t ≡ false → Finite t → ⊥
 finite-false t e h = never (finite-yes t h) e
+
+pub finite-low : (t : ℕ) → t < firstInstant → finite t ≡ false
+finite-low t h = rw (lt-leb firstInstant t h)
+
+pub finite-high : (t : ℕ) → lastInstant < t → finite t ≡ false
+finite-high t h = rw (le-leb firstInstant t (omega arith), lt-leb t lastInstant h)

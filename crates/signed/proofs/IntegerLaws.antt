@@ -1,18 +1,18 @@
 -- All of the integers' arithmetic, by cases on the sign. Assumes nothing.
-use mathlib.Core.Path.{_≡_, refl, ap, sym, _∙_}
+use mathlib.Core.Path.{_≡_, refl, ap, _∙_}
 use mathlib.Core.Bool.{Bool, true, false}
 use mathlib.Core.Logic.{_⊎_, inl, inr}
 use Prim.Native.Nat.{ℕ, zero, suc, _+_, _-_, _*_, _/_, _%_, _^_, _≤_, _<_}
 use native.Mathlib.Omega.{arith}
 use lib.Dec.{ltb, leb, eqb}
 use lib.IntN.{ℤ, pos, negsuc, subℕ, _+ℤ_, _-ℤ_}
-use lib.Signed.{ltZ, mag}
+use lib.Signed.{ltZ}
 use mir.Syntax.{w32, w64}
 use mir.Val.{toZ, ofZ, SFits}
 use mir.Facts.{toZ-ofZ, ofZ-toZ, toZ-pos, fits-ofZ}
-use borrow.Author.Tests.{lt-ltb, le-ltb, le-leb, lt-leb, eq-eqb, ne-eqb, ltb-true, ltb-false, leb-true, leb-false, eqb-true, eqb-false}
+use borrow.Author.Tests.{lt-ltb, le-ltb, le-leb, lt-leb, eq-eqb, ne-eqb, ltb-true, ltb-false, leb-true, eqb-true, eqb-false}
 use Rattle.base.specs.Pick.{pick}
-use Rattle.base.specs.Moment.{Finite, epoch, endOfTime, firstInstant, lastInstant}
+use Rattle.base.specs.Moment.{Finite, epoch, endOfTime}
 use Rattle.base.proofs.Tests.{by-order, never}
 use Rattle.base.proofs.MomentLaws.{Moment}
 use Rattle.signed.specs.Instant.{biasedOf, instantOf, ticksOf, orNone, momentOf, fromRaw, rawOf}
@@ -315,3 +315,32 @@ unzigzag-fits u h = go (eqb (u % 2) 0)
     go : (t : Bool) → SFits w32 (pick t (pos (u / 2)) (negsuc (u / 2)))
     go true = record { sfits = omega arith }
     go false = record { sfits = omega arith }
+
+-- a 64-bit tick that is a moment comes back from it
+ticks-or-none : (z : ℤ) → Moment (orNone (instantOf z)) → ticksOf (orNone (instantOf z)) ≡ z
+ticks-or-none z h = go (eqb (instantOf z) 0) refl h
+  where
+    go : (x : Bool) → eqb (instantOf z) 0 ≡ x → Moment (pick x 1 (instantOf z)) → ticksOf (pick x 1 (instantOf z)) ≡ z
+    go true e (inl k) = absurd (omega arith)
+    go true e (inr (inl k)) = absurd (omega arith)
+    go true e (inr (inr k)) = absurd (omega arith)
+    go false e m = some (finite-or-none z)
+      where
+        some : (instantOf z ≡ 0) ⊎ Finite (instantOf z) → ticksOf (instantOf z) ≡ z
+        some (inl k) = absurd (eqb-false (instantOf z) 0 e k)
+        some (inr f) = ticks-instant z f
+
+pub ticks-moment : (z : ℤ) → SFits w64 z → Moment (momentOf z) → ticksOf (momentOf z) ≡ z
+unfolding momentOf
+ticks-moment (pos n) f h = go (leb 9223372036854775807 n) refl h
+  where
+    go : (x : Bool) → leb 9223372036854775807 n ≡ x → Moment (pick x endOfTime (orNone (instantOf (pos n))))
+        → ticksOf (pick x endOfTime (orNone (instantOf (pos n)))) ≡ pos n
+    go true e m = ap pos (omega (arith, leb-true 9223372036854775807 n e))
+    go false e m = ticks-or-none (pos n) m
+ticks-moment (negsuc n) f h = go (leb 9223372036854775807 n) refl h
+  where
+    go : (x : Bool) → leb 9223372036854775807 n ≡ x → Moment (pick x 0 (orNone (instantOf (negsuc n))))
+        → ticksOf (pick x 0 (orNone (instantOf (negsuc n)))) ≡ negsuc n
+    go true e m = ap negsuc (omega (arith, leb-true 9223372036854775807 n e))
+    go false e m = ticks-or-none (negsuc n) m

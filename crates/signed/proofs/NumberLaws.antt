@@ -1,12 +1,11 @@
 -- From a signed reading back to the unsigned one. Assumes nothing.
-use mathlib.Core.Path.{_≡_, refl}
+use mathlib.Core.Path.{_≡_}
 use Prim.Native.Nat.{ℕ}
 use native.Mathlib.Omega.{arith}
 use lib.IntN.{ℤ}
 use Rattle.base.specs.declared.Read.{Read}
 use Rattle.base.specs.declared.Read.the-variants.{Value, Refused}
-use Rattle.signed.specs.declared.Number.{Number}
-use Rattle.signed.specs.declared.Number.the-variants.{Value as Signed, Refused as Not}
+use Rattle.signed.specs.declared.Number.the-variants.{Value as Signed}
 use Rattle.signed.specs.Number.{number}
 
 -- the signed value z in n bytes is that of some value which r gives

@@ -1,0 +1,5 @@
+pub mod GroupLaws
+pub mod GroupWriteLaws
+pub mod CountLaws
+pub mod SignedCountLaws
+pub mod FixedLaws

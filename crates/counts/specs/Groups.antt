@@ -1,0 +1,24 @@
+-- Numbers in groups of seven bits: what count and signed count share. Assumes nothing: these are definitions.
+use Prim.Native.Nat.{ℕ, zero, suc, _+_, _*_, _/_, _%_}
+use mathlib.Core.List.{List, [], _∷_}
+use lib.Dec.{ltb, leb, eqb}
+use Rattle.base.specs.Pick.{pick}
+use Rattle.base.specs.declared.Read.{Read}
+use Rattle.base.specs.declared.Read.the-variants.{Value, Refused}
+
+-- the byte b with its top bit set, before what the bytes after it give: a rest of 0 is not the "shortest form only"
+abbrev pub more : ℕ → Read → Read
+more b (Value v n) = pick (eqb v 0) (Refused 7) (Value (b % 128 + 128 * v) (n + 1))
+more b (Refused k) = Refused k
+
+-- "seven bits a byte, low first, top bit set on all but the last": at most k bytes with the top bit set, then a last one,
+-- which after k of them is at most top. Bytes that end early give 9, "unless .. a count's fifth byte already gives 7"
+unfoldable pub readGroups : ℕ → ℕ → List ℕ → Read
+readGroups k top [] = Refused 9
+readGroups zero top (b ∷ s) = pick (leb b top) (Value b 1) (Refused 7)
+readGroups (suc k) top (b ∷ s) = pick (ltb b 128) (Value b 1) (more b (readGroups k top s))
+
+-- the shortest form of v, where v fits k + 1 groups
+unfoldable pub writeGroups : ℕ → ℕ → List ℕ
+writeGroups zero v = (v % 128) ∷ []
+writeGroups (suc k) v = pick (ltb v 128) (v ∷ []) ((128 + v % 128) ∷ writeGroups k (v / 128))

@@ -1,0 +1,4 @@
+pub mod Groups
+pub mod Count
+pub mod SignedCount
+pub mod Fixed

@@ -1,0 +1,13 @@
+pub mod FrameLaws
+pub mod HeadLaws
+pub mod ReadLaws
+pub mod All
+pub mod FieldLaws
+pub mod WalkLaws
+pub mod PassLaws
+pub mod GrowthLaws
+pub mod CapLaws
+pub mod ChainLaws
+pub mod PartLaws
+pub mod StepLaws
+pub mod Example

@@ -1,0 +1,88 @@
+// Hexadecimal text, for the programs that run stored cases.
+use libc::STDOUT_FILENO;
+ghost use Prim.Native.Nat.{_≤_, _<_};
+ghost use lib.ListN.{length};
+ghost use Rattle.io.specs.Counts.{Counts};
+
+// The place of the first b in s from a place on, or s's end.
+pub fn find(s: &[u8], from: usize, b: u8) -> usize
+    requires { ⌜ from ≤ length (now s) ⌝ }
+    ensures { λ r. ⌜ (from ≤ r) × (r ≤ length (now (s .entry))) ⌝ }
+{
+    let mut i = from;
+    while i < s.len() {
+        if s[i] == b {
+            return i;
+        }
+        i += 1;
+    }
+    i
+}
+
+// The place behind at, or s's end.
+fn past(s: &[u8], at: usize) -> usize
+    ensures { λ r. ⌜ r ≤ length (now (s .entry)) ⌝ }
+{
+    if at < s.len() { at + 1 } else { s.len() }
+}
+
+fn digit(b: u8) -> u8
+    ensures { λ r. ⌜ r < 16 ⌝ }
+{
+    if b < 48 {
+        return 0;
+    }
+    if b < 58 {
+        return b - 48;
+    }
+    if b < 97 {
+        return 0;
+    }
+    if b < 103 {
+        return b - 87;
+    }
+    0
+}
+
+fn least(a: usize, b: usize) -> usize
+    ensures { λ r. ⌜ (r ≤ a) × (r ≤ b) ⌝ }
+{
+    if a < b { a } else { b }
+}
+
+// Puts the bytes that text spells, two digits each, at the start of out, as many as have room, and gives their number.
+fn decode(text: &[u8], out: &mut [u8]) -> usize
+    ensures { λ r. ⌜ Counts r (now (out .exit)) ⌝ }
+{
+    let n = least(text.len() / 2, out.len());
+    let mut i: usize = 0;
+    while i < n {
+        out[i] = digit(text[2 * i]) * 16 + digit(text[2 * i + 1]);
+        i += 1;
+    }
+    n
+}
+
+// Puts the bytes that the k-th word of line spells, from 0, at the start of out, and gives their number. A word that is not there, or is `-`, spells none.
+pub fn word(line: &[u8], k: usize, out: &mut [u8]) -> usize
+    ensures { λ r. ⌜ Counts r (now (out .exit)) ⌝ }
+{
+    let mut at: usize = 0;
+    let mut i: usize = 0;
+    while i < k {
+        let e = find(line, at, 32);
+        at = past(line, e);
+        i += 1;
+    }
+    let e = find(line, at, 32);
+    decode(&line[at..e], out)
+}
+
+// Writes two digits for each byte of s.
+pub fn print(s: &[u8]) {
+    let mut i: usize = 0;
+    while i < s.len() {
+        io::print_hex(STDOUT_FILENO, s[i] as u64, 2);
+        i += 1;
+    }
+}

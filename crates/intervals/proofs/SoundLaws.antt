@@ -1,0 +1,97 @@
+-- What intervals that were read say is in its ranges. Assumes nothing.
+use mathlib.Core.Path.{_≡_, refl, sym, _∙_, subst}
+use mathlib.Core.Bool.{Bool, true, false}
+use mathlib.Core.List.{List, [], _∷_}
+use mathlib.Core.Logic.{_⊎_, inl, inr}
+use Prim.Native.Nat.{ℕ, zero, suc, _≤_, _<_}
+use native.Mathlib.Omega.{arith}
+use lib.Dec.{ltb, eqb}
+use borrow.Author.Tests.{ltb-true, eqb-true, eq-eqb, ne-eqb}
+use Rattle.base.specs.Pick.{pick, both}
+use Rattle.base.specs.Parsed.{Parsed, got, bad, bind, parse, prepend, many}
+use Rattle.base.specs.Moment.{Finite, startOfTime, endOfTime}
+use Rattle.base.proofs.Tests.{both-left, both-right}
+use Rattle.base.proofs.ParseLaws.{bad-got, bind-good, pick-good}
+use Rattle.base.proofs.MomentLaws.{Moment}
+use Rattle.offsets.specs.Offset.{readSum}
+use Rattle.transitions.specs.Transition.{readMoment}
+use Rattle.places.specs.Name.{parseName}
+use Rattle.places.proofs.ValueLaws.{moment-is, name-ok}
+use Rattle.intervals.specs.declared.Interval.{Interval}
+use Rattle.intervals.specs.Interval.{intervalOf, afterWall, afterName, parseDetails, rises, afterStart, parseInterval, startOf}
+use Rattle.intervals.specs.Sound.{LaterOk, Later, ListOk}
+
+pub record IntervalOk (pool prev : ℕ) (i : Interval) : Type 0 where
+  pub start-ok : rises prev (i .start) ≡ true
+  pub moment : Moment (i .start)
+  pub named : i .name < pool
+
+details-sound : (pool m : ℕ) (s : List ℕ) (i : Interval) (q : List ℕ) → parseDetails pool m s ≡ got i q → (m ≡ i .start) × (i .name < pool)
+unfolding parseDetails afterName afterWall
+details-sound pool m s i q e =
+    let a = bind-good (parseName pool s) (afterName m) i q e in
+    let b = bind-good (parse readSum (a .rest)) (afterWall m (a .first)) i q (a .on) in
+    let c = bind-good (parse readSum (b .rest)) (intervalOf m (a .first) (b .first)) i q (b .on) in
+    let f : got (record { start = m; name = a .first; wall = b .first; savings = c .first }) (c .rest) ≡ got i q = c .on in
+    let g : record { start = m; name = a .first; wall = b .first; savings = c .first } ≡ i = cc in
+    subst (λ (x : Interval). (m ≡ x .start) × (x .name < pool)) g (refl, name-ok pool _ _ _ (a .is))
+
+interval-sound : (pool prev : ℕ) (s : List ℕ) (i : Interval) (q : List ℕ) → parseInterval pool prev s ≡ got i q → IntervalOk pool prev i
+unfolding parseInterval afterStart
+interval-sound pool prev s i q e =
+    let a = bind-good (parse (readMoment prev) s) (afterStart pool prev) i q e in
+    let b = pick-good (rises prev (a .first)) (parseDetails pool (a .first) (a .rest)) 10 i q (a .on) in
+    let d = details-sound pool (a .first) (a .rest) i q (b .1) in
+    record {
+      start-ok = subst (λ (x : ℕ). rises prev x ≡ true) (d .0) (b .0);
+      moment = subst Moment (d .0) (moment-is prev _ _ _ (a .is));
+      named = d .1;
+    }
+
+-- a start behind another one
+later-start : (prev m : ℕ) → prev < endOfTime → rises prev m ≡ true → Moment m → (prev < m) × Finite m
+later-start prev m h e k =
+    let f : both (ltb prev m) (ltb m endOfTime) ≡ true = rw (ne-eqb prev endOfTime (omega arith)) at e in
+    let a : prev < m = ltb-true prev m (both-left (ltb prev m) _ f) in
+    let b : m < endOfTime = ltb-true m endOfTime (both-right (ltb prev m) _ f) in
+    (a, go a b k)
+  where
+    go : prev < m → m < endOfTime → Moment m → Finite m
+    go a b (inl x) = absurd (omega arith)
+    go a b (inr (inl x)) = absurd (omega arith)
+    go a b (inr (inr x)) = x
+
+first-start : (prev m : ℕ) → prev ≡ endOfTime → rises prev m ≡ true → m ≡ startOfTime
+first-start prev m h e = eqb-true m startOfTime (rw (eq-eqb prev endOfTime h) at e)
+
+later-sound : (pool n prev : ℕ) (s : List ℕ) (is : List Interval) (q : List ℕ) → prev < endOfTime
+    → many (parseInterval pool) startOf n prev s ≡ got is q → Later pool prev is
+unfolding many
+later-sound pool zero prev s is q h e = let x : [] ≡ is = cc in subst (Later pool prev) x tt
+later-sound pool (suc n) prev s is q h e =
+    let a = bind-good (parseInterval pool prev s) (λ i r. bind (many (parseInterval pool) startOf n (startOf i) r) (prepend i)) is q e in
+    let i : Interval = a .first in
+    let b = bind-good (many (parseInterval pool) startOf n (startOf i) (a .rest)) (prepend i) is q (a .on) in
+    let o = interval-sound pool prev _ _ _ (a .is) in
+    let p = later-start prev (i .start) h (o .start-ok) (o .moment) in
+    let f : got (i ∷ b .first) (b .rest) ≡ got is q = b .on in
+    let g : i ∷ b .first ≡ is = cc in
+    subst (Later pool prev) g (
+      record { rises = p .0; finite = p .1; name-ok = o .named },
+      later-sound pool n (i .start) (a .rest) (b .first) (b .rest) (omega (arith, p .1 .high)) (b .is),
+    )
+
+-- the intervals of a zone
+pub list-sound : (pool n : ℕ) (s : List ℕ) (is : List Interval) (q : List ℕ) → (n ≡ 0 → ⊥)
+    → many (parseInterval pool) startOf n endOfTime s ≡ got is q → ListOk pool is
+unfolding many
+list-sound pool zero s is q h e = absurd (h refl)
+list-sound pool (suc n) s is q h e =
+    let a = bind-good (parseInterval pool endOfTime s) (λ i r. bind (many (parseInterval pool) startOf n (startOf i) r) (prepend i)) is q e in
+    let i : Interval = a .first in
+    let b = bind-good (many (parseInterval pool) startOf n (startOf i) (a .rest)) (prepend i) is q (a .on) in
+    let o = interval-sound pool endOfTime _ _ _ (a .is) in
+    let p = first-start endOfTime (i .start) refl (o .start-ok) in
+    let f : got (i ∷ b .first) (b .rest) ≡ got is q = b .on in
+    let g : i ∷ b .first ≡ is = cc in
+    subst (ListOk pool) g (p, o .named, later-sound pool n (i .start) (a .rest) (b .first) (b .rest) (omega arith) (b .is))

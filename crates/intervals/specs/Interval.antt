@@ -1,0 +1,39 @@
+-- The listed intervals of a zone, read left to right. Each thing that is read is a stage of its own, last stage first; "a value's
+-- code (7) comes before its use (4, 8 to 11), and each use is judged at once". Assumes nothing: these are definitions.
+use Prim.Native.Nat.{ℕ}
+use mathlib.Core.Bool.{Bool}
+use mathlib.Core.List.{List}
+use lib.Dec.{ltb, eqb}
+use Rattle.base.specs.Pick.{pick, both}
+use Rattle.base.specs.Parsed.{Parsed, got, bad, bind, parse}
+use Rattle.base.specs.Moment.{startOfTime, endOfTime}
+use Rattle.offsets.specs.Offset.{readSum}
+use Rattle.transitions.specs.Transition.{readMoment}
+use Rattle.places.specs.Name.{parseName}
+use Rattle.intervals.specs.declared.Interval.{Interval}
+
+-- An interval: "transition, name, wall offset, savings".
+abbrev pub intervalOf : ℕ → ℕ → ℕ → ℕ → List ℕ → Parsed Interval
+intervalOf m n w v s = got (record { start = m; name = n; wall = w; savings = v }) s
+
+unfoldable pub afterWall : ℕ → ℕ → ℕ → List ℕ → Parsed Interval
+afterWall m n w s = bind (parse readSum s) (intervalOf m n w)
+
+unfoldable pub afterName : ℕ → ℕ → List ℕ → Parsed Interval
+afterName m n s = bind (parse readSum s) (afterWall m n)
+
+unfoldable pub parseDetails : ℕ → ℕ → List ℕ → Parsed Interval
+parseDetails pool m s = bind (parseName pool s) (afterName m)
+
+-- "The first start is start of time, later ones finite and strictly rising"; prev is the start before, or end of time for none
+abbrev pub rises : ℕ → ℕ → Bool
+rises prev m = pick (eqb prev endOfTime) (eqb m startOfTime) (both (ltb prev m) (ltb m endOfTime))
+
+unfoldable pub afterStart : ℕ → ℕ → ℕ → List ℕ → Parsed Interval
+afterStart pool prev m s = pick (rises prev m) (parseDetails pool m s) (bad 10)
+
+unfoldable pub parseInterval : ℕ → ℕ → List ℕ → Parsed Interval
+parseInterval pool prev s = bind (parse (readMoment prev) s) (afterStart pool prev)
+
+abbrev pub startOf : Interval → ℕ
+startOf i = i .start

@@ -1,0 +1,3 @@
+pub mod Interval
+pub mod Sound
+pub mod Scan

@@ -1,0 +1,44 @@
+-- What one walk over the intervals keeps for an instant. Assumes nothing: these are definitions.
+use Prim.Native.Nat.{ℕ}
+use mathlib.Core.List.{List, [], _∷_}
+use lib.Dec.{ltb}
+use Rattle.base.specs.Pick.{pick}
+use Rattle.base.specs.Parsed.{Parsed, got, bind}
+use Rattle.base.specs.Moment.{endOfTime}
+use Rattle.places.specs.Placed.{Placed, at, no}
+use Rattle.intervals.specs.declared.Interval.{Interval}
+use Rattle.intervals.specs.declared.IntervalRead.{IntervalRead}
+use Rattle.intervals.specs.declared.IntervalRead.the-variants.{Got as IntervalGot, Refused as IntervalRefused}
+use Rattle.intervals.specs.declared.Scan.{Scan}
+use Rattle.intervals.specs.declared.ScanRead.{ScanRead}
+use Rattle.intervals.specs.declared.ScanRead.the-variants.{Got as ScanGot, Refused as ScanRefused}
+
+abbrev pub ofInterval : IntervalRead → Placed Interval
+ofInterval (IntervalGot i e) = at i e
+ofInterval (IntervalRefused n) = no n
+
+abbrev pub ofScan : ScanRead → Placed Scan
+ofScan (ScanGot c e) = at c e
+ofScan (ScanRefused n) = no n
+
+-- What one walk over the intervals keeps for the instant t: the last start, the interval that holds t so far, and the first start
+-- after t, or end of time while there is none.
+unfoldable pub advance : ℕ → Scan → Interval → Scan
+advance t c i =
+    pick (ltb (c .end) endOfTime) (record { held = c .held; end = c .end; last = i .start })
+    (pick (ltb t (i .start)) (record { held = c .held; end = i .start; last = i .start })
+    (record { held = i; end = endOfTime; last = i .start }))
+
+unfoldable pub scanFrom : ℕ → Scan → List Interval → Scan
+scanFrom t c [] = c
+scanFrom t c (i ∷ is) = scanFrom t (advance t c i) is
+
+-- before the first interval
+abbrev pub unscanned : Scan
+unscanned = record { held = record { start = 0; name = 0; wall = 0; savings = 0 }; end = endOfTime; last = endOfTime }
+
+unfoldable pub scanned : ℕ → List Interval → Scan
+scanned t is = scanFrom t unscanned is
+
+unfoldable pub scanOf : ℕ → Parsed (List Interval) → Parsed Scan
+scanOf t p = bind p (λ is r. got (scanned t is) r)

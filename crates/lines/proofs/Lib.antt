@@ -1,0 +1,5 @@
+pub mod DecimalLaws
+pub mod QuestionLaws
+pub mod ReplyLaws
+pub mod SplitLaws
+pub mod Cases

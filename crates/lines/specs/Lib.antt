@@ -1,0 +1,4 @@
+pub mod Decimal
+pub mod Question
+pub mod Reply
+pub mod Splitting

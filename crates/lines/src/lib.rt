@@ -1,0 +1,250 @@
+// The program's question lines and the lines that it writes (01, "One whole file"), and lines out of blocks of input.
+ghost use mathlib.Core.Path.{_≡_};
+ghost use Prim.Native.Nat.{_+_, _≤_};
+ghost use lib.IntN.{natAbs};
+ghost use lib.ListN.{length};
+ghost use lib.Seq.{sets};
+ghost use Rattle.base.specs.Writing.{bytes, wrote, placed};
+ghost use Rattle.lines.specs.Decimal.{decimal, signed};
+ghost use Rattle.lines.specs.Question.{parseLine, ticks, digits, behindDigits, marked, ticksOf};
+ghost use Rattle.lines.specs.Reply.{answerLine, refusalLine};
+ghost use Rattle.lines.specs.Splitting.{Keeps, Gathers};
+use base::Wrote;
+
+// The mark of a question line.
+pub enum Kind {
+    Plain,
+    Part,
+    All,
+}
+
+// What a question line says.
+pub enum Line {
+    // The length of the ID, which stands at the line's front, the ticks, and the mark.
+    Ask(usize, i64, Kind),
+    Unclear,
+}
+
+// A question line without its line feed.
+pub fn parse_line(line: &[u8]) -> Line
+    ensures { λ r. ⌜ r ≡ parseLine (now (line .entry)) ⌝ }
+{
+    if 2048 < line.len() {
+        return Line::Unclear;
+    }
+    let n = bytes::scan::find(line, 0, line.len(), 32);
+    if n < line.len() {
+        let a = n + 1;
+        return parse_ticks(&line[a..], n);
+    }
+    Line::Unclear
+}
+
+// What follows an ID of n bytes and a space.
+fn parse_ticks(s: &[u8], n: usize) -> Line
+    ensures { λ r. ⌜ r ≡ ticks n (now (s .entry)) ⌝ }
+{
+    if s.len() == 0 {
+        return Line::Unclear;
+    }
+    if s[0] == 45 {
+        return parse_digits(&s[1..], n, true);
+    }
+    parse_digits(s, n, false)
+}
+
+fn parse_digits(s: &[u8], n: usize, minus: bool) -> Line
+    ensures { λ r. ⌜ r ≡ digits n minus 0 0 (now (s .entry)) ⌝ }
+{
+    let mut v: u64 = 0;
+    let mut i = 0;
+    while i < s.len() {
+        if 19 <= i {
+            return behind_digits(&s[i..], n, minus, i, v);
+        }
+        let b = s[i];
+        if b < 48 {
+            return behind_digits(&s[i..], n, minus, i, v);
+        }
+        if 57 < b {
+            return behind_digits(&s[i..], n, minus, i, v);
+        }
+        v = 10 * v + (b - 48) as u64;
+        i += 1;
+    }
+    behind_digits(&s[i..], n, minus, i, v)
+}
+
+// What follows i digits that make v.
+fn behind_digits(s: &[u8], n: usize, minus: bool, i: usize, v: u64) -> Line
+    ensures { λ r. ⌜ r ≡ behindDigits n minus i v (now (s .entry)) ⌝ }
+{
+    if i == 0 {
+        return Line::Unclear;
+    }
+    parse_mark(s, n, signed_ticks(minus, v))
+}
+
+fn parse_mark(s: &[u8], n: usize, t: i64) -> Line
+    ensures { λ r. ⌜ r ≡ marked n t (now (s .entry)) ⌝ }
+{
+    if s.len() == 0 {
+        return Line::Ask(n, t, Kind::Plain);
+    }
+    if check::same(s, b" part") {
+        return Line::Ask(n, t, Kind::Part);
+    }
+    if check::same(s, b" all") {
+        return Line::Ask(n, t, Kind::All);
+    }
+    Line::Unclear
+}
+
+fn signed_ticks(minus: bool, v: u64) -> i64
+    ensures { λ r. ⌜ r ≡ ticksOf minus v ⌝ }
+{
+    if minus {
+        if v == 0 {
+            return 0;
+        }
+        let k = v - 1;
+        if k < 9223372036854775808 {
+            return -1 - (k as i64);
+        }
+        return 9223372036854775807;
+    }
+    if v < 9223372036854775808 {
+        return v as i64;
+    }
+    9223372036854775807
+}
+
+// The line of an answer.
+pub fn write_answer(wall: i64, savings: i64, name: &[u8], out: &mut [u8]) -> Wrote
+    ensures { λ r. ⌜ (r ≡ wrote (bytes (answerLine wall savings (now (name .entry)))) (now (out .entry))) × (now (out .exit) ≡ placed (bytes (answerLine wall savings (now (name .entry)))) (now (out .entry))) ⌝ }
+{
+    let room = 5 + signed_length(wall) + signed_length(savings) + name.len();
+    if out.len() < room {
+        return Wrote::Refused(15);
+    }
+    let a = put_decimal(0, out, 0);
+    out[a] = 32;
+    let b = put_signed(wall, out, a + 1);
+    out[b] = 32;
+    let c = put_signed(savings, out, b + 1);
+    out[c] = 32;
+    let d = put_bytes(name, out, c + 1);
+    out[d] = 10;
+    Wrote::Length(d + 1)
+}
+
+// The line of a refusal.
+pub fn write_refusal(number: u8, place: u64, out: &mut [u8]) -> Wrote
+    ensures { λ r. ⌜ (r ≡ wrote (bytes (refusalLine number place)) (now (out .entry))) × (now (out .exit) ≡ placed (bytes (refusalLine number place)) (now (out .entry))) ⌝ }
+{
+    let room = 2 + decimal_length(number as u64) + decimal_length(place);
+    if out.len() < room {
+        return Wrote::Refused(15);
+    }
+    let a = put_decimal(number as u64, out, 0);
+    out[a] = 32;
+    let b = put_decimal(place, out, a + 1);
+    out[b] = 10;
+    Wrote::Length(b + 1)
+}
+
+fn decimal_length(v: u64) -> usize
+    ensures { λ r. ⌜ r ≡ length (decimal v) ⌝ }
+{
+    let mut n = 1;
+    let mut rest = v;
+    while 10 <= rest {
+        rest = rest / 10;
+        n += 1;
+    }
+    n
+}
+
+fn signed_length(z: i64) -> usize
+    ensures { λ r. ⌜ r ≡ length (signed z) ⌝ }
+{
+    if z < 0 {
+        return 1 + decimal_length(magnitude(z));
+    }
+    decimal_length(magnitude(z))
+}
+
+// The number without its sign.
+fn magnitude(z: i64) -> u64
+    ensures { λ r. ⌜ r ≡ natAbs z ⌝ }
+{
+    if z < 0 {
+        return (-1 - z) as u64 + 1;
+    }
+    z as u64
+}
+
+// Puts the digits of v into out from `at` on, and gives the place behind them.
+fn put_decimal(v: u64, out: &mut [u8], at: usize) -> usize
+    requires { ⌜ at + length (decimal v) ≤ length (now out) ⌝ }
+    ensures { λ r. ⌜ (r ≡ at + length (decimal v)) × (now (out .exit) ≡ sets (now (out .entry)) at (decimal v)) ⌝ }
+{
+    if v < 10 {
+        out[at] = 48 + v as u8;
+        return at + 1;
+    }
+    let n = put_decimal(v / 10, out, at);
+    out[n] = 48 + (v % 10) as u8;
+    n + 1
+}
+
+fn put_signed(z: i64, out: &mut [u8], at: usize) -> usize
+    requires { ⌜ at + length (signed z) ≤ length (now out) ⌝ }
+    ensures { λ r. ⌜ (r ≡ at + length (signed z)) × (now (out .exit) ≡ sets (now (out .entry)) at (signed z)) ⌝ }
+{
+    if z < 0 {
+        out[at] = 45;
+        return put_decimal(magnitude(z), out, at + 1);
+    }
+    put_decimal(magnitude(z), out, at)
+}
+
+fn put_bytes(s: &[u8], out: &mut [u8], at: usize) -> usize
+    requires { ⌜ at + length (now s) ≤ length (now out) ⌝ }
+    ensures { λ r. ⌜ (r ≡ at + length (now (s .entry))) × (now (out .exit) ≡ sets (now (out .entry)) at (now (s .entry))) ⌝ }
+{
+    at + bytes::copy(s, &mut out[at..])
+}
+
+// What a part of a block gives to the line that has begun.
+pub enum Gathered {
+    // The line is whole: how many bytes of it are held, and how many of the part it took, its line feed among them.
+    Whole(usize, usize),
+    // The part ends in the line: how many bytes of it are held.
+    Begun(usize),
+}
+
+// Adds the bytes of s up to its first line feed to the line of which the first n bytes of `held` are held, as many as there is room for.
+pub fn gather(s: &[u8], held: &mut [u8], n: usize) -> Gathered
+    ensures { λ r. ⌜ Gathers (now (held .entry)) n (now (s .entry)) r (now (held .exit)) ⌝ }
+{
+    let k = bytes::scan::find(s, 0, s.len(), 10);
+    let m = keep(&s[..k], held, n);
+    if k < s.len() {
+        return Gathered::Whole(m, k + 1);
+    }
+    Gathered::Begun(m)
+}
+
+fn keep(s: &[u8], held: &mut [u8], n: usize) -> usize
+    ensures { λ r. ⌜ Keeps (now (held .entry)) n (now (s .entry)) r (now (held .exit)) ⌝ }
+{
+    if held.len() <= n {
+        return held.len();
+    }
+    let room = held.len() - n;
+    if s.len() <= room {
+        return n + bytes::copy(s, &mut held[n..]);
+    }
+    n + bytes::copy(&s[..room], &mut held[n..])
+}

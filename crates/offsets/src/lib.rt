@@ -1,0 +1,154 @@
+// The offset code: milliseconds, to which 86,400,000 are added, so that the sum is unsigned.
+use base::Read;
+use base::Wrote;
+use signed::Number;
+ghost use mathlib.Core.Path.{_≡_};
+ghost use mathlib.Core.List.{[], _∷_};
+ghost use Prim.Native.Nat.{_+_, _*_, _/_, _≤_, _<_};
+ghost use Rattle.base.specs.Writing.{bytes, wrote, placed};
+ghost use Rattle.counts.specs.Fixed.{readFixed, fixedBytes};
+ghost use Rattle.offsets.specs.Offset.{offsetOf, inUnits, readSum, sumForm, readOffset, offsetForm};
+
+// A sum in its range that no earlier form, in units of `coarser`, can carry.
+fn offset_of(n: usize, coarser: u64, sum: u64) -> Read
+    requires { ⌜ 0 < coarser ⌝ }
+    ensures { λ r. ⌜ r ≡ offsetOf n coarser sum ⌝ }
+{
+    if sum < 1 {
+        return Read::Refused(7);
+    }
+    if sum > 172799999 {
+        return Read::Refused(7);
+    }
+    if sum % coarser == 0 {
+        return Read::Refused(7);
+    }
+    Read::Value(sum, n)
+}
+
+// A number of units in `n` bytes at the front of `s`, behind the bits of `high`.
+fn in_units(s: &[u8], n: usize, high: u64, unit: u64, coarser: u64) -> Read
+    requires { ⌜ (n ≤ 3) × (high < 32) × (unit ≤ 60000) × (0 < coarser) ⌝ }
+    ensures { λ r. ⌜ r ≡ inUnits unit coarser (readFixed n high (now (s .entry))) ⌝ }
+{
+    match counts::read_fixed(s, n, high) {
+        Read::Value(v, m) => offset_of(m + 1, coarser, v * unit),
+        Read::Refused(k) => Read::Refused(k),
+    }
+}
+
+// The sum of the offset at the front of `s`.
+pub fn read_sum(s: &[u8]) -> Read
+    ensures { λ r. ⌜ r ≡ readSum (now (s .entry)) ⌝ }
+{
+    if s.len() == 0 {
+        return Read::Refused(9);
+    }
+    let b = s[0] as u64;
+    if b < 128 {
+        return offset_of(1, 172800000, b * 1800000);
+    }
+    if b < 160 {
+        return in_units(&s[1..], 1, b % 32, 60000, 1800000);
+    }
+    if b < 192 {
+        return in_units(&s[1..], 2, b % 32, 1000, 60000);
+    }
+    if b < 224 {
+        return in_units(&s[1..], 3, b % 32, 1, 1000);
+    }
+    Read::Refused(7)
+}
+
+// The offset at the front of `s`, in milliseconds.
+pub fn read_offset(s: &[u8]) -> Number
+    ensures { λ r. ⌜ r ≡ readOffset (now (s .entry)) ⌝ }
+{
+    match read_sum(s) {
+        Read::Value(sum, n) => Number::Value(signed::milliseconds(sum), n),
+        Read::Refused(k) => Number::Refused(k),
+    }
+}
+
+// Half hours, in one byte.
+fn write_half_hours(v: u64, out: &mut [u8]) -> Wrote
+    requires { ⌜ v < 96 ⌝ }
+    ensures { λ r. ⌜ (r ≡ wrote (bytes (v ∷ [])) (now (out .entry))) × (now (out .exit) ≡ placed (bytes (v ∷ [])) (now (out .entry))) ⌝ }
+{
+    if out.len() < 1 {
+        return Wrote::Refused(15);
+    }
+    out[0] = v as u8;
+    Wrote::Length(1)
+}
+
+// 100 and 13 bits of minutes.
+fn write_minutes(v: u64, out: &mut [u8]) -> Wrote
+    requires { ⌜ v < 2880 ⌝ }
+    ensures { λ r. ⌜ (r ≡ wrote (bytes ((128 + v / 256) ∷ fixedBytes 1 v)) (now (out .entry))) × (now (out .exit) ≡ placed (bytes ((128 + v / 256) ∷ fixedBytes 1 v)) (now (out .entry))) ⌝ }
+{
+    if out.len() < 2 {
+        return Wrote::Refused(15);
+    }
+    out[0] = (128 + v / 256) as u8;
+    out[1] = (v / 1 % 256) as u8;
+    Wrote::Length(2)
+}
+
+// 101 and 21 bits of seconds.
+fn write_seconds(v: u64, out: &mut [u8]) -> Wrote
+    requires { ⌜ v < 172800 ⌝ }
+    ensures { λ r. ⌜ (r ≡ wrote (bytes ((160 + v / 65536) ∷ fixedBytes 2 v)) (now (out .entry))) × (now (out .exit) ≡ placed (bytes ((160 + v / 65536) ∷ fixedBytes 2 v)) (now (out .entry))) ⌝ }
+{
+    if out.len() < 3 {
+        return Wrote::Refused(15);
+    }
+    out[0] = (160 + v / 65536) as u8;
+    out[1] = (v / 256 % 256) as u8;
+    out[2] = (v / 1 % 256) as u8;
+    Wrote::Length(3)
+}
+
+// 110 and 29 bits of milliseconds.
+fn write_milliseconds(v: u64, out: &mut [u8]) -> Wrote
+    requires { ⌜ v < 172800000 ⌝ }
+    ensures { λ r. ⌜ (r ≡ wrote (bytes ((192 + v / 16777216) ∷ fixedBytes 3 v)) (now (out .entry))) × (now (out .exit) ≡ placed (bytes ((192 + v / 16777216) ∷ fixedBytes 3 v)) (now (out .entry))) ⌝ }
+{
+    if out.len() < 4 {
+        return Wrote::Refused(15);
+    }
+    out[0] = (192 + v / 16777216) as u8;
+    out[1] = (v / 65536 % 256) as u8;
+    out[2] = (v / 256 % 256) as u8;
+    out[3] = (v / 1 % 256) as u8;
+    Wrote::Length(4)
+}
+
+// Writes the offset of a sum to the front of `out`.
+pub fn write_sum(sum: u64, out: &mut [u8]) -> Wrote
+    ensures { λ r. ⌜ (r ≡ wrote (sumForm sum) (now (out .entry))) × (now (out .exit) ≡ placed (sumForm sum) (now (out .entry))) ⌝ }
+{
+    if sum < 1 {
+        return Wrote::Refused(7);
+    }
+    if sum > 172799999 {
+        return Wrote::Refused(7);
+    }
+    if sum % 1800000 == 0 {
+        return write_half_hours(sum / 1800000, out);
+    }
+    if sum % 60000 == 0 {
+        return write_minutes(sum / 60000, out);
+    }
+    if sum % 1000 == 0 {
+        return write_seconds(sum / 1000, out);
+    }
+    write_milliseconds(sum, out)
+}
+
+// Writes the offset of `ms` milliseconds to the front of `out`.
+pub fn write_offset(ms: i64, out: &mut [u8]) -> Wrote
+    ensures { λ r. ⌜ (r ≡ wrote (offsetForm ms) (now (out .entry))) × (now (out .exit) ≡ placed (offsetForm ms) (now (out .entry))) ⌝ }
+{
+    write_sum(signed::offset_sum(ms), out)
+}

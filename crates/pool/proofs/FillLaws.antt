@@ -1,0 +1,119 @@
+-- The loop over a pool's strings: i of k are passed, up to a place. Assumes nothing.
+use mathlib.Core.Path.{_≡_, refl, sym, _∙_, ap}
+use mathlib.Core.List.{List, [], _∷_}
+use Prim.Native.Nat.{ℕ, suc, _+_, _-_, _*_, _≤_, _<_}
+use native.Mathlib.Omega.{arith}
+use native.Mathlib.Numerals.{add-one}
+use lib.ListN.{length, take, drop, set, length-drop, length-set, drop-of-length-le}
+use lib.Seq.{sets, drop-drop, drop-cons}
+use Rattle.base.proofs.Tests.{by-order}
+use Rattle.base.proofs.Parts.{part-from}
+use Rattle.texts.specs.Text.{readText, behindText}
+use Rattle.texts.specs.declared.Text.{Text}
+use Rattle.texts.specs.declared.Text.the-variants.{Part, Refused as Untext}
+use Rattle.texts.proofs.TextLaws.{Held, held}
+use Rattle.pool.specs.declared.Checked.{Checked}
+use Rattle.pool.specs.declared.Checked.the-variants.{Strings, Refused}
+use Rattle.base.specs.Parsed.{got, bad, bind, ended, many, prepend}
+use Rattle.pool.specs.Pool.{Pool, readStrings, allStrings, checked}
+use Rattle.pool.specs.Index.{start, readStarts}
+
+-- i strings more
+abbrev raise : ℕ → Checked → Checked
+raise i (Strings n) = Strings (i + n)
+raise i (Refused m) = Refused m
+
+raise-zero : (x : Checked) → raise 0 x ≡ x
+raise-zero (Strings n) = ap Strings (omega arith)
+raise-zero (Refused m) = refl
+
+raise-cons : (i : ℕ) (t : List ℕ) (p : Pool) → raise i (checked (bind (bind p (prepend t)) ended)) ≡ raise (i + 1) (checked (bind p ended))
+unfolding ended
+raise-cons i t (got ts []) = ap Strings (omega arith)
+raise-cons i t (got ts (b ∷ r)) = refl
+raise-cons i t (bad m) = refl
+
+-- what the loop keeps: ix₀ is the index before the loop, ix now
+pub record Filling (d : List ℕ) (from k : ℕ) (ix₀ ix : List ℕ) (at i : ℕ) : Type 0 where
+  pub inside : at ≤ length d
+  pub small : at ≤ 5 + 1029 * i
+  pub most : i ≤ k
+  pub size : length ix ≡ length ix₀
+  pub said : raise i (checked (allStrings (k - i) (drop at d))) ≡ checked (allStrings k (drop from d))
+  pub kept : sets ix i (readStarts (k - i) at (drop at d)) ≡ sets ix₀ 0 (readStarts k from (drop from d))
+
+-- the result r and the index ix of reading k strings from a place on
+abbrev pub Filled : List ℕ → ℕ → ℕ → List ℕ → Checked → List ℕ → Type 0
+Filled d from k ix₀ r ix = (r ≡ checked (allStrings k (drop from d))) × (ix ≡ sets ix₀ 0 (readStarts k from (drop from d)))
+
+pub filling-start : (d : List ℕ) (from k : ℕ) (ix : List ℕ) → from ≤ length d → from ≤ 5 → Filling d from k ix ix from 0
+filling-start d from k ix h l =
+    let z : k - 0 ≡ k = omega arith in
+    record { inside = h; small = omega arith; most = omega arith; size = refl; said = rw z (raise-zero _); kept = rw z }
+
+module _ (d : List ℕ) (from k : ℕ) (ix₀ ix : List ℕ) (at i : ℕ) (f : Filling d from k ix₀ ix at i) where
+  module _ (less : i < k) (t : Text) (ht : t ≡ readText (take (length d - at) (drop at d))) where
+    text-here : (x : Text) → t ≡ x → readText (drop at d) ≡ x
+    text-here x e = ap readText (sym (part-from at d)) ∙ sym ht ∙ e
+
+    one-more : k - i ≡ suc (k - (i + 1))
+    one-more = omega arith
+
+    strings-here : (x : Text) → t ≡ x → allStrings (k - i) (drop at d) ≡ bind (bind (behindText (drop at d) x) (λ u r. bind (readStrings (k - (i + 1)) r) (prepend u))) ended
+    unfolding allStrings many
+    strings-here x e = rw (one-more, text-here x e)
+
+    starts-here : (x : Text) → t ≡ x → readStarts (k - i) at (drop at d) ≡ start x at (drop at d) (λ a r. readStarts (k - (i + 1)) a r)
+    unfolding readStarts
+    starts-here x e = rw (one-more, text-here x e)
+
+    pub filling-refused : (m : ℕ) → t ≡ Untext m → Filled d from k ix₀ (Refused m) ix
+    filling-refused m e = (rw (strings-here (Untext m) e) at (f .said), rw (starts-here (Untext m) e) at (f .kept))
+
+    module _ (a n : ℕ) (e : t ≡ Part a n) where
+      pub here : Held (drop at d) a n
+      here = held (drop at d) a n (text-here (Part a n) e)
+
+      pub here-inside : at + (a + n) ≤ length d
+      here-inside = omega (arith, here .inside, length-drop at d)
+
+      said-next : raise (i + 1) (checked (allStrings (k - (i + 1)) (drop (at + (a + n)) d))) ≡ checked (allStrings k (drop from d))
+      unfolding allStrings
+      said-next =
+          sym (raise-cons i (take n (drop a (drop at d))) (readStrings (k - (i + 1)) (drop (at + (a + n)) d)))
+          ∙ rw (strings-here (Part a n) e, drop-drop (a + n) at d) at (f .said)
+
+      pub filling-next : Filling d from k ix₀ (set ix i at) (at + (a + n)) (i + 1)
+      filling-next =
+          record {
+            inside = here-inside;
+            small = omega (arith, here .small, here .short);
+            most = omega arith;
+            size = length-set ix i at ∙ f .size;
+            said = said-next;
+            kept = rw (add-one i) (rw (starts-here (Part a n) e, drop-drop (a + n) at d, add-one i) at (f .kept));
+          }
+
+  -- no string is left to read
+  all-read : k ≤ i → raise i (checked (ended [] (drop at d))) ≡ checked (allStrings k (drop from d))
+  unfolding allStrings many
+  all-read h = let z : k - i ≡ 0 = omega arith in rw z at (f .said)
+
+  starts-read : k ≤ i → ix ≡ sets ix₀ 0 (readStarts k from (drop from d))
+  unfolding readStarts
+  starts-read h = let z : k - i ≡ 0 = omega arith in rw z at (f .kept)
+
+  pub filling-end : k ≤ i → at ≡ length d → Filled d from k ix₀ (Strings k) ix
+  unfolding ended
+  filling-end h e =
+      let x : i + 0 ≡ k = omega (arith, f .most) in
+      (rw (drop-of-length-le d {i = at} (omega arith), x) at (all-read h), starts-read h)
+
+  pub filling-left : k ≤ i → (at ≡ length d → ⊥) → Filled d from k ix₀ (Refused 9) ix
+  unfolding ended
+  filling-left h e =
+      let l : at < length d = below (omega (arith, f .inside)) e in
+      (rw (drop-cons d at 0 l) at (all-read h), starts-read h)
+    where
+      below : at ≤ length d → (at ≡ length d → ⊥) → at < length d
+      below p q = by-order at (length d) (λ m. m) (λ m. absurd (q (omega arith)))

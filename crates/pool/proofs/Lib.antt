@@ -1,0 +1,7 @@
+pub mod FillLaws
+pub mod CheckLaws
+pub mod StringLaws
+pub mod PoolLaws
+pub mod HolderLaws
+pub mod EqualLaws
+pub mod Vectors

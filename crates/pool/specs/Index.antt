@@ -1,0 +1,49 @@
+-- The index of a pool: the places at which its strings start, so that a string is found by its number at once.
+-- Assumes nothing: these are definitions.
+use Prim.Native.Nat.{ℕ, zero, suc, _+_}
+use mathlib.Core.Path.{_≡_}
+use mathlib.Core.List.{List, [], _∷_}
+use lib.ListN.{length, take, drop, getD}
+use lib.Dec.{ltb}
+use Rattle.base.specs.Pick.{pick}
+use Rattle.base.specs.declared.Read.{Read}
+use Rattle.base.specs.declared.Read.the-variants.{Value, Refused as Unread}
+use Rattle.counts.specs.Count.{readCount}
+use Rattle.texts.specs.Text.{readText}
+use Rattle.texts.specs.declared.Text.{Text}
+use Rattle.texts.specs.declared.Text.the-variants.{Part, Refused as Untext}
+use Rattle.pool.specs.declared.Span.{Span}
+
+-- a string that starts at the place at, before those that f gives of what follows it
+abbrev pub start : Text → ℕ → List ℕ → (ℕ → List ℕ → List ℕ) → List ℕ
+start (Part a n) at s f = at ∷ f (at + (a + n)) (drop (a + n) s)
+start (Untext m) at s f = []
+
+-- where the next k strings start, up to the first that is refused; s is what stands from the place at on
+unfoldable pub readStarts : ℕ → ℕ → List ℕ → List ℕ
+readStarts zero at s = []
+readStarts (suc k) at s = start (readText s) at s (λ a r. readStarts k a r)
+
+unfoldable pub startsIn : List ℕ → Read → List ℕ
+startsIn d (Unread m) = []
+startsIn d (Value k a) = pick (ltb 8192 k) [] (readStarts k a (drop a d))
+
+-- the places of the length codes of d's strings
+abbrev pub startsOf : List ℕ → List ℕ
+startsOf d = startsIn d (readCount d)
+
+-- the array ix begins with the places of d's strings
+pub record Ready (d ix : List ℕ) : Type 0 where
+  pub begins : take (length (startsOf d)) ix ≡ startsOf d
+
+-- the bytes behind a length code at the place p
+abbrev pub spanIn : ℕ → Read → Span
+spanIn p (Unread m) = record { at = 0; len = 0 }
+spanIn p (Value n a) = record { at = p + a; len = n }
+
+abbrev pub spanAt : List ℕ → ℕ → Span
+spanAt d p = spanIn p (readCount (drop p d))
+
+-- where the bytes of the k-th string lie
+abbrev pub spanOf : List ℕ → ℕ → Span
+spanOf d k = spanAt d (getD (startsOf d) k 0)

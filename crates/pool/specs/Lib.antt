@@ -1,0 +1,4 @@
+pub mod Pool
+pub mod Index
+pub mod Holder
+pub mod Equal

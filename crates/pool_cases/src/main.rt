@@ -1,0 +1,181 @@
+// Checks the pools that the lines of its input spell, and looks every string up.
+// A line is six words in hexadecimal, `-` for none: front, unit, times (two bytes), end, ID, field. The pool's data is the front, the unit so many times, and the end.
+// For each it writes the result, each string with its place and length (of a long pool the first four and the last), `*` behind one that is
+// the ID, the field's bytes behind its first, and the first four places and the last of the index, `-` for one that is as it was.
+// The stored output comes from tests/pool_cases/make.py.
+use libc::STDIN_FILENO;
+use libc::STDOUT_FILENO;
+use pool::Checked;
+use pool::Holder;
+ghost use mathlib.Core.Path.{_≡_};
+ghost use Prim.Native.Nat.{_≤_, _<_};
+ghost use lib.ListN.{length};
+ghost use Rattle.io.specs.Counts.{Counts};
+ghost use Rattle.pool.specs.Pool.{stringsOf};
+ghost use Rattle.pool.specs.Index.{Ready};
+
+fn say(word: &[u8]) {
+    io::write_all(STDOUT_FILENO, word);
+}
+
+fn number(n: usize) {
+    io::print_decimal(STDOUT_FILENO, n as u64);
+}
+
+// Puts part into buf at a place, where it has room, and gives the place behind it.
+fn append(buf: &mut [u8], at: usize, part: &[u8]) -> usize
+    requires { ⌜ at ≤ length (now buf) ⌝ }
+    ensures { λ r. ⌜ r ≤ length (now (buf .exit)) ⌝ }
+{
+    if buf.len() - at < part.len() {
+        return at;
+    }
+    bytes::copy(part, &mut buf[at..]);
+    at + part.len()
+}
+
+fn repeat(buf: &mut [u8], from: usize, unit: &[u8], times: usize) -> usize
+    requires { ⌜ from ≤ length (now buf) ⌝ }
+    ensures { λ r. ⌜ r ≤ length (now (buf .exit)) ⌝ }
+{
+    let mut at = from;
+    let mut i: usize = 0;
+    while i < times {
+        at = append(buf, at, unit);
+        i += 1;
+    }
+    at
+}
+
+// The pool's data, at the start of buf.
+fn build(line: &[u8], buf: &mut [u8]) -> usize
+    ensures { λ r. ⌜ Counts r (now (buf .exit)) ⌝ }
+{
+    let mut front = [0u8; 2048];
+    let mut unit = [0u8; 2048];
+    let mut size = [0u8; 2];
+    let mut end = [0u8; 2048];
+    let f = hex::word(line, 0, &mut front);
+    let u = hex::word(line, 1, &mut unit);
+    hex::word(line, 2, &mut size);
+    let e = hex::word(line, 3, &mut end);
+    let times = wide(size[0]) * 256 + wide(size[1]);
+    let a = append(buf, 0, &front[..f]);
+    let b = repeat(buf, a, &unit[..u], times);
+    append(buf, b, &end[..e])
+}
+
+fn wide(b: u8) -> usize
+    ensures { λ r. ⌜ r < 256 ⌝ }
+{
+    b as usize
+}
+
+fn show_string<'a>(d: &'a [u8], field: &'a [u8], starts: &[u32; 8192], k: usize, id: &[u8])
+    requires { ⌜ Ready (now d) (now starts) × (k < length (stringsOf (now d))) ⌝ }
+{
+    let s = pool::span_by(d, starts, k);
+    say(b" ");
+    number(s.at);
+    say(b":");
+    number(s.len);
+    say(b":");
+    hex::print(pool::text_of(d, field, starts, Holder::InPool(k)));
+    if pool::has_id(d, starts, k, id) {
+        say(b"*");
+    }
+}
+
+fn least(a: usize, b: usize) -> usize
+    ensures { λ r. ⌜ (r ≤ a) × (r ≤ b) ⌝ }
+{
+    if a < b { a } else { b }
+}
+
+fn show_strings<'a>(d: &'a [u8], field: &'a [u8], starts: &[u32; 8192], n: usize, id: &[u8])
+    requires { ⌜ Ready (now d) (now starts) × (n ≡ length (stringsOf (now d))) ⌝ }
+{
+    let m = least(n, 4);
+    let mut k: usize = 0;
+    while k < m {
+        show_string(d, field, starts, k, id);
+        k += 1;
+    }
+    if 4 < n {
+        show_string(d, field, starts, n - 1, id);
+    }
+}
+
+// The field's bytes behind its first.
+fn show_field<'a>(d: &'a [u8], field: &'a [u8], starts: &[u32; 8192])
+    requires { ⌜ Ready (now d) (now starts) ⌝ }
+{
+    if field.len() == 0 {
+        return;
+    }
+    say(b" ");
+    hex::print(pool::text_of(d, field, starts, Holder::InField(1, field.len() - 1)));
+}
+
+fn show_place(p: u32) {
+    if p == 4294967295 {
+        say(b" -");
+        return;
+    }
+    say(b" ");
+    number(p as usize);
+}
+
+fn show_index(starts: &[u32; 8192]) {
+    say(b" |");
+    show_place(starts[0]);
+    show_place(starts[1]);
+    show_place(starts[2]);
+    show_place(starts[3]);
+    show_place(starts[8191]);
+}
+
+fn run_pool<'a>(d: &'a [u8], field: &'a [u8], id: &[u8]) {
+    let mut starts = [4294967295u32; 8192];
+    let c = pool::check_pool(d, &mut starts);
+    match c {
+        Checked::Refused(m) => {
+            say(b"refused ");
+            number(m as usize);
+            show_index(&starts);
+        }
+        Checked::Strings(n) => {
+            say(b"strings ");
+            number(n);
+            show_strings(d, field, &starts, n, id);
+            show_field(d, field, &starts);
+            show_index(&starts);
+        }
+    }
+    say(b"\n");
+}
+
+fn run_line(line: &[u8], buf: &mut [u8]) {
+    let mut id = [0u8; 2048];
+    let mut field = [0u8; 2048];
+    let n = build(line, buf);
+    let i = hex::word(line, 4, &mut id);
+    let f = hex::word(line, 5, &mut field);
+    run_pool(&buf[..n], &field[..f], &id[..i]);
+}
+
+fn run_all(s: &[u8], buf: &mut [u8]) {
+    let mut at: usize = 0;
+    while at < s.len() {
+        let e = hex::find(s, at, 10);
+        run_line(&s[at..e], buf);
+        at = e + 1;
+    }
+}
+
+fn main() {
+    let mut input = io::large_buffer();
+    let mut buf = io::large_buffer();
+    let n = io::read_full(STDIN_FILENO, &mut input);
+    run_all(&input[..n], &mut buf);
+}

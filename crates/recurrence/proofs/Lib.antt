@@ -1,0 +1,8 @@
+pub mod FieldLaws
+pub mod MoveLaws
+pub mod RuleLaws
+pub mod CycleLaws
+pub mod SearchLaws
+pub mod LookupLaws
+pub mod IntervalLaws
+pub mod Examples

@@ -1,0 +1,90 @@
+-- What a tail that was read says is in its ranges. Assumes nothing.
+use mathlib.Core.Path.{_≡_, refl, sym, ap, _∙_, subst}
+use mathlib.Core.Bool.{Bool, true, false}
+use mathlib.Core.List.{List}
+use Prim.Native.Nat.{ℕ, _≤_, _<_}
+use native.Mathlib.Omega.{arith}
+use Rattle.base.specs.Pick.{pick}
+use Rattle.base.specs.Parsed.{Parsed, got, bad, bind, parse, parseByte}
+use Rattle.base.specs.Moment.{Finite}
+use Rattle.base.proofs.ParseLaws.{Split, bind-good, pick-good}
+use Rattle.counts.specs.Count.{readCount}
+use Rattle.offsets.specs.Offset.{readSum}
+use Rattle.recurrence.specs.declared.Rule.{Rule}
+use Rattle.recurrence.specs.Rules.{RuleOk}
+use Rattle.recurrence.specs.Fields.{byteOk, monthOk, dayOk, timeOk, FieldsOk, ruleOf, sumOk}
+use Rattle.recurrence.specs.Tails.{TailOk}
+use Rattle.recurrence.proofs.FieldLaws.{rule-ok}
+use Rattle.places.specs.Placed.{Placed, at, Stands}
+use Rattle.places.specs.Name.{readZigzag, parseName}
+use Rattle.places.proofs.ValueLaws.{sum-high, name-ok}
+use Rattle.tails.specs.Tail.{afterTime, parseTime, afterDay, parseDay, afterMonth, parseMonth, afterByte, parseRule, standardOf, afterStandardName, afterOffset, parseStandard, tailOf, afterSavings, parseSavings, afterDaylightName, parseDaylight, parseTail}
+use Rattle.tails.specs.Sound.{StandardOk, NamedTailOk}
+use Rattle.tails.specs.declared.Standard.{Standard}
+use Rattle.tails.specs.declared.NamedTail.{NamedTail}
+
+-- the four parts of a rule are judged
+pub rule-sound : (s : List ℕ) (x : Rule) (q : List ℕ) → parseRule s ≡ got x q → RuleOk x
+unfolding parseRule afterByte parseMonth afterMonth parseDay afterDay parseTime afterTime
+rule-sound s x q e =
+    let a = bind-good (parseByte s) afterByte x q e in
+    let b : ℕ = a .first in
+    let a′ = pick-good (byteOk b) (parseMonth b (a .rest)) 11 x q (a .on) in
+    let c = bind-good (parse readCount (a .rest)) (afterMonth b) x q (a′ .1) in
+    let m : ℕ = c .first in
+    let c′ = pick-good (monthOk m) (parseDay b m (c .rest)) 11 x q (c .on) in
+    let d = bind-good (parse readZigzag (c .rest)) (afterDay b m) x q (c′ .1) in
+    let z : ℕ = d .first in
+    let d′ = pick-good (dayOk m z) (parseTime b m z (d .rest)) 11 x q (d .on) in
+    let f = bind-good (parse readSum (d .rest)) (afterTime b m z) x q (d′ .1) in
+    let f′ = pick-good (timeOk (f .first)) (got (ruleOf b m z (f .first)) (f .rest)) 11 x q (f .on) in
+    let g : got (ruleOf b m z (f .first)) (f .rest) ≡ got x q = f′ .1 in
+    let h : ruleOf b m z (f .first) ≡ x = cc in
+    subst RuleOk h (rule-ok b m z (f .first) (record { byte-ok = a′ .0; month-ok = c′ .0; day-ok = d′ .0; time-ok = f′ .0 }))
+
+pub standard-sound : (pool start : ℕ) (s : List ℕ) (x : Standard) (q : List ℕ) → parseStandard pool start s ≡ got x q → StandardOk pool start x
+unfolding parseStandard afterOffset afterStandardName
+standard-sound pool start s x q e =
+    let a = bind-good (parse readSum s) (afterOffset pool start) x q e in
+    let b = bind-good (parseName pool (a .rest)) (afterStandardName start (a .first)) x q (a .on) in
+    let c = bind-good (parseRule (b .rest)) (standardOf start (a .first) (b .first)) x q (b .on) in
+    let f : got (record { start = start; offset = a .first; name = b .first; rule = c .first }) (c .rest) ≡ got x q = c .on in
+    let g : record { start = start; offset = a .first; name = b .first; rule = c .first } ≡ x = cc in
+    subst (StandardOk pool start) g (record {
+      starts = refl;
+      offset-high = sum-high _ _ _ (a .is);
+      name-ok = name-ok pool _ _ _ (b .is);
+      rule-ok = rule-sound _ _ _ (c .is);
+    })
+
+pub tail-sound : (pool start : ℕ) (s : List ℕ) (n : NamedTail) (q : List ℕ) → Finite start → parseTail pool start s ≡ got n q → NamedTailOk pool start n
+unfolding parseTail parseDaylight afterDaylightName parseSavings afterSavings
+tail-sound pool start s n q h e =
+    let a = bind-good (parseStandard pool start s) (parseDaylight pool) n q e in
+    let x : Standard = a .first in
+    let y = standard-sound pool start _ _ _ (a .is) in
+    let b = bind-good (parseName pool (a .rest)) (afterDaylightName x) n q (a .on) in
+    let c = bind-good (parseRule (b .rest)) (parseSavings x (b .first)) n q (b .on) in
+    let d = bind-good (parse readSum (c .rest)) (afterSavings x (b .first) (c .first)) n q (c .on) in
+    let d′ = pick-good (sumOk (x .offset) (d .first)) (got (tailOf x (b .first) (c .first) (d .first)) (d .rest)) 11 n q (d .on) in
+    let f : got (tailOf x (b .first) (c .first) (d .first)) (d .rest) ≡ got n q = d′ .1 in
+    let g : tailOf x (b .first) (c .first) (d .first) ≡ n = cc in
+    subst (NamedTailOk pool start) g (record {
+      starts = y .starts;
+      tail-ok = record {
+        start-ok = rw (y .starts) h;
+        offset-high = omega (arith, y .offset-high);
+        sum-ok = d′ .0;
+        standard-ok = y .rule-ok;
+        daylight-ok = rule-sound _ _ _ (c .is);
+      };
+      standard-ok = y .name-ok;
+      daylight-ok = name-ok pool _ _ _ (b .is);
+    })
+
+-- the standard half as a reader at a place gives it
+pub standard-high : (pool start : ℕ) (s q : List ℕ) {y : Placed Standard} → Stands s (parseStandard pool start q) y
+    → (x : Standard) (e : ℕ) → y ≡ at x e → x .offset ≤ 172800000
+standard-high pool start s q h x e f =
+    let k = standard-sound pool start q x _ (rw f at (h .means)) .offset-high in
+    omega arith

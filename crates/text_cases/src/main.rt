@@ -1,0 +1,93 @@
+// Runs the functions of texts on the lines of its input, bytes in hexadecimal:
+// `u BYTES` whether they are UTF-8, `r BYTES` reading a text, `w TEXT OUTPUT` writing one over an output.
+// The stored output comes from tests/text_cases/make.py.
+use base::Wrote;
+use libc::STDIN_FILENO;
+use libc::STDOUT_FILENO;
+use texts::Text;
+
+fn say(word: &[u8]) {
+    io::write_all(STDOUT_FILENO, word);
+}
+
+fn number(n: usize) {
+    io::print_decimal(STDOUT_FILENO, n as u64);
+}
+
+fn run_utf8(s: &[u8]) {
+    if texts::is_utf8(s) {
+        say(b"yes");
+        return;
+    }
+    say(b"no");
+}
+
+// The place and the length, and the bytes that the text function hands out.
+fn run_read(s: &[u8]) {
+    let t = texts::read_text(s);
+    match t {
+        Text::Part(a, n) => {
+            say(b"part ");
+            number(a);
+            say(b" ");
+            number(n);
+        }
+        Text::Refused(k) => {
+            say(b"refused ");
+            number(k as usize);
+        }
+    }
+    say(b" ");
+    hex::print(texts::text_bytes(s));
+}
+
+// The length, and what the output holds then.
+fn run_write(t: &[u8], out: &mut [u8]) {
+    let w = texts::write_text(t, out);
+    match w {
+        Wrote::Length(n) => {
+            say(b"length ");
+            number(n);
+        }
+        Wrote::Refused(k) => {
+            say(b"refused ");
+            number(k as usize);
+        }
+    }
+    say(b" ");
+    hex::print(out);
+}
+
+fn run_line(line: &[u8]) {
+    if line.len() == 0 {
+        return;
+    }
+    let mut first = [0u8; 2048];
+    let mut second = [0u8; 2048];
+    let n = hex::word(line, 1, &mut first);
+    let m = hex::word(line, 2, &mut second);
+    let op = line[0];
+    if op == b'u' {
+        run_utf8(&first[..n]);
+    } else if op == b'r' {
+        run_read(&first[..n]);
+    } else {
+        run_write(&first[..n], &mut second[..m]);
+    }
+    say(b"\n");
+}
+
+fn run_all(s: &[u8]) {
+    let mut at: usize = 0;
+    while at < s.len() {
+        let e = hex::find(s, at, 10);
+        run_line(&s[at..e]);
+        at = e + 1;
+    }
+}
+
+fn main() {
+    let mut input = io::large_buffer();
+    let n = io::read_full(STDIN_FILENO, &mut input);
+    run_all(&input[..n]);
+}

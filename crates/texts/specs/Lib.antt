@@ -1,0 +1,4 @@
+pub mod Utf8
+pub mod CodePoints
+pub mod Ascii
+pub mod Text

@@ -1,0 +1,194 @@
+// Texts: a length and that many bytes of UTF-8.
+use base::Read;
+use base::Wrote;
+ghost use mathlib.Core.Path.{_≡_};
+ghost use Prim.Native.Nat.{max, _≤_};
+ghost use lib.ListN.{length};
+ghost use Rattle.base.specs.Writing.{bytes, wrote, placed};
+ghost use Rattle.texts.specs.Utf8.{lead as leadOf, after as afterOf, utf8};
+ghost use Rattle.texts.specs.Ascii.{ascii};
+ghost use Rattle.texts.specs.Text.{readText, textBytes, writeText, textForm};
+
+// What is due after a byte: how many more bytes of its character, and the range of the first of them. Or the bytes are not UTF-8.
+pub enum Due {
+    Follow(u8, u8, u8),
+    Never,
+}
+
+// What a character's first byte asks for.
+fn lead(b: u8) -> Due
+    ensures { λ r. ⌜ r ≡ leadOf b ⌝ }
+{
+    if b < 0x80 {
+        return Due::Follow(0, 0x80, 0xbf);
+    }
+    if b < 0xc2 {
+        return Due::Never;
+    }
+    if b < 0xe0 {
+        return Due::Follow(1, 0x80, 0xbf);
+    }
+    if b == 0xe0 {
+        return Due::Follow(2, 0xa0, 0xbf);
+    }
+    if b == 0xed {
+        return Due::Follow(2, 0x80, 0x9f);
+    }
+    if b < 0xf0 {
+        return Due::Follow(2, 0x80, 0xbf);
+    }
+    if b == 0xf0 {
+        return Due::Follow(3, 0x90, 0xbf);
+    }
+    if b < 0xf4 {
+        return Due::Follow(3, 0x80, 0xbf);
+    }
+    if b == 0xf4 {
+        return Due::Follow(3, 0x80, 0x8f);
+    }
+    Due::Never
+}
+
+// What is due after b, where k bytes were due, the first of them from lo to hi.
+fn after(k: u8, lo: u8, hi: u8, b: u8) -> Due
+    ensures { λ r. ⌜ r ≡ afterOf k lo hi b ⌝ }
+{
+    if k == 0 {
+        return lead(b);
+    }
+    if b < lo {
+        return Due::Never;
+    }
+    if hi < b {
+        return Due::Never;
+    }
+    Due::Follow(k - 1, 0x80, 0xbf)
+}
+
+// Whether s is UTF-8, byte by byte.
+fn scan(s: &[u8]) -> bool
+    ensures { λ r. ⌜ r ≡ utf8 (now (s .entry)) ⌝ }
+{
+    let mut i: usize = 0;
+    let mut k: u8 = 0;
+    let mut lo: u8 = 0x80;
+    let mut hi: u8 = 0xbf;
+    while i < s.len() {
+        let d = after(k, lo, hi, s[i]);
+        match d {
+            Due::Never => {
+                return false;
+            }
+            Due::Follow(n, l, h) => {
+                k = n;
+                lo = l;
+                hi = h;
+            }
+        }
+        i += 1;
+    }
+    k == 0
+}
+
+fn larger(a: u8, b: u8) -> u8
+    ensures { λ r. ⌜ r ≡ max a b ⌝ }
+{
+    if a < b { b } else { a }
+}
+
+// Whether every byte is below 0x80. The loop has no early exit, so that it compiles to wide operations.
+fn all_ascii(s: &[u8]) -> bool
+    ensures { λ r. ⌜ r ≡ ascii (now (s .entry)) ⌝ }
+{
+    let mut m: u8 = 0;
+    let mut i: usize = 0;
+    while i < s.len() {
+        m = larger(m, s[i]);
+        i += 1;
+    }
+    m < 0x80
+}
+
+// Whether s is UTF-8.
+pub fn is_utf8(s: &[u8]) -> bool
+    ensures { λ r. ⌜ r ≡ utf8 (now (s .entry)) ⌝ }
+{
+    if all_ascii(s) {
+        return true;
+    }
+    scan(s)
+}
+
+// What reading a text from the front of some bytes finds.
+pub enum Text {
+    // The place of its first byte, behind the length, and how many bytes it has.
+    Part(usize, usize),
+    // The number of a refusal.
+    Refused(u8),
+}
+
+// The text at the front of s.
+pub fn read_text(s: &[u8]) -> Text
+    ensures { λ r. ⌜ r ≡ readText (now (s .entry)) ⌝ }
+{
+    let g = counts::read_count(s);
+    match g {
+        Read::Refused(k) => Text::Refused(k),
+        Read::Value(v, a) => {
+            let n = v as usize;
+            if 1024 < n {
+                return Text::Refused(4);
+            }
+            if s.len() - a < n {
+                return Text::Refused(9);
+            }
+            let e = a + n;
+            if is_utf8(&s[a..e]) {
+                return Text::Part(a, n);
+            }
+            Text::Refused(8)
+        }
+    }
+}
+
+// The bytes of the text at the front of s, as a part of s: none where it is refused.
+pub fn text_bytes<'a>(s: &'a [u8]) -> &'a [u8]
+    ensures { λ r. ⌜ now r ≡ textBytes (now (s .entry)) ⌝ }
+{
+    let t = read_text(s);
+    match t {
+        Text::Refused(_) => &s[0..0],
+        Text::Part(a, n) => {
+            let e = a + n;
+            &s[a..e]
+        }
+    }
+}
+
+// Writes a length and the bytes of t, once all of them are known to have room.
+fn write_sized(t: &[u8], out: &mut [u8]) -> Wrote
+    requires { ⌜ length (now t) ≤ 1024 ⌝ }
+    ensures { λ r. ⌜ (r ≡ wrote (bytes (writeText (now (t .entry)))) (now (out .entry))) × (now (out .exit) ≡ placed (bytes (writeText (now (t .entry)))) (now (out .entry))) ⌝ }
+{
+    let n = t.len();
+    let a = counts::count_size(n as u64);
+    if out.len() < a + n {
+        return Wrote::Refused(15);
+    }
+    counts::write_count(n as u64, out);
+    bytes::copy(t, &mut out[a..]);
+    Wrote::Length(a + n)
+}
+
+// Writes t as a text to the front of out.
+pub fn write_text(t: &[u8], out: &mut [u8]) -> Wrote
+    ensures { λ r. ⌜ (r ≡ wrote (textForm (now (t .entry))) (now (out .entry))) × (now (out .exit) ≡ placed (textForm (now (t .entry))) (now (out .entry))) ⌝ }
+{
+    if 1024 < t.len() {
+        return Wrote::Refused(4);
+    }
+    if is_utf8(t) {
+        return write_sized(t, out);
+    }
+    Wrote::Refused(8)
+}

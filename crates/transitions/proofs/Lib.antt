@@ -1,0 +1,3 @@
+pub mod MomentLaws
+pub mod MomentWriteLaws
+pub mod TransitionLaws

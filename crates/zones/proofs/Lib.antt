@@ -1,0 +1,4 @@
+pub mod ReadLaws
+pub mod SoundLaws
+pub mod LookupLaws
+pub mod PartitionLaws

@@ -1,0 +1,205 @@
+-- Each way out of the zone's readers. Assumes nothing.
+use mathlib.Core.Path.{_≡_, refl, sym, ap, _∙_}
+use mathlib.Core.Bool.{Bool, true, false}
+use mathlib.Core.List.{List, [], _∷_}
+use Prim.Native.Nat.{ℕ, _≤_, _<_}
+use native.Mathlib.Omega.{arith}
+use lib.ListN.{length, drop}
+use lib.Dec.{ltb, eqb}
+use borrow.Author.Tests.{lt-ltb, le-ltb, eq-eqb, ne-eqb}
+use Rattle.base.specs.Pick.{pick, both}
+use Rattle.base.specs.Parsed.{Parsed, got, bad, bind, parse, ended, many, behind}
+use Rattle.base.specs.Moment.{endOfTime}
+use Rattle.base.proofs.ParseLaws.{bad-got}
+use Rattle.transitions.specs.Transition.{readMoment}
+use Rattle.places.specs.Placed.{Placed, at, no, Stands}
+use Rattle.places.proofs.PlaceLaws.{ended-here, ended-over}
+use Rattle.intervals.specs.declared.Interval.{Interval}
+use Rattle.intervals.specs.declared.Scan.{Scan}
+use Rattle.intervals.specs.Interval.{startOf, parseInterval}
+use Rattle.intervals.specs.Scan.{scanned, scanOf}
+use Rattle.intervals.proofs.ScanLaws.{last-start}
+use Rattle.tails.specs.declared.NamedTail.{NamedTail}
+use Rattle.zones.specs.Content.{Ending, untailed, tailed, Body, fixed, listed, Zone}
+use Rattle.zones.specs.Parse.{zoneOf, afterTailByte, parseTailed, afterEnd, afterIntervals, afterCount, parseFixed, parseListed, afterFlag}
+use Rattle.zones.specs.Lookup.{verdictOf, named}
+use Rattle.recurrence.specs.declared.Interval.{Interval as Lookup}
+use Rattle.zones.specs.View.{bodyRead, readOf, ReadsAny, ReadsAs}
+use Rattle.zones.specs.declared.Found.{Found}
+use Rattle.zones.specs.declared.Verdict.{Verdict}
+use Rattle.zones.specs.declared.Verdict.the-variants.{Good, Refused as Denied}
+use Rattle.zones.specs.declared.ZoneRead.{ZoneRead}
+use Rattle.zones.specs.declared.ZoneRead.the-variants.{Fixed, Listed, Tailed, Refused}
+
+-- a zone that ends where its data ends
+pub zone-here : (id : ℕ) (b : Body) (s : List ℕ) (e : ℕ) → length s ≤ e → zoneOf id b (drop e s) ≡ got (record { id = id; body = b }) []
+unfolding zoneOf
+zone-here id b s e h = ended-here _ s e h
+
+pub zone-over : (id : ℕ) (b : Body) (s : List ℕ) (e : ℕ) → e < length s → zoneOf id b (drop e s) ≡ bad 9
+unfolding zoneOf
+zone-over id b s e h = ended-over _ s e h
+
+-- at one instant
+pub read-bad : (t : ℕ) (p : Parsed Zone) (k : ℕ) → p ≡ bad k → Refused k ≡ readOf t p
+unfolding readOf
+read-bad t p k e = rw e
+
+pub read-on : (t : ℕ) (p q : Parsed Zone) (r : ZoneRead) → p ≡ q → r ≡ readOf t q → r ≡ readOf t p
+read-on t p q r e h = h ∙ ap (readOf t) (sym e)
+
+-- whatever the instant
+pub any-bad : (p : Parsed Zone) (k : ℕ) → p ≡ bad k → ReadsAny p (Refused k)
+unfolding readOf
+any-bad p k e = record { means = λ t. rw e }
+
+pub any-fixed : (p : Parsed Zone) (id offset n : ℕ) (r : List ℕ) → p ≡ got (record { id = id; body = fixed offset n }) r → ReadsAny p (Fixed id offset n)
+unfolding readOf
+any-fixed p id offset n r e = record { means = λ t. rw e }
+
+-- whatever the intervals that c stands for
+module _ (f : List Interval → Parsed Zone) (c : Scan) where
+  -- all that the readers behind the intervals use of c
+  abbrev Behind : List Interval → Type 0
+  Behind is = c .last ≡ behind startOf endOfTime is
+
+  last-of : (t : ℕ) (is : List Interval) → c ≡ scanned t is → Behind is
+  last-of t is e = ap (λ (x : Scan). x .last) e ∙ last-start t is
+
+  pub as-bad : (k : ℕ) → ((is : List Interval) → Behind is → f is ≡ bad k) → ReadsAs f c (Refused k)
+  unfolding readOf
+  as-bad k h = record { means = λ t is e. rw (h is (last-of t is e)) }
+
+  pub as-listed : (id end : ℕ) → ((is : List Interval) → Behind is → f is ≡ got (record { id = id; body = listed is end untailed }) [])
+      → ReadsAs f c (Listed id c)
+  unfolding readOf
+  as-listed id end h = record { means = λ t is e. rw (h is (last-of t is e)) (ap (Listed id) e) }
+
+  pub as-tailed : (id end : ℕ) (n : NamedTail)
+      → ((is : List Interval) → Behind is → f is ≡ got (record { id = id; body = listed is end (tailed n) }) []) → ReadsAs f c (Tailed id c n)
+  unfolding readOf
+  as-tailed id end n h = record { means = λ t is e. rw (h is (last-of t is e)) (ap (λ (x : Scan). Tailed id x n) e) }
+
+  pub as-on : (g : List Interval → Parsed Zone) (r : ZoneRead) → ((is : List Interval) → Behind is → f is ≡ g is) → ReadsAs g c r → ReadsAs f c r
+  as-on g r h k = record { means = λ t is e. k .means t is e ∙ ap (readOf t) (sym (h is (last-of t is e))) }
+
+-- the tail byte, then the end transition
+module _ (pool id : ℕ) (is : List Interval) (end b : ℕ) (s : List ℕ) where
+  pub none-kept : b ≡ 0 → end ≡ endOfTime → afterTailByte pool id is end b s ≡ zoneOf id (listed is end untailed) s
+  unfolding afterTailByte
+  none-kept e f = rw (eq-eqb b 0 e, eq-eqb end endOfTime f)
+
+  pub none-refused : b ≡ 0 → (end ≡ endOfTime → ⊥) → afterTailByte pool id is end b s ≡ bad 10
+  unfolding afterTailByte
+  none-refused e f = rw (eq-eqb b 0 e, ne-eqb end endOfTime f)
+
+  pub tail-kept : (last : ℕ) → last ≡ behind startOf endOfTime is → b ≡ 1 → last < end → end < endOfTime
+      → afterTailByte pool id is end b s ≡ parseTailed pool id is end s
+  unfolding afterTailByte
+  tail-kept last l e f g = rw (ne-eqb b 0 (omega arith), eq-eqb b 1 e, ← l, lt-ltb last end f, lt-ltb end endOfTime g)
+
+  pub tail-early : (last : ℕ) → last ≡ behind startOf endOfTime is → b ≡ 1 → end ≤ last → afterTailByte pool id is end b s ≡ bad 10
+  unfolding afterTailByte
+  tail-early last l e f = rw (ne-eqb b 0 (omega arith), eq-eqb b 1 e, ← l, le-ltb last end f)
+
+  pub tail-endless : b ≡ 1 → endOfTime ≤ end → afterTailByte pool id is end b s ≡ bad 10
+  unfolding afterTailByte
+  tail-endless e f = rw (ne-eqb b 0 (omega arith), eq-eqb b 1 e, le-ltb end endOfTime f) (go (ltb (behind startOf endOfTime is) end))
+    where
+      go : (t : Bool) → pick (both t false) (parseTailed pool id is end s) (bad 10) ≡ bad 10
+      go true = refl
+      go false = refl
+
+  pub tail-unknown : (b ≡ 0 → ⊥) → (b ≡ 1 → ⊥) → afterTailByte pool id is end b s ≡ bad 9
+  unfolding afterTailByte
+  tail-unknown e f = rw (ne-eqb b 0 e, ne-eqb b 1 f)
+
+-- the end transition is read behind the last start
+pub after-last : (pool id : ℕ) (is : List Interval) (m : ℕ) (s : List ℕ) → m ≡ behind startOf endOfTime is
+    → afterIntervals pool id is s ≡ bind (parse (readMoment m) s) (afterEnd pool id is)
+unfolding afterIntervals
+after-last pool id is m s e = ap (λ (x : ℕ). bind (parse (readMoment x) s) (afterEnd pool id is)) (sym e)
+
+-- the interval count
+module _ (pool id n : ℕ) (s : List ℕ) where
+  pub count-zero : n ≡ 0 → afterCount pool id n s ≡ bad 10
+  unfolding afterCount
+  count-zero e = rw (eq-eqb n 0 e)
+
+  pub count-past : 4096 < n → afterCount pool id n s ≡ bad 4
+  unfolding afterCount
+  count-past h = rw (ne-eqb n 0 (omega arith), lt-ltb 4096 n h)
+
+  pub count-some : (n ≡ 0 → ⊥) → n ≤ 4096
+      → afterCount pool id n s ≡ bind (many (parseInterval pool) startOf n endOfTime s) (afterIntervals pool id)
+  unfolding afterCount
+  count-some e h = rw (ne-eqb n 0 e, le-ltb 4096 n h)
+
+-- what follows the intervals, from what a scan of them kept
+module _ (t : ℕ) (s : List ℕ) (p : Parsed (List Interval)) (f : List Interval → List ℕ → Parsed Zone) where
+  pub scan-bad : (k : ℕ) → Stands s (scanOf t p) (no k) → bind p f ≡ bad k
+  unfolding scanOf
+  scan-bad k h = go p (h .means)
+    where
+      go : (q : Parsed (List Interval)) → bind q (λ is r. got (scanned t is) r) ≡ bad k → bind q f ≡ bad k
+      go (got is r) e = bad-got (sym e)
+      go (bad n) e = let x : n ≡ k = cc in ap bad x
+
+  pub record Scanned (c : Scan) (e : ℕ) : Type 0 where
+    pub list : List Interval
+    pub goes : bind p f ≡ f list (drop e s)
+    pub scans : c ≡ scanned t list
+
+  pub scan-got : (c : Scan) (e : ℕ) → Stands s (scanOf t p) (at c e) → Scanned c e
+  unfolding scanOf
+  scan-got c e h = go p refl (h .means)
+    where
+      go : (q : Parsed (List Interval)) → p ≡ q → bind q (λ is r. got (scanned t is) r) ≡ got c (drop e s) → Scanned c e
+      go (got is r) o k =
+          let x : scanned t is ≡ c = cc in
+          let y : r ≡ drop e s = cc in
+          record { list = is; goes = ap (λ (q : Parsed (List Interval)). bind q f) o ∙ ap (f is) y; scans = sym x }
+      go (bad n) o k = bad-got k
+
+-- the zone's flag
+module _ (pool id flag : ℕ) (s : List ℕ) where
+  pub flag-fixed : flag ≡ 1 → afterFlag pool id flag s ≡ parseFixed pool id s
+  unfolding afterFlag
+  flag-fixed e = rw (eq-eqb flag 1 e)
+
+  pub flag-listed : (flag ≡ 1 → ⊥) → flag ≡ 2 → afterFlag pool id flag s ≡ parseListed pool id s
+  unfolding afterFlag
+  flag-listed e f = rw (ne-eqb flag 1 e, eq-eqb flag 2 f)
+
+  pub flag-unknown : (flag ≡ 1 → ⊥) → (flag ≡ 2 → ⊥) → afterFlag pool id flag s ≡ bad 9
+  unfolding afterFlag
+  flag-unknown e f = rw (ne-eqb flag 1 e, ne-eqb flag 2 f)
+
+-- the verdict is that of the walk, whatever its instant
+abbrev pub verdictRead : ZoneRead → Verdict
+verdictRead (Fixed id offset n) = Good id
+verdictRead (Listed id c) = Good id
+verdictRead (Tailed id c n) = Good id
+verdictRead (Refused k) = Denied k
+
+verdict-read : (t : ℕ) (p : Parsed Zone) → verdictRead (readOf t p) ≡ verdictOf p
+unfolding readOf
+verdict-read t (bad k) = refl
+verdict-read t (got z r) = go (z .body)
+  where
+    go : (b : Body) → verdictRead (bodyRead t (z .id) b) ≡ Good (z .id)
+    go (fixed offset n) = refl
+    go (listed is end untailed) = refl
+    go (listed is end (tailed n)) = refl
+
+pub verdict-is : (t : ℕ) (p : Parsed Zone) (r : ZoneRead) → r ≡ readOf t p → verdictRead r ≡ verdictOf p
+verdict-is t p r e = ap verdictRead e ∙ verdict-read t p
+
+-- the tail's answer by what is in force
+pub named-daylight : (n : NamedTail) (x : Lookup) → x .daylight ≡ true
+    → record { wall = x .wall; savings = x .savings; name = n .daylight; start = x .start; end = x .end } ≡ named n x
+named-daylight n x e = rw e
+
+pub named-standard : (n : NamedTail) (x : Lookup) → x .daylight ≡ false
+    → record { wall = x .wall; savings = x .savings; name = n .standard; start = x .start; end = x .end } ≡ named n x
+named-standard n x e = rw e

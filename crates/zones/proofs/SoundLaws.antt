@@ -1,0 +1,112 @@
+-- The content of a zone that was read is in its ranges. Assumes nothing.
+use mathlib.Core.Path.{_≡_, refl, sym, _∙_, subst}
+use mathlib.Core.Bool.{Bool, true, false}
+use mathlib.Core.List.{List, []}
+use mathlib.Core.Logic.{_⊎_, inl, inr}
+use Prim.Native.Nat.{ℕ, _≤_, _<_}
+use native.Mathlib.Omega.{arith}
+use lib.Dec.{ltb, eqb}
+use borrow.Author.Tests.{ltb-true, eqb-true, eqb-false}
+use Rattle.base.specs.Pick.{pick, both}
+use Rattle.base.specs.Parsed.{Parsed, got, bad, bind, parse, parseByte, ended, many, behind}
+use Rattle.base.specs.Moment.{Finite, endOfTime}
+use Rattle.base.proofs.Tests.{both-left, both-right}
+use Rattle.base.proofs.ParseLaws.{bad-got, bind-good, pick-good, pick-bad, ended-good}
+use Rattle.base.proofs.MomentLaws.{Moment}
+use Rattle.counts.specs.Count.{readCount}
+use Rattle.offsets.specs.Offset.{readSum}
+use Rattle.transitions.specs.Transition.{readMoment}
+use Rattle.places.specs.Name.{parseName}
+use Rattle.places.proofs.ValueLaws.{moment-is, name-ok}
+use Rattle.intervals.specs.declared.Interval.{Interval}
+use Rattle.intervals.specs.Interval.{parseInterval, startOf}
+use Rattle.intervals.specs.Sound.{ListOk}
+use Rattle.intervals.proofs.SoundLaws.{list-sound}
+use Rattle.tails.specs.declared.NamedTail.{NamedTail}
+use Rattle.tails.specs.Tail.{parseTail}
+use Rattle.tails.proofs.TailLaws.{tail-sound}
+use Rattle.zones.specs.Content.{Ending, untailed, tailed, Body, fixed, listed, Zone}
+use Rattle.zones.specs.Parse.{zoneOf, afterTail, parseTailed, afterTailByte, afterEnd, afterIntervals, afterCount, parseListed, fixedOf, afterFixedOffset, parseFixed, afterFlag, afterId, parseZone}
+use Rattle.zones.specs.Sound.{EndOk, BodyOk, Sound}
+
+-- what a zone says, and that it ends with its data
+pub record Whole (pool id : ℕ) (z : Zone) (q : List ℕ) : Type 0 where
+  pub id-is : z .id ≡ id
+  pub body-ok : BodyOk pool (z .body)
+  pub ends : q ≡ []
+
+zone-whole : (pool id : ℕ) (b : Body) (s : List ℕ) (z : Zone) (q : List ℕ) → BodyOk pool b → zoneOf id b s ≡ got z q → Whole pool id z q
+unfolding zoneOf
+zone-whole pool id b s z q h e =
+    let k = ended-good (record { id = id; body = b }) z s q e in
+    subst (λ (x : Zone). Whole pool id x q) (k .0) (record { id-is = refl; body-ok = h; ends = k .2 })
+
+fixed-whole : (pool id : ℕ) (s : List ℕ) (z : Zone) (q : List ℕ) → parseFixed pool id s ≡ got z q → Whole pool id z q
+unfolding parseFixed afterFixedOffset
+fixed-whole pool id s z q e =
+    let a = bind-good (parse readSum s) (afterFixedOffset pool id) z q e in
+    let b = bind-good (parseName pool (a .rest)) (fixedOf id (a .first)) z q (a .on) in
+    zone-whole pool id (fixed (a .first) (b .first)) (b .rest) z q (name-ok pool _ _ _ (b .is)) (b .on)
+
+-- an end transition after a start and before end of time is finite
+end-finite : (m : ℕ) → Moment m → 0 < m → m < endOfTime → Finite m
+end-finite m (inl x) a b = absurd (omega arith)
+end-finite m (inr (inl x)) a b = absurd (omega arith)
+end-finite m (inr (inr x)) a b = x
+
+module _ (pool id : ℕ) (is : List Interval) (list : ListOk pool is) (end : ℕ) (moment : Moment end) (z : Zone) (q : List ℕ) where
+  tailed-whole : (s : List ℕ) → both (ltb (behind startOf endOfTime is) end) (ltb end endOfTime) ≡ true → parseTailed pool id is end s ≡ got z q
+      → Whole pool id z q
+  unfolding parseTailed afterTail
+  tailed-whole s h e =
+      let l : behind startOf endOfTime is < end = ltb-true _ _ (both-left (ltb (behind startOf endOfTime is) end) _ h) in
+      let r : end < endOfTime = ltb-true _ _ (both-right (ltb (behind startOf endOfTime is) end) _ h) in
+      let f : Finite end = end-finite end moment (omega arith) r in
+      let a = bind-good (parseTail pool end s) (afterTail id is end) z q e in
+      zone-whole pool id (listed is end (tailed (a .first))) (a .rest) z q (list, (l, f, tail-sound pool end _ _ _ f (a .is))) (a .on)
+
+  byte-whole : (b : ℕ) (s : List ℕ) → afterTailByte pool id is end b s ≡ got z q → Whole pool id z q
+  unfolding afterTailByte
+  byte-whole b s e = go (eqb b 0) (eqb b 1) e
+    where
+      go : (t u : Bool)
+          → pick t (pick (eqb end endOfTime) (zoneOf id (listed is end untailed) s) (bad 10))
+          (pick u (pick (both (ltb (behind startOf endOfTime is) end) (ltb end endOfTime)) (parseTailed pool id is end s) (bad 10)) (bad 9))
+          ≡ got z q
+          → Whole pool id z q
+      go true u k =
+          let a = pick-good (eqb end endOfTime) (zoneOf id (listed is end untailed) s) 10 z q k in
+          zone-whole pool id (listed is end untailed) s z q (list, eqb-true end endOfTime (a .0)) (a .1)
+      go false true k =
+          let a = pick-good (both (ltb (behind startOf endOfTime is) end) (ltb end endOfTime)) (parseTailed pool id is end s) 10 z q k in
+          tailed-whole s (a .0) (a .1)
+      go false false k = bad-got k
+
+listed-whole : (pool id : ℕ) (s : List ℕ) (z : Zone) (q : List ℕ) → parseListed pool id s ≡ got z q → Whole pool id z q
+unfolding parseListed afterCount afterIntervals afterEnd
+listed-whole pool id s z q e =
+    let a = bind-good (parse readCount s) (afterCount pool id) z q e in
+    let n : ℕ = a .first in
+    let many-of : Parsed (List Interval) = many (parseInterval pool) startOf n endOfTime (a .rest) in
+    let b = pick-bad (eqb n 0) (pick (ltb 4096 n) (bad 4) (bind many-of (afterIntervals pool id))) 10 z q (a .on) in
+    let c = pick-bad (ltb 4096 n) (bind many-of (afterIntervals pool id)) 4 z q (b .1) in
+    let d = bind-good many-of (afterIntervals pool id) z q (c .1) in
+    let is : List Interval = d .first in
+    let f = bind-good (parse (readMoment (behind startOf endOfTime is)) (d .rest)) (afterEnd pool id is) z q (d .on) in
+    let g = bind-good (parseByte (f .rest)) (afterTailByte pool id is (f .first)) z q (f .on) in
+    byte-whole pool id is (list-sound pool n _ is _ (eqb-false n 0 (b .0)) (d .is)) (f .first) (moment-is _ _ _ _ (f .is)) z q (g .first) (g .rest) (g .on)
+
+-- the content of every zone that is read is sound, and nothing is left over
+pub zone-sound : (pool : ℕ) (s : List ℕ) (z : Zone) (q : List ℕ) → parseZone pool s ≡ got z q → Sound pool z × (q ≡ [])
+unfolding parseZone afterId afterFlag
+zone-sound pool s z q e =
+    let a = bind-good (parseName pool s) (afterId pool) z q e in
+    let id : ℕ = a .first in
+    let b = bind-good (parseByte (a .rest)) (afterFlag pool id) z q (a .on) in
+    let w = go id (b .rest) (eqb (b .first) 1) (eqb (b .first) 2) (b .on) in
+    (record { id-ok = rw (w .id-is) (name-ok pool _ _ _ (a .is)); body-ok = w .body-ok }, w .ends)
+  where
+    go : (id : ℕ) (r : List ℕ) (t u : Bool) → pick t (parseFixed pool id r) (pick u (parseListed pool id r) (bad 9)) ≡ got z q → Whole pool id z q
+    go id r true u k = fixed-whole pool id r z q k
+    go id r false true k = listed-whole pool id r z q k
+    go id r false false k = bad-got k

@@ -1,0 +1,6 @@
+pub mod Content
+pub mod Parse
+pub mod Sound
+pub mod Intervals
+pub mod Lookup
+pub mod View

@@ -1,0 +1,246 @@
+// The data of field 1, a zone: its check, and the interval that holds an instant. One walk from front to back keeps what an instant
+// needs; nothing is copied.
+use base::Read;
+use intervals::Interval;
+use intervals::Scan;
+use intervals::ScanRead;
+use tails::NamedTail;
+use tails::TailRead;
+ghost use mathlib.Core.Path.{_≡_};
+ghost use Prim.Native.Nat.{ℕ, _≤_};
+ghost use lib.ListN.{length, drop};
+ghost use Rattle.base.specs.Moment.{Finite};
+ghost use Rattle.recurrence.specs.Tails.{TailOk};
+ghost use Rattle.zones.specs.Parse.{parseTailed, afterTailByte, afterIntervals, parseListed, parseFixed, parseZone};
+ghost use Rattle.zones.specs.Lookup.{verdictOf, answerOf, inTail};
+ghost use Rattle.zones.specs.View.{ReadsAs, ReadsAny, heldUntil, readOf};
+
+// The mark end of time, as a moment.
+const END: u64 = 3281606784000000000;
+
+// The interval that holds an instant: offsets with 86,400,000 added, the name's pool number, start and end as moments.
+pub struct Found {
+    pub wall: u64,
+    pub savings: u64,
+    pub name: u64,
+    pub start: u64,
+    pub end: u64,
+}
+
+// A well-formed zone's ID, or a refusal's number.
+pub enum Verdict {
+    Good(u64),
+    Refused(u8),
+}
+
+pub enum Answer {
+    In(Found),
+    Refused(u8),
+}
+
+// A whole zone, with what an instant needs of it.
+pub enum ZoneRead {
+    Fixed(u64, u64, u64),
+    Listed(u64, Scan),
+    Tailed(u64, Scan, NamedTail),
+    Refused(u8),
+}
+
+// What stands behind the end transition of a zone with a tail.
+fn read_tailed(s: &[u8], at: usize, pool: u64, id: u64, c: Scan, end: u64) -> ZoneRead
+    requires { ⌜ at ≤ length (now s) ⌝ }
+    ensures { λ r. ⌜ ReadsAs (λ is. parseTailed pool id is end (drop at (now (s .entry)))) c r ⌝ }
+{
+    match tails::read_tail(s, at, pool, end) {
+        TailRead::Refused(k) => ZoneRead::Refused(k),
+        TailRead::Got(n, e) => {
+            if e < s.len() {
+                return ZoneRead::Refused(9);
+            }
+            ZoneRead::Tailed(id, c, n)
+        }
+    }
+}
+
+// The tail byte b is judged, then the end transition.
+fn read_ending(s: &[u8], at: usize, pool: u64, id: u64, c: Scan, end: u64, b: u64) -> ZoneRead
+    requires { ⌜ at ≤ length (now s) ⌝ }
+    ensures { λ r. ⌜ ReadsAs (λ is. afterTailByte pool id is end b (drop at (now (s .entry)))) c r ⌝ }
+{
+    if b == 0 {
+        if end == END {
+            if at < s.len() {
+                return ZoneRead::Refused(9);
+            }
+            return ZoneRead::Listed(id, c);
+        }
+        return ZoneRead::Refused(10);
+    }
+    if b == 1 {
+        if c.last < end {
+            if end < END {
+                return read_tailed(s, at, pool, id, c, end);
+            }
+        }
+        return ZoneRead::Refused(10);
+    }
+    ZoneRead::Refused(9)
+}
+
+// What stands behind the intervals that c stands for.
+fn read_end(s: &[u8], at: usize, pool: u64, id: u64, c: Scan) -> ZoneRead
+    requires { ⌜ at ≤ length (now s) ⌝ }
+    ensures { λ r. ⌜ ReadsAs (λ is. afterIntervals pool id is (drop at (now (s .entry)))) c r ⌝ }
+{
+    match places::moment_at(s, at, c.last) {
+        Read::Refused(k) => ZoneRead::Refused(k),
+        Read::Value(end, a) => match places::byte_at(s, a) {
+            Read::Refused(k) => ZoneRead::Refused(k),
+            Read::Value(b, e) => read_ending(s, e, pool, id, c, end, b),
+        },
+    }
+}
+
+fn read_listed(s: &[u8], at: usize, pool: u64, id: u64, t: u64) -> ZoneRead
+    requires { ⌜ at ≤ length (now s) ⌝ }
+    ensures { λ r. ⌜ r ≡ readOf t (parseListed pool id (drop at (now (s .entry)))) ⌝ }
+{
+    match places::count_at(s, at) {
+        Read::Refused(k) => ZoneRead::Refused(k),
+        Read::Value(n, a) => {
+            if n == 0 {
+                return ZoneRead::Refused(10);
+            }
+            if 4096 < n {
+                return ZoneRead::Refused(4);
+            }
+            match intervals::read_intervals(s, a, pool, n, t) {
+                ScanRead::Refused(k) => ZoneRead::Refused(k),
+                ScanRead::Got(c, e) => read_end(s, e, pool, id, c),
+            }
+        }
+    }
+}
+
+fn read_fixed(s: &[u8], at: usize, pool: u64, id: u64) -> ZoneRead
+    requires { ⌜ at ≤ length (now s) ⌝ }
+    ensures { λ r. ⌜ ReadsAny (parseFixed pool id (drop at (now (s .entry)))) r ⌝ }
+{
+    match places::sum_at(s, at) {
+        Read::Refused(k) => ZoneRead::Refused(k),
+        Read::Value(offset, a) => match places::name_at(s, a, pool) {
+            Read::Refused(k) => ZoneRead::Refused(k),
+            Read::Value(n, e) => {
+                if e < s.len() {
+                    return ZoneRead::Refused(9);
+                }
+                ZoneRead::Fixed(id, offset, n)
+            }
+        },
+    }
+}
+
+// A whole zone; pool is the pool's count.
+fn read_zone(s: &[u8], pool: u64, t: u64) -> ZoneRead
+    ensures { λ r. ⌜ r ≡ readOf t (parseZone pool (now (s .entry))) ⌝ }
+{
+    match places::name_at(s, 0, pool) {
+        Read::Refused(k) => ZoneRead::Refused(k),
+        Read::Value(id, a) => match places::byte_at(s, a) {
+            Read::Refused(k) => ZoneRead::Refused(k),
+            Read::Value(flag, e) => {
+                if flag == 1 {
+                    return read_fixed(s, e, pool, id);
+                }
+                if flag == 2 {
+                    return read_listed(s, e, pool, id, t);
+                }
+                ZoneRead::Refused(9)
+            }
+        },
+    }
+}
+
+// The check of a zone.
+pub fn check(s: &[u8], pool: u64) -> Verdict
+    ensures { λ r. ⌜ r ≡ verdictOf (parseZone pool (now (s .entry))) ⌝ }
+{
+    match read_zone(s, pool, 0) {
+        ZoneRead::Fixed(id, _, _) => Verdict::Good(id),
+        ZoneRead::Listed(id, _) => Verdict::Good(id),
+        ZoneRead::Tailed(id, _, _) => Verdict::Good(id),
+        ZoneRead::Refused(k) => Verdict::Refused(k),
+    }
+}
+
+// A listed interval that lasts to the next start after the instant, or else to the end of the list.
+fn held_until(c: Scan, end: u64) -> Found
+    ensures { λ r. ⌜ r ≡ heldUntil c end ⌝ }
+{
+    let held = c.held;
+    if c.end < END {
+        return Found {
+            wall: held.wall,
+            savings: held.savings,
+            name: held.name,
+            start: held.start,
+            end: c.end,
+        };
+    }
+    Found {
+        wall: held.wall,
+        savings: held.savings,
+        name: held.name,
+        start: held.start,
+        end: end,
+    }
+}
+
+fn in_tail(t: u64, n: NamedTail) -> Found
+    requires { ⌜ Finite t × TailOk (n .tail) ⌝ }
+    ensures { λ r. ⌜ r ≡ inTail t n ⌝ }
+{
+    let tail = n.tail;
+    let x = recurrence::look_up(tail, t);
+    if x.daylight {
+        return Found {
+            wall: x.wall,
+            savings: x.savings,
+            name: n.daylight,
+            start: x.start,
+            end: x.end,
+        };
+    }
+    Found {
+        wall: x.wall,
+        savings: x.savings,
+        name: n.standard,
+        start: x.start,
+        end: x.end,
+    }
+}
+
+// The interval of a zone that holds the instant t, all of the zone checked.
+pub fn find(s: &[u8], pool: u64, t: u64) -> Answer
+    requires { ⌜ Finite t ⌝ }
+    ensures { λ r. ⌜ r ≡ answerOf t (parseZone pool (now (s .entry))) ⌝ }
+{
+    match read_zone(s, pool, t) {
+        ZoneRead::Refused(k) => Answer::Refused(k),
+        ZoneRead::Fixed(_, offset, n) => Answer::In(Found {
+            wall: offset,
+            savings: 86400000,
+            name: n,
+            start: 0,
+            end: END,
+        }),
+        ZoneRead::Listed(_, c) => Answer::In(held_until(c, END)),
+        ZoneRead::Tailed(_, c, n) => {
+            let tail = n.tail;
+            if t < tail.start {
+                return Answer::In(held_until(c, tail.start));
+            }
+            Answer::In(in_tail(t, n))
+        }
+    }
+}

@@ -16,17 +16,17 @@ use Rattle.base.proofs.MomentLaws.{Moment}
 use Rattle.offsets.specs.Offset.{readSum}
 use Rattle.transitions.specs.Transition.{readMoment}
 use Rattle.places.specs.Name.{parseName}
-use Rattle.places.proofs.ValueLaws.{moment-is, name-ok}
+use Rattle.places.proofs.ValueLaws.{moment-is, name-ok, sum-high}
 use Rattle.intervals.specs.declared.Interval.{Interval}
 use Rattle.intervals.specs.Interval.{intervalOf, afterWall, afterName, parseDetails, rises, afterStart, parseInterval, startOf}
-use Rattle.intervals.specs.Sound.{LaterOk, Later, ListOk}
+use Rattle.intervals.specs.Sound.{Ranged, LaterOk, Later, ListOk}
 
 pub record IntervalOk (pool prev : ℕ) (i : Interval) : Type 0 where
   pub start-ok : rises prev (i .start) ≡ true
   pub moment : Moment (i .start)
-  pub named : i .name < pool
+  pub ranged : Ranged pool i
 
-details-sound : (pool m : ℕ) (s : List ℕ) (i : Interval) (q : List ℕ) → parseDetails pool m s ≡ got i q → (m ≡ i .start) × (i .name < pool)
+details-sound : (pool m : ℕ) (s : List ℕ) (i : Interval) (q : List ℕ) → parseDetails pool m s ≡ got i q → (m ≡ i .start) × Ranged pool i
 unfolding parseDetails afterName afterWall
 details-sound pool m s i q e =
     let a = bind-good (parseName pool s) (afterName m) i q e in
@@ -34,7 +34,10 @@ details-sound pool m s i q e =
     let c = bind-good (parse readSum (b .rest)) (intervalOf m (a .first) (b .first)) i q (b .on) in
     let f : got (record { start = m; name = a .first; wall = b .first; savings = c .first }) (c .rest) ≡ got i q = c .on in
     let g : record { start = m; name = a .first; wall = b .first; savings = c .first } ≡ i = cc in
-    subst (λ (x : Interval). (m ≡ x .start) × (x .name < pool)) g (refl, name-ok pool _ _ _ (a .is))
+    subst (λ (x : Interval). (m ≡ x .start) × Ranged pool x) g (
+      refl,
+      record { name-ok = name-ok pool _ _ _ (a .is); wall-high = sum-high _ _ _ (b .is); savings-high = sum-high _ _ _ (c .is) }
+    )
 
 interval-sound : (pool prev : ℕ) (s : List ℕ) (i : Interval) (q : List ℕ) → parseInterval pool prev s ≡ got i q → IntervalOk pool prev i
 unfolding parseInterval afterStart
@@ -45,7 +48,7 @@ interval-sound pool prev s i q e =
     record {
       start-ok = subst (λ (x : ℕ). rises prev x ≡ true) (d .0) (b .0);
       moment = subst Moment (d .0) (moment-is prev _ _ _ (a .is));
-      named = d .1;
+      ranged = d .1;
     }
 
 -- a start behind another one
@@ -77,7 +80,7 @@ later-sound pool (suc n) prev s is q h e =
     let f : got (i ∷ b .first) (b .rest) ≡ got is q = b .on in
     let g : i ∷ b .first ≡ is = cc in
     subst (Later pool prev) g (
-      record { rises = p .0; finite = p .1; name-ok = o .named },
+      record { rises = p .0; finite = p .1; ranged = o .ranged },
       later-sound pool n (i .start) (a .rest) (b .first) (b .rest) (omega (arith, p .1 .high)) (b .is),
     )
 
@@ -94,4 +97,4 @@ list-sound pool (suc n) s is q h e =
     let p = first-start endOfTime (i .start) refl (o .start-ok) in
     let f : got (i ∷ b .first) (b .rest) ≡ got is q = b .on in
     let g : i ∷ b .first ≡ is = cc in
-    subst (ListOk pool) g (p, o .named, later-sound pool n (i .start) (a .rest) (b .first) (b .rest) (omega arith) (b .is))
+    subst (ListOk pool) g (p, o .ranged, later-sound pool n (i .start) (a .rest) (b .first) (b .rest) (omega arith) (b .is))

@@ -1,15 +1,21 @@
 -- What holds of the listed intervals of a well-formed zone. Assumes nothing: these are definitions.
-use Prim.Native.Nat.{ℕ, _<_}
+use Prim.Native.Nat.{ℕ, _≤_, _<_}
 use mathlib.Core.Path.{_≡_}
 use mathlib.Core.List.{List, [], _∷_}
 use Rattle.base.specs.Moment.{Finite, startOfTime}
 use Rattle.intervals.specs.declared.Interval.{Interval}
 
--- "later ones finite and strictly rising"; the name is a number of the pool
+-- the name is a number of the pool, and the offsets are inside 24 hours
+pub record Ranged (pool : ℕ) (i : Interval) : Type 0 where
+  pub name-ok : i .name < pool
+  pub wall-high : i .wall ≤ 172799999
+  pub savings-high : i .savings ≤ 172799999
+
+-- "later ones finite and strictly rising"
 pub record LaterOk (pool prev : ℕ) (i : Interval) : Type 0 where
   pub rises : prev < i .start
   pub finite : Finite (i .start)
-  pub name-ok : i .name < pool
+  pub ranged : Ranged pool i
 
 abbrev pub Later : ℕ → ℕ → List Interval → Type 0
 Later pool prev [] = Unit {0}
@@ -18,4 +24,4 @@ Later pool prev (i ∷ is) = LaterOk pool prev i × Later pool (i .start) is
 -- "The first start is start of time"; there is one interval at least
 abbrev pub ListOk : ℕ → List Interval → Type 0
 ListOk pool [] = ⊥
-ListOk pool (i ∷ is) = (i .start ≡ startOfTime) × (i .name < pool) × Later pool (i .start) is
+ListOk pool (i ∷ is) = (i .start ≡ startOfTime) × Ranged pool i × Later pool (i .start) is

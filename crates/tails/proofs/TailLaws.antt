@@ -78,6 +78,7 @@ tail-sound pool start s n q h e =
         standard-ok = y .rule-ok;
         daylight-ok = rule-sound _ _ _ (c .is);
       };
+      savings-high = sum-high _ _ _ (d .is);
       standard-ok = y .name-ok;
       daylight-ok = name-ok pool _ _ _ (b .is);
     })

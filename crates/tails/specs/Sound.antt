@@ -16,5 +16,6 @@ pub record StandardOk (pool start : ℕ) (x : Standard) : Type 0 where
 pub record NamedTailOk (pool start : ℕ) (n : NamedTail) : Type 0 where
   pub starts : n .tail .start ≡ start
   pub tail-ok : TailOk (n .tail)
+  pub savings-high : n .tail .savings ≤ 172799999
   pub standard-ok : n .standard < pool
   pub daylight-ok : n .daylight < pool

@@ -17,7 +17,7 @@ use Rattle.counts.specs.Count.{readCount}
 use Rattle.offsets.specs.Offset.{readSum}
 use Rattle.transitions.specs.Transition.{readMoment}
 use Rattle.places.specs.Name.{parseName}
-use Rattle.places.proofs.ValueLaws.{moment-is, name-ok}
+use Rattle.places.proofs.ValueLaws.{moment-is, name-ok, sum-high}
 use Rattle.intervals.specs.declared.Interval.{Interval}
 use Rattle.intervals.specs.Interval.{parseInterval, startOf}
 use Rattle.intervals.specs.Sound.{ListOk}
@@ -46,7 +46,7 @@ unfolding parseFixed afterFixedOffset
 fixed-whole pool id s z q e =
     let a = bind-good (parse readSum s) (afterFixedOffset pool id) z q e in
     let b = bind-good (parseName pool (a .rest)) (fixedOf id (a .first)) z q (a .on) in
-    zone-whole pool id (fixed (a .first) (b .first)) (b .rest) z q (name-ok pool _ _ _ (b .is)) (b .on)
+    zone-whole pool id (fixed (a .first) (b .first)) (b .rest) z q (sum-high _ _ _ (a .is), name-ok pool _ _ _ (b .is)) (b .on)
 
 -- an end transition after a start and before end of time is finite
 end-finite : (m : ℕ) → Moment m → 0 < m → m < endOfTime → Finite m

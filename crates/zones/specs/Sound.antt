@@ -1,5 +1,5 @@
 -- What holds of the content of a well-formed zone. Assumes nothing: these are definitions.
-use Prim.Native.Nat.{ℕ, _<_}
+use Prim.Native.Nat.{ℕ, _≤_, _<_}
 use mathlib.Core.Path.{_≡_}
 use mathlib.Core.List.{List}
 use Rattle.base.specs.Parsed.{behind}
@@ -8,6 +8,7 @@ use Rattle.intervals.specs.declared.Interval.{Interval}
 use Rattle.intervals.specs.Interval.{startOf}
 use Rattle.intervals.specs.Sound.{ListOk}
 use Rattle.tails.specs.Sound.{NamedTailOk}
+use Rattle.zones.specs.declared.Found.{Found}
 use Rattle.zones.specs.Content.{Ending, untailed, tailed, Body, fixed, listed, Zone}
 
 -- "Without a tail the end is end of time; with one it is finite and after the last start"
@@ -16,10 +17,16 @@ EndOk pool is end untailed = end ≡ endOfTime
 EndOk pool is end (tailed n) = (behind startOf endOfTime is < end) × Finite end × NamedTailOk pool end n
 
 abbrev pub BodyOk : ℕ → Body → Type 0
-BodyOk pool (fixed offset n) = n < pool
+BodyOk pool (fixed offset n) = (offset ≤ 172799999) × (n < pool)
 BodyOk pool (listed is end e) = ListOk pool is × EndOk pool is end e
 
 -- pool is the pool's count
 pub record Sound (pool : ℕ) (z : Zone) : Type 0 where
   pub id-ok : z .id < pool
   pub body-ok : BodyOk pool (z .body)
+
+-- an answer's name is a number of the pool, and its offsets are inside 24 hours
+pub record FoundOk (pool : ℕ) (x : Found) : Type 0 where
+  pub name-ok : x .name < pool
+  pub wall-high : x .wall < 172800000
+  pub savings-high : x .savings < 172800000

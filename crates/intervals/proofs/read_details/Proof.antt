@@ -1,7 +1,7 @@
-use mathlib.Core.Path.{refl, sym, ap, _∙_}
+use mathlib.Core.Path.{refl, ap, _∙_}
 use Rattle.places.specs.Placed.{ofRead}
-use Rattle.places.proofs.PlaceLaws.{then-in, on, off, stands-if, stands-else, refuse, here}
-use Rattle.intervals.specs.Interval.{afterWall, afterName, parseDetails, afterStart, parseInterval}
+use Rattle.places.proofs.PlaceLaws.{then-in, on, off, here}
+use Rattle.intervals.specs.Interval.{afterWall, afterName, parseDetails}
 use borrow.Author.Needs.{needs}
 use Rattle.intervals.proofs.read_details.Statement.{statement}
 use Rattle.intervals.proofs.read_details.Tie as tie
@@ -18,15 +18,29 @@ returns c = off (c .before .before .before .name-at .ensures) _ _ (ap ofRead (c 
 
 returns-2 : tie.Need-returns-2
 unfolding parseDetails afterName
-returns-2 c = on (c .before .before .before .before .before .before .before .name-at .ensures) _ _ _ _ (ap ofRead (c .before .before .before .before .before .n .given .1)) (off (c .before .before .before .sum-at .ensures) _ _ (ap ofRead (c .before .k2 .given .1)))
+returns-2 c =
+    on (c .before .before .before .before .before .before .before .name-at .ensures) _ _ _ _
+    (ap ofRead (c .before .before .before .before .before .n .given .1))
+    (off (c .before .before .before .sum-at .ensures) _ _ (ap ofRead (c .before .k2 .given .1)))
 
 returns-3 : tie.Need-returns-3
 unfolding parseDetails afterName afterWall
-returns-3 c = on (c .before .before .before .before .before .before .before .before .before .before .before .name-at .ensures) _ _ _ _ (ap ofRead (c .before .before .before .before .before .before .before .before .before .n .given .1)) (on (c .before .before .before .before .before .before .before .sum-at .ensures) _ _ _ _ (ap ofRead (c .before .before .before .before .before .w .given .1)) (off (c .before .before .before .sum-at2 .ensures) _ _ (ap ofRead (c .before .k3 .given .1))))
+returns-3 c =
+    on (c .before .before .before .before .before .before .before .before .before .before .before .name-at .ensures) _ _ _ _
+    (ap ofRead (c .before .before .before .before .before .before .before .before .before .n .given .1))
+    (on (c .before .before .before .before .before .before .before .sum-at .ensures) _ _ _ _
+    (ap ofRead (c .before .before .before .before .before .w .given .1))
+    (off (c .before .before .before .sum-at2 .ensures) _ _ (ap ofRead (c .before .k3 .given .1))))
 
 returns-4 : tie.Need-returns-4
 unfolding parseDetails afterName afterWall
-returns-4 c = on (c .before .before .before .before .before .before .before .before .before .before .before .name-at .ensures) _ _ _ _ (ap ofRead (c .before .before .before .before .before .before .before .before .before .n .given .1)) (on (c .before .before .before .before .before .before .before .sum-at .ensures) _ _ _ _ (ap ofRead (c .before .before .before .before .before .w .given .1)) (on (c .before .before .before .sum-at2 .ensures) _ _ _ _ (ap ofRead (c .before .v .given .1)) (here _ _ _ _ refl (then-in (c .before .before .before .sum-at2 .ensures) _ _ (ap ofRead (c .before .v .given .1))))))
+returns-4 c =
+    on (c .before .before .before .before .before .before .before .before .before .before .before .name-at .ensures) _ _ _ _
+    (ap ofRead (c .before .before .before .before .before .before .before .before .before .n .given .1))
+    (on (c .before .before .before .before .before .before .before .sum-at .ensures) _ _ _ _
+    (ap ofRead (c .before .before .before .before .before .w .given .1))
+    (on (c .before .before .before .sum-at2 .ensures) _ _ _ _ (ap ofRead (c .before .v .given .1))
+    (here _ _ _ _ refl (then-in (c .before .before .before .sum-at2 .ensures) _ _ (ap ofRead (c .before .v .given .1))))))
 
 pub read-details-spec : {M : Type 1} → statement M
 read-details-spec =

@@ -1,17 +1,21 @@
-use mathlib.Core.Path.{refl, sym, ap, _∙_}
+use mathlib.Core.Path.{sym, ap, _∙_}
 use Rattle.places.specs.Placed.{ofRead}
-use Rattle.places.proofs.PlaceLaws.{then-in, on, off, stands-if, stands-else, refuse, here}
-use Rattle.intervals.specs.Interval.{afterWall, afterName, parseDetails, afterStart, parseInterval}
+use Rattle.places.proofs.PlaceLaws.{then-in, on, off, stands-if, stands-else, refuse}
+use Rattle.intervals.specs.Interval.{afterStart, parseInterval}
 use borrow.Author.Needs.{needs}
 use Rattle.intervals.proofs.read_interval.Statement.{statement}
 use Rattle.intervals.proofs.read_interval.Tie as tie
 
 read-details-requires : tie.Need-read-details-requires
-read-details-requires c κs = then-in (c .before .before .before .before .before .moment-at .ensures) _ _ (ap ofRead (c .before .before .before .m .given .1))
+read-details-requires c κs =
+    then-in (c .before .before .before .before .before .moment-at .ensures) _ _ (ap ofRead (c .before .before .before .m .given .1))
 
 returns : tie.Need-returns
 unfolding parseInterval afterStart
-returns c = on (c .before .before .before .before .before .before .moment-at .ensures) _ _ _ _ (ap ofRead (c .before .before .before .before .m .given .1)) (stands-if _ _ _ _ _ (sym (c .before .before .rises .ensures) ∙ c .before .if1 .taken) (c .read-details .ensures))
+returns c =
+    on (c .before .before .before .before .before .before .moment-at .ensures) _ _ _ _
+    (ap ofRead (c .before .before .before .before .m .given .1))
+    (stands-if _ _ _ _ _ (sym (c .before .before .rises .ensures) ∙ c .before .if1 .taken) (c .read-details .ensures))
 
 returns-2 : tie.Need-returns-2
 unfolding parseInterval
@@ -19,7 +23,9 @@ returns-2 c = off (c .before .before .before .moment-at .ensures) _ _ (ap ofRead
 
 returns-3 : tie.Need-returns-3
 unfolding parseInterval afterStart
-returns-3 c = on (c .before .before .before .before .before .moment-at .ensures) _ _ _ _ (ap ofRead (c .before .before .before .m .given .1)) (stands-else _ _ _ _ _ (sym (c .before .rises .ensures) ∙ c .if1 .left) (refuse _ 10))
+returns-3 c =
+    on (c .before .before .before .before .before .moment-at .ensures) _ _ _ _ (ap ofRead (c .before .before .before .m .given .1))
+    (stands-else _ _ _ _ _ (sym (c .before .rises .ensures) ∙ c .if1 .left) (refuse _ 10))
 
 pub read-interval-spec : {M : Type 1} → statement M
 read-interval-spec =

@@ -1,8 +1,7 @@
 use borrow.Author.Needs.{needs}
 use Rattle.places.proofs.PlaceLaws.{stands-is}
 use native.Mathlib.Omega.{arith}
-use mathlib.Core.Path.{sym, ap, _∙_}
-use Rattle.places.specs.Placed.{Stands}
+use mathlib.Core.Path.{ap, _∙_}
 use Rattle.intervals.specs.Scan.{ofInterval}
 use Rattle.intervals.proofs.ScanLaws.{Scanning, scanning-start, scanning-in, scanning-bad, scanning-next, scanning-done}
 use Rattle.intervals.proofs.read_intervals.Statement.{statement}
@@ -21,7 +20,9 @@ read-interval-requires : tie.Need-read-interval-requires Inv-loop μ-loop
 read-interval-requires c κs = scanning-in _ _ _ _ _ _ _ _ (c .before .loop .inv)
 
 returns : tie.Need-returns Inv-loop μ-loop
-returns c = scanning-bad _ _ _ _ _ _ _ _ (c .before .before .before .before .before .loop .inv) (omega arith) _ (stands-is (c .before .before .before .read-interval .ensures) (ap ofInterval (c .before .item .given .1)))
+returns c =
+    scanning-bad _ _ _ _ _ _ _ _ (c .before .before .before .before .before .loop .inv) (omega arith) _
+    (stands-is (c .before .before .before .read-interval .ensures) (ap ofInterval (c .before .item .given .1)))
 
 sub-left : tie.Need-sub-left Inv-loop μ-loop
 sub-left c = omega arith
@@ -30,7 +31,10 @@ loop-less : tie.Need-loop-less Inv-loop μ-loop
 loop-less c = omega arith
 
 loop-again : tie.Need-loop-again Inv-loop μ-loop
-loop-again c = rw (c .advance .ensures) (scanning-next _ _ _ _ _ _ _ _ (c .before .before .before .before .before .before .loop .inv) (omega arith) _ _ (stands-is (c .before .before .before .before .read-interval .ensures) (ap ofInterval (c .before .before .item2 .given .1))))
+loop-again c =
+    rw (c .advance .ensures)
+    (scanning-next _ _ _ _ _ _ _ _ (c .before .before .before .before .before .before .loop .inv) (omega arith) _ _
+    (stands-is (c .before .before .before .before .read-interval .ensures) (ap ofInterval (c .before .before .item2 .given .1))))
 
 returns-2 : tie.Need-returns-2 Inv-loop μ-loop
 returns-2 c = scanning-done _ _ _ _ _ _ _ _ (c .before .loop .inv) (omega arith)

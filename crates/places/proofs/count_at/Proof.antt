@@ -10,14 +10,23 @@ use Rattle.places.proofs.count_at.Statement.{statement}
 use Rattle.places.proofs.count_at.Tie as tie
 
 add-t12 : tie.Need-add-t12
-add-t12 c = let w : c .before .before .before .before .before .before .args .at + c .before .v .given .0 .1 .0 ≤ length (now (c .before .before .before .before .before .before .args .s)) = code-in readCount (λ s v n e. counted s e .within) (now (c .before .before .before .before .before .before .args .s)) _ (c .before .before .before .before .before .before .pre) _ (c .before .before .before .read-count .ensures) _ _ (c .before .v .given .1) in
+add-t12 c =
+    let w : c .before .before .before .before .before .before .args .at + c .before .v .given .0 .1 .0
+    ≤ length (now (c .before .before .before .before .before .before .args .s)) =
+    code-in readCount (λ s v n e. counted s e .within) (now (c .before .before .before .before .before .before .args .s))
+    _ (c .before .before .before .before .before .before .pre) _ (c .before .before .before .read-count .ensures) _ _
+    (c .before .v .given .1) in
     omega arith
 
 returns : tie.Need-returns
-returns c = code-at readCount (λ s v n e. counted s e .within) _ _ (c .before .before .before .before .before .before .pre) _ (c .before .before .before .read-count .ensures) _ _ (c .before .v .given .1)
+returns c =
+    code-at readCount (λ s v n e. counted s e .within) _ _ (c .before .before .before .before .before .before .pre) _
+    (c .before .before .before .read-count .ensures) _ _ (c .before .v .given .1)
 
 returns-2 : tie.Need-returns-2
-returns-2 c = code-no readCount (λ s v n e. counted s e .within) _ _ (c .before .before .before .before .before .before .pre) _ (c .before .before .before .read-count .ensures) _ (c .before .k .given .1)
+returns-2 c =
+    code-no readCount (λ s v n e. counted s e .within) _ _ (c .before .before .before .before .before .before .pre) _
+    (c .before .before .before .read-count .ensures) _ (c .before .k .given .1)
 
 pub count-at-spec : {M : Type 1} → statement M
 count-at-spec =

@@ -10,14 +10,24 @@ use Rattle.places.proofs.zigzag_at.Statement.{statement}
 use Rattle.places.proofs.zigzag_at.Tie as tie
 
 add-t12 : tie.Need-add-t12
-add-t12 c = let w : c .before .before .before .before .before .before .args .at + c .before .v .given .0 .1 .0 ≤ length (now (c .before .before .before .before .before .before .args .s)) = code-in readZigzag (λ s v n e. group 4 15 s e .within) (now (c .before .before .before .before .before .before .args .s)) _ (c .before .before .before .before .before .before .pre) _ (c .before .before .before .read-groups .ensures) _ _ (c .before .v .given .1) in
+add-t12 c =
+    let w : c .before .before .before .before .before .before .args .at + c .before .v .given .0 .1 .0
+    ≤ length (now (c .before .before .before .before .before .before .args .s)) =
+    code-in readZigzag (λ s v n e. group 4 15 s e .within)
+    (now (c .before .before .before .before .before .before .args .s)) _
+    (c .before .before .before .before .before .before .pre) _ (c .before .before .before .read-groups .ensures) _ _
+    (c .before .v .given .1) in
     omega arith
 
 returns : tie.Need-returns
-returns c = code-at readZigzag (λ s v n e. group 4 15 s e .within) _ _ (c .before .before .before .before .before .before .pre) _ (c .before .before .before .read-groups .ensures) _ _ (c .before .v .given .1)
+returns c =
+    code-at readZigzag (λ s v n e. group 4 15 s e .within) _ _ (c .before .before .before .before .before .before .pre) _
+    (c .before .before .before .read-groups .ensures) _ _ (c .before .v .given .1)
 
 returns-2 : tie.Need-returns-2
-returns-2 c = code-no readZigzag (λ s v n e. group 4 15 s e .within) _ _ (c .before .before .before .before .before .before .pre) _ (c .before .before .before .read-groups .ensures) _ (c .before .k .given .1)
+returns-2 c =
+    code-no readZigzag (λ s v n e. group 4 15 s e .within) _ _ (c .before .before .before .before .before .before .pre) _
+    (c .before .before .before .read-groups .ensures) _ (c .before .k .given .1)
 
 pub zigzag-at-spec : {M : Type 1} → statement M
 zigzag-at-spec =

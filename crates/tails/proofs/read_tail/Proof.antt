@@ -1,15 +1,18 @@
 use Rattle.tails.proofs.TailLaws.{standard-high}
-use mathlib.Core.Path.{refl, sym, ap, _∙_}
-use Rattle.places.specs.Placed.{ofRead}
-use Rattle.places.proofs.PlaceLaws.{then-in, on, off, stands-if, stands-else, refuse, here}
-use Rattle.tails.specs.View.{ofRule, ofStandard}
-use Rattle.tails.specs.Tail.{afterStandardName, afterOffset, parseStandard, afterSavings, parseSavings, afterDaylightName, parseDaylight, parseTail}
+use mathlib.Core.Path.{ap, _∙_}
+use Rattle.places.proofs.PlaceLaws.{then-in, on, off}
+use Rattle.tails.specs.View.{ofStandard}
+use Rattle.tails.specs.Tail.{parseTail}
 use borrow.Author.Needs.{needs}
 use Rattle.tails.proofs.read_tail.Statement.{statement}
 use Rattle.tails.proofs.read_tail.Tie as tie
 
 read-daylight-requires : tie.Need-read-daylight-requires
-read-daylight-requires c κs = (then-in (c .before .before .before .read-standard .ensures) _ _ (ap ofStandard (c .before .x .given .1)), standard-high _ _ _ _ (c .before .before .before .read-standard .ensures) _ _ (ap ofStandard (c .before .x .given .1)))
+read-daylight-requires c κs = (
+  then-in (c .before .before .before .read-standard .ensures) _ _ (ap ofStandard (c .before .x .given .1)),
+  standard-high _ _ _ _
+      (c .before .before .before .read-standard .ensures) _ _ (ap ofStandard (c .before .x .given .1)),
+)
 
 returns : tie.Need-returns
 unfolding parseTail
@@ -17,7 +20,9 @@ returns c = off (c .before .before .before .read-standard .ensures) _ _ (ap ofSt
 
 returns-2 : tie.Need-returns-2
 unfolding parseTail
-returns-2 c = on (c .before .before .before .before .read-standard .ensures) _ _ _ _ (ap ofStandard (c .before .before .x .given .1)) (c .read-daylight .ensures)
+returns-2 c =
+    on (c .before .before .before .before .read-standard .ensures) _ _ _ _ (ap ofStandard (c .before .before .x .given .1))
+    (c .read-daylight .ensures)
 
 pub read-tail-spec : {M : Type 1} → statement M
 read-tail-spec =

@@ -1,5 +1,5 @@
 use Rattle.zones.proofs.ReadLaws.{verdict-is}
-use mathlib.Core.Path.{sym, ap, _∙_}
+use mathlib.Core.Path.{sym, _∙_}
 use borrow.Author.Needs.{needs}
 use Rattle.zones.proofs.check.Statement.{statement}
 use Rattle.zones.proofs.check.Tie as tie

@@ -1,4 +1,4 @@
-use mathlib.Core.Path.{refl, sym, ap, _∙_}
+use mathlib.Core.Path.{ap, _∙_}
 use Rattle.places.specs.Placed.{ofRead}
 use Rattle.places.proofs.PlaceLaws.{then-in, then-got, then-bad}
 use Rattle.zones.specs.Parse.{afterEnd}
@@ -14,15 +14,29 @@ read-ending-requires : tie.Need-read-ending-requires
 read-ending-requires c κs = then-in (c .before .before .before .byte-at .ensures) _ _ (ap ofRead (c .before .b .given .1))
 
 returns : tie.Need-returns
-returns c = as-bad _ _ _ (λ is l. after-last _ _ is _ _ l ∙ then-bad (c .before .before .before .moment-at .ensures) _ _ (ap ofRead (c .before .k .given .1)))
+returns c =
+    as-bad _ _ _
+    (λ is l. after-last _ _ is _ _ l ∙
+    then-bad (c .before .before .before .moment-at .ensures) _ _ (ap ofRead (c .before .k .given .1)))
 
 returns-2 : tie.Need-returns-2
 unfolding afterEnd
-returns-2 c = as-bad _ _ _ (λ is l. after-last _ _ is _ _ l ∙ then-got (c .before .before .before .before .before .before .before .moment-at .ensures) _ _ _ (ap ofRead (c .before .before .before .before .before .end .given .1)) ∙ then-bad (c .before .before .before .byte-at .ensures) _ _ (ap ofRead (c .before .k2 .given .1)))
+returns-2 c =
+    as-bad _ _ _
+    (λ is l. after-last _ _ is _ _ l ∙
+    then-got (c .before .before .before .before .before .before .before .moment-at .ensures) _ _ _
+    (ap ofRead (c .before .before .before .before .before .end .given .1)) ∙
+    then-bad (c .before .before .before .byte-at .ensures) _ _ (ap ofRead (c .before .k2 .given .1)))
 
 returns-3 : tie.Need-returns-3
 unfolding afterEnd
-returns-3 c = as-on _ _ _ _ (λ is l. after-last _ _ is _ _ l ∙ then-got (c .before .before .before .before .before .before .before .before .moment-at .ensures) _ _ _ (ap ofRead (c .before .before .before .before .before .before .end .given .1)) ∙ then-got (c .before .before .before .before .byte-at .ensures) _ _ _ (ap ofRead (c .before .before .b .given .1))) (c .read-ending .ensures)
+returns-3 c =
+    as-on _ _ _ _
+    (λ is l. after-last _ _ is _ _ l ∙
+    then-got (c .before .before .before .before .before .before .before .before .moment-at .ensures) _ _ _
+    (ap ofRead (c .before .before .before .before .before .before .end .given .1)) ∙
+    then-got (c .before .before .before .before .byte-at .ensures) _ _ _ (ap ofRead (c .before .before .b .given .1)))
+    (c .read-ending .ensures)
 
 pub read-end-spec : {M : Type 1} → statement M
 read-end-spec =

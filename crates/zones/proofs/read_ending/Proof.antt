@@ -1,22 +1,27 @@
-use mathlib.Core.Path.{refl, sym, ap, _∙_}
-use Rattle.places.specs.Placed.{ofRead}
-use Rattle.places.proofs.PlaceLaws.{then-in, then-got, then-bad}
+use mathlib.Core.Path.{_∙_}
 use Rattle.zones.proofs.ReadLaws.{zone-here, zone-over, as-bad, as-listed, as-on, none-kept, none-refused, tail-kept, tail-early, tail-endless, tail-unknown}
 use borrow.Author.Needs.{needs}
 use Rattle.zones.proofs.read_ending.Statement.{statement}
 use Rattle.zones.proofs.read_ending.Tie as tie
 
 returns : tie.Need-returns
-returns c = as-bad _ _ _ (λ is l. none-kept _ _ _ _ _ _ (c .before .before .if1 .taken) (c .before .if2 .taken) ∙ zone-over _ _ _ _ (c .if3 .taken))
+returns c =
+    as-bad _ _ _
+    (λ is l. none-kept _ _ _ _ _ _ (c .before .before .if1 .taken) (c .before .if2 .taken) ∙ zone-over _ _ _ _ (c .if3 .taken))
 
 returns-2 : tie.Need-returns-2
-returns-2 c = as-listed _ _ _ _ (λ is l. none-kept _ _ _ _ _ _ (c .before .before .if1 .taken) (c .before .if2 .taken) ∙ zone-here _ _ _ _ (c .if3 .left))
+returns-2 c =
+    as-listed _ _ _ _
+    (λ is l. none-kept _ _ _ _ _ _ (c .before .before .if1 .taken) (c .before .if2 .taken) ∙ zone-here _ _ _ _ (c .if3 .left))
 
 returns-3 : tie.Need-returns-3
 returns-3 c = as-bad _ _ _ (λ is l. none-refused _ _ _ _ _ _ (c .before .if1 .taken) (c .if2 .left))
 
 returns-4 : tie.Need-returns-4
-returns-4 c = as-on _ _ _ _ (λ is l. tail-kept _ _ _ _ _ _ _ l (c .before .before .before .before .if4 .taken) (c .before .before .if5 .taken) (c .before .if6 .taken)) (c .read-tailed .ensures)
+returns-4 c =
+    as-on _ _ _ _
+    (λ is l. tail-kept _ _ _ _ _ _ _ l (c .before .before .before .before .if4 .taken) (c .before .before .if5 .taken)
+    (c .before .if6 .taken)) (c .read-tailed .ensures)
 
 returns-5 : tie.Need-returns-5
 returns-5 c = as-bad _ _ _ (λ is l. tail-endless _ _ _ _ _ _ (c .before .before .before .if4 .taken) (c .if6 .left))

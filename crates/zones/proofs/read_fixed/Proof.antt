@@ -1,4 +1,4 @@
-use mathlib.Core.Path.{refl, sym, ap, _∙_}
+use mathlib.Core.Path.{ap, _∙_}
 use Rattle.places.specs.Placed.{ofRead}
 use Rattle.places.proofs.PlaceLaws.{then-in, then-got, then-bad}
 use Rattle.zones.specs.Parse.{afterFixedOffset, parseFixed}
@@ -12,7 +12,12 @@ name-at-requires c κs = then-in (c .before .before .before .sum-at .ensures) _ 
 
 returns : tie.Need-returns
 unfolding parseFixed afterFixedOffset
-returns c = any-bad _ _ (then-got (c .before .before .before .before .before .before .before .before .sum-at .ensures) _ _ _ (ap ofRead (c .before .before .before .before .before .before .offset .given .1)) ∙ then-got (c .before .before .before .before .name-at .ensures) _ _ _ (ap ofRead (c .before .before .n .given .1)) ∙ zone-over _ _ _ _ (c .if1 .taken))
+returns c =
+    any-bad _ _
+    (then-got (c .before .before .before .before .before .before .before .before .sum-at .ensures) _ _ _
+    (ap ofRead (c .before .before .before .before .before .before .offset .given .1)) ∙
+    then-got (c .before .before .before .before .name-at .ensures) _ _ _ (ap ofRead (c .before .before .n .given .1)) ∙
+    zone-over _ _ _ _ (c .if1 .taken))
 
 returns-2 : tie.Need-returns-2
 unfolding parseFixed
@@ -20,11 +25,20 @@ returns-2 c = any-bad _ _ (then-bad (c .before .before .before .sum-at .ensures)
 
 returns-3 : tie.Need-returns-3
 unfolding parseFixed afterFixedOffset
-returns-3 c = any-bad _ _ (then-got (c .before .before .before .before .before .before .before .sum-at .ensures) _ _ _ (ap ofRead (c .before .before .before .before .before .offset .given .1)) ∙ then-bad (c .before .before .before .name-at .ensures) _ _ (ap ofRead (c .before .k2 .given .1)))
+returns-3 c =
+    any-bad _ _
+    (then-got (c .before .before .before .before .before .before .before .sum-at .ensures) _ _ _
+    (ap ofRead (c .before .before .before .before .before .offset .given .1)) ∙
+    then-bad (c .before .before .before .name-at .ensures) _ _ (ap ofRead (c .before .k2 .given .1)))
 
 returns-4 : tie.Need-returns-4
 unfolding parseFixed afterFixedOffset
-returns-4 c = any-fixed _ _ _ _ _ (then-got (c .before .before .before .before .before .before .before .before .sum-at .ensures) _ _ _ (ap ofRead (c .before .before .before .before .before .before .offset .given .1)) ∙ then-got (c .before .before .before .before .name-at .ensures) _ _ _ (ap ofRead (c .before .before .n .given .1)) ∙ zone-here _ _ _ _ (c .if1 .left))
+returns-4 c =
+    any-fixed _ _ _ _ _
+    (then-got (c .before .before .before .before .before .before .before .before .sum-at .ensures) _ _ _
+    (ap ofRead (c .before .before .before .before .before .before .offset .given .1)) ∙
+    then-got (c .before .before .before .before .name-at .ensures) _ _ _ (ap ofRead (c .before .before .n .given .1)) ∙
+    zone-here _ _ _ _ (c .if1 .left))
 
 pub read-fixed-spec : {M : Type 1} → statement M
 read-fixed-spec =

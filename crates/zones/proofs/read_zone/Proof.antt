@@ -1,4 +1,4 @@
-use mathlib.Core.Path.{refl, sym, ap, _∙_}
+use mathlib.Core.Path.{ap, _∙_}
 use Rattle.places.specs.Placed.{ofRead}
 use Rattle.places.proofs.PlaceLaws.{then-in, then-got, then-bad}
 use Rattle.zones.specs.Parse.{afterId, parseZone}
@@ -15,14 +15,28 @@ read-fixed-requires c κs = then-in (c .before .before .before .before .byte-at 
 
 returns : tie.Need-returns
 unfolding parseZone afterId
-returns c = read-on _ _ _ _ (then-got (c .before .before .before .before .before .before .before .before .before .name-at .ensures) _ _ _ (ap ofRead (c .before .before .before .before .before .before .before .id .given .1)) ∙ then-got (c .before .before .before .before .before .byte-at .ensures) _ _ _ (ap ofRead (c .before .before .before .flag .given .1)) ∙ flag-fixed _ _ _ _ (c .before .if1 .taken)) (c .read-fixed .ensures .means _)
+returns c =
+    read-on _ _ _ _
+    (then-got (c .before .before .before .before .before .before .before .before .before .name-at .ensures) _ _ _
+    (ap ofRead (c .before .before .before .before .before .before .before .id .given .1)) ∙
+    then-got (c .before .before .before .before .before .byte-at .ensures) _ _ _
+    (ap ofRead (c .before .before .before .flag .given .1)) ∙ flag-fixed _ _ _ _ (c .before .if1 .taken))
+    (c .read-fixed .ensures .means _)
 
 read-listed-requires : tie.Need-read-listed-requires
-read-listed-requires c κs = then-in (c .before .before .before .before .before .byte-at .ensures) _ _ (ap ofRead (c .before .before .before .flag .given .1))
+read-listed-requires c κs =
+    then-in (c .before .before .before .before .before .byte-at .ensures) _ _
+    (ap ofRead (c .before .before .before .flag .given .1))
 
 returns-2 : tie.Need-returns-2
 unfolding parseZone afterId
-returns-2 c = read-on _ _ _ _ (then-got (c .before .before .before .before .before .before .before .before .before .before .name-at .ensures) _ _ _ (ap ofRead (c .before .before .before .before .before .before .before .before .id .given .1)) ∙ then-got (c .before .before .before .before .before .before .byte-at .ensures) _ _ _ (ap ofRead (c .before .before .before .before .flag .given .1)) ∙ flag-listed _ _ _ _ (c .before .before .if1 .left) (c .before .if2 .taken)) (c .read-listed .ensures)
+returns-2 c =
+    read-on _ _ _ _
+    (then-got (c .before .before .before .before .before .before .before .before .before .before .name-at .ensures) _ _ _
+    (ap ofRead (c .before .before .before .before .before .before .before .before .id .given .1)) ∙
+    then-got (c .before .before .before .before .before .before .byte-at .ensures) _ _ _
+    (ap ofRead (c .before .before .before .before .flag .given .1)) ∙
+    flag-listed _ _ _ _ (c .before .before .if1 .left) (c .before .if2 .taken)) (c .read-listed .ensures)
 
 returns-3 : tie.Need-returns-3
 unfolding parseZone
@@ -30,11 +44,20 @@ returns-3 c = read-bad _ _ _ (then-bad (c .before .before .before .name-at .ensu
 
 returns-4 : tie.Need-returns-4
 unfolding parseZone afterId
-returns-4 c = read-bad _ _ _ (then-got (c .before .before .before .before .before .before .before .name-at .ensures) _ _ _ (ap ofRead (c .before .before .before .before .before .id .given .1)) ∙ then-bad (c .before .before .before .byte-at .ensures) _ _ (ap ofRead (c .before .k2 .given .1)))
+returns-4 c =
+    read-bad _ _ _
+    (then-got (c .before .before .before .before .before .before .before .name-at .ensures) _ _ _
+    (ap ofRead (c .before .before .before .before .before .id .given .1)) ∙
+    then-bad (c .before .before .before .byte-at .ensures) _ _ (ap ofRead (c .before .k2 .given .1)))
 
 returns-5 : tie.Need-returns-5
 unfolding parseZone afterId
-returns-5 c = read-bad _ _ _ (then-got (c .before .before .before .before .before .before .before .before .before .name-at .ensures) _ _ _ (ap ofRead (c .before .before .before .before .before .before .before .id .given .1)) ∙ then-got (c .before .before .before .before .before .byte-at .ensures) _ _ _ (ap ofRead (c .before .before .before .flag .given .1)) ∙ flag-unknown _ _ _ _ (c .before .if1 .left) (c .if2 .left))
+returns-5 c =
+    read-bad _ _ _
+    (then-got (c .before .before .before .before .before .before .before .before .before .name-at .ensures) _ _ _
+    (ap ofRead (c .before .before .before .before .before .before .before .id .given .1)) ∙
+    then-got (c .before .before .before .before .before .byte-at .ensures) _ _ _
+    (ap ofRead (c .before .before .before .flag .given .1)) ∙ flag-unknown _ _ _ _ (c .before .if1 .left) (c .if2 .left))
 
 pub read-zone-spec : {M : Type 1} → statement M
 read-zone-spec =

@@ -36,7 +36,7 @@ details-sound pool m s i q e =
     let g : record { start = m; name = a .first; wall = b .first; savings = c .first } ≡ i = cc in
     subst (λ (x : Interval). (m ≡ x .start) × Ranged pool x) g (
       refl,
-      record { name-ok = name-ok pool _ _ _ (a .is); wall-high = sum-high _ _ _ (b .is); savings-high = sum-high _ _ _ (c .is) }
+      record { name-ok = name-ok pool _ _ _ (a .is); wall-high = sum-high _ _ _ (b .is); savings-high = sum-high _ _ _ (c .is) },
     )
 
 interval-sound : (pool prev : ℕ) (s : List ℕ) (i : Interval) (q : List ℕ) → parseInterval pool prev s ≡ got i q → IntervalOk pool prev i

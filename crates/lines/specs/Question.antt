@@ -24,6 +24,7 @@ ticksOf false v = pick (ltb v (2 ^ 63)) (pos v) pastRange
 ticksOf true zero = pos 0
 ticksOf true (suc v) = pick (ltb v (2 ^ 63)) (negsuc v) pastRange
 
+-- the same bytes
 unfoldable pub same : List ℕ → List ℕ → Bool
 same [] [] = true
 same [] (b ∷ t) = false

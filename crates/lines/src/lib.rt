@@ -11,6 +11,9 @@ ghost use Rattle.lines.specs.Reply.{answerLine, refusalLine};
 ghost use Rattle.lines.specs.Splitting.{Keeps, Gathers};
 use base::Wrote;
 
+// The longest question line, without its line feed.
+const LONGEST: usize = 2048;
+
 // The mark of a question line.
 pub enum Kind {
     Plain,
@@ -29,10 +32,10 @@ pub enum Line {
 pub fn parse_line(line: &[u8]) -> Line
     ensures { λ r. ⌜ r ≡ parseLine (now (line .entry)) ⌝ }
 {
-    if 2048 < line.len() {
+    if LONGEST < line.len() {
         return Line::Unclear;
     }
-    let n = bytes::scan::find(line, 0, line.len(), 32);
+    let n = bytes::scan::find(line, 0, line.len(), b' ');
     if n < line.len() {
         let a = n + 1;
         return parse_ticks(&line[a..], n);
@@ -40,19 +43,20 @@ pub fn parse_line(line: &[u8]) -> Line
     Line::Unclear
 }
 
-// What follows an ID of n bytes and a space.
+// What follows an ID of n bytes and a space: an optional minus.
 fn parse_ticks(s: &[u8], n: usize) -> Line
     ensures { λ r. ⌜ r ≡ ticks n (now (s .entry)) ⌝ }
 {
     if s.len() == 0 {
         return Line::Unclear;
     }
-    if s[0] == 45 {
+    if s[0] == b'-' {
         return parse_digits(&s[1..], n, true);
     }
     parse_digits(s, n, false)
 }
 
+// What follows the minus: at most 19 digits, and the mark.
 fn parse_digits(s: &[u8], n: usize, minus: bool) -> Line
     ensures { λ r. ⌜ r ≡ digits n minus 0 0 (now (s .entry)) ⌝ }
 {
@@ -63,13 +67,13 @@ fn parse_digits(s: &[u8], n: usize, minus: bool) -> Line
             return behind_digits(&s[i..], n, minus, i, v);
         }
         let b = s[i];
-        if b < 48 {
+        if b < b'0' {
             return behind_digits(&s[i..], n, minus, i, v);
         }
-        if 57 < b {
+        if b'9' < b {
             return behind_digits(&s[i..], n, minus, i, v);
         }
-        v = 10 * v + (b - 48) as u64;
+        v = 10 * v + (b - b'0') as u64;
         i += 1;
     }
     behind_digits(&s[i..], n, minus, i, v)
@@ -85,6 +89,7 @@ fn behind_digits(s: &[u8], n: usize, minus: bool, i: usize, v: u64) -> Line
     parse_mark(s, n, signed_ticks(minus, v))
 }
 
+// What follows an ID of n bytes and the ticks t.
 fn parse_mark(s: &[u8], n: usize, t: i64) -> Line
     ensures { λ r. ⌜ r ≡ marked n t (now (s .entry)) ⌝ }
 {
@@ -100,6 +105,7 @@ fn parse_mark(s: &[u8], n: usize, t: i64) -> Line
     Line::Unclear
 }
 
+// The number v behind a minus or not; the largest one where it is past 64 bits.
 fn signed_ticks(minus: bool, v: u64) -> i64
     ensures { λ r. ⌜ r ≡ ticksOf minus v ⌝ }
 {
@@ -128,13 +134,13 @@ pub fn write_answer(wall: i64, savings: i64, name: &[u8], out: &mut [u8]) -> Wro
         return Wrote::Refused(15);
     }
     let a = put_decimal(0, out, 0);
-    out[a] = 32;
+    out[a] = b' ';
     let b = put_signed(wall, out, a + 1);
-    out[b] = 32;
+    out[b] = b' ';
     let c = put_signed(savings, out, b + 1);
-    out[c] = 32;
+    out[c] = b' ';
     let d = put_bytes(name, out, c + 1);
-    out[d] = 10;
+    out[d] = b'\n';
     Wrote::Length(d + 1)
 }
 
@@ -147,12 +153,13 @@ pub fn write_refusal(number: u8, place: u64, out: &mut [u8]) -> Wrote
         return Wrote::Refused(15);
     }
     let a = put_decimal(number as u64, out, 0);
-    out[a] = 32;
+    out[a] = b' ';
     let b = put_decimal(place, out, a + 1);
-    out[b] = 10;
+    out[b] = b'\n';
     Wrote::Length(b + 1)
 }
 
+// How many digits v has.
 fn decimal_length(v: u64) -> usize
     ensures { λ r. ⌜ r ≡ length (decimal v) ⌝ }
 {
@@ -165,6 +172,7 @@ fn decimal_length(v: u64) -> usize
     n
 }
 
+// How many bytes z takes, its minus among them.
 fn signed_length(z: i64) -> usize
     ensures { λ r. ⌜ r ≡ length (signed z) ⌝ }
 {
@@ -190,25 +198,27 @@ fn put_decimal(v: u64, out: &mut [u8], at: usize) -> usize
     ensures { λ r. ⌜ (r ≡ at + length (decimal v)) × (now (out .exit) ≡ sets (now (out .entry)) at (decimal v)) ⌝ }
 {
     if v < 10 {
-        out[at] = 48 + v as u8;
+        out[at] = b'0' + v as u8;
         return at + 1;
     }
     let n = put_decimal(v / 10, out, at);
-    out[n] = 48 + (v % 10) as u8;
+    out[n] = b'0' + (v % 10) as u8;
     n + 1
 }
 
+// The same for a number with its sign.
 fn put_signed(z: i64, out: &mut [u8], at: usize) -> usize
     requires { ⌜ at + length (signed z) ≤ length (now out) ⌝ }
     ensures { λ r. ⌜ (r ≡ at + length (signed z)) × (now (out .exit) ≡ sets (now (out .entry)) at (signed z)) ⌝ }
 {
     if z < 0 {
-        out[at] = 45;
+        out[at] = b'-';
         return put_decimal(magnitude(z), out, at + 1);
     }
     put_decimal(magnitude(z), out, at)
 }
 
+// The same for the bytes of a slice.
 fn put_bytes(s: &[u8], out: &mut [u8], at: usize) -> usize
     requires { ⌜ at + length (now s) ≤ length (now out) ⌝ }
     ensures { λ r. ⌜ (r ≡ at + length (now (s .entry))) × (now (out .exit) ≡ sets (now (out .entry)) at (now (s .entry))) ⌝ }
@@ -228,7 +238,7 @@ pub enum Gathered {
 pub fn gather(s: &[u8], held: &mut [u8], n: usize) -> Gathered
     ensures { λ r. ⌜ Gathers (now (held .entry)) n (now (s .entry)) r (now (held .exit)) ⌝ }
 {
-    let k = bytes::scan::find(s, 0, s.len(), 10);
+    let k = bytes::scan::find(s, 0, s.len(), b'\n');
     let m = keep(&s[..k], held, n);
     if k < s.len() {
         return Gathered::Whole(m, k + 1);
@@ -236,6 +246,7 @@ pub fn gather(s: &[u8], held: &mut [u8], n: usize) -> Gathered
     Gathered::Begun(m)
 }
 
+// Adds the bytes of s behind the first n of `held`, as many as there is room for, and gives how many are held then.
 fn keep(s: &[u8], held: &mut [u8], n: usize) -> usize
     ensures { λ r. ⌜ Keeps (now (held .entry)) n (now (s .entry)) r (now (held .exit)) ⌝ }
 {

@@ -30,7 +30,7 @@ until-ok : (pool : ℕ) (i : Interval) (end : ℕ) → Ranged pool i → FoundOk
 until-ok pool i end h = record {
   name-ok = h .name-ok;
   wall-high = omega (arith, h .wall-high);
-  savings-high = omega (arith, h .savings-high)
+  savings-high = omega (arith, h .savings-high);
 }
 
 holding-ok : (pool t end : ℕ) (i : Interval) (prev : ℕ) (is : List Interval) → Ranged pool i → Later pool prev is → FoundOk pool (holding t end i is)

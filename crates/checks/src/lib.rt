@@ -1,0 +1,272 @@
+// The whole-file check and the version text, from one walk over the file.
+use frames::Frame;
+use pool::Checked;
+use texts::Text;
+use zones::Verdict as ZoneVerdict;
+ghost use mathlib.Core.Path.{_≡_};
+ghost use Prim.Native.Nat.{_≤_};
+ghost use lib.ListN.{length};
+ghost use Rattle.checks.specs.Check.{conclusion, concluded, checkOf, versionOf};
+ghost use Rattle.checks.specs.Cursor.{textOf, Indexed, TookPool, TookZone, TookText, TookField, Stepped};
+
+// What is remembered of the fields seen, beside the arrays: where the pool's data starts and ends and how many strings it holds; whether
+// there was a version text, where its bytes start and how many they are.
+pub struct Kept {
+    pub start: usize,
+    pub end: usize,
+    pub count: usize,
+    pub has: bool,
+    pub text: usize,
+    pub len: usize,
+}
+
+// A place between frames: whether a field came before it, that one's ID, and what is remembered.
+pub struct Cursor {
+    pub at: usize,
+    pub seen: bool,
+    pub prev: u8,
+    pub kept: Kept,
+}
+
+// What a whole field comes to: the number of a refusal, or what is remembered from there on.
+pub enum Taken {
+    Refused(u8),
+    Keep(Kept),
+}
+
+// What the walk over a file comes to.
+pub enum Conclusion {
+    // The number and the place of a refusal.
+    Refused(u8, usize),
+    // The file is well formed and has no field 2: where it ends.
+    Bare(usize),
+    // The file is well formed: where the bytes of its version text start, and how many they are.
+    WithText(usize, usize),
+}
+
+// What a frame comes to.
+pub enum Turn {
+    Done(Conclusion),
+    Next(Cursor),
+}
+
+// What the whole-file check gives.
+pub enum Verdict {
+    Good,
+    // The number and the place of a refusal.
+    Refused(u8, usize),
+}
+
+// What asking for the version text gives.
+pub enum VersionText {
+    // The place of its first byte, and how many bytes it has.
+    Part(usize, usize),
+    // The number and the place of a refusal.
+    Refused(u8, usize),
+}
+
+// Field 0, whose data go from a to e.
+fn take_pool(s: &[u8], k: Kept, a: usize, e: usize, index: &mut [u32; 8192]) -> Taken
+    requires { ⌜ (a ≤ e) × (e ≤ length (now s)) ⌝ }
+    ensures { λ r. ⌜ TookPool (now (s .entry)) k a e (now (index .entry)) (now (index .exit)) r ⌝ }
+{
+    let c = pool::check_pool(&s[a..e], index);
+    match c {
+        Checked::Refused(n) => Taken::Refused(n),
+        Checked::Strings(n) => Taken::Keep(Kept {
+            start: a,
+            end: e,
+            count: n,
+            has: k.has,
+            text: k.text,
+            len: k.len,
+        }),
+    }
+}
+
+// A field 1, whose data go from a to e.
+fn take_zone(
+    s: &[u8],
+    k: Kept,
+    a: usize,
+    e: usize,
+    index: &[u32; 8192],
+    seen: &mut [u8; 8192],
+    marks: &mut [u8; 65536],
+) -> Taken
+    requires { ⌜ (a ≤ e) × (e ≤ length (now s)) × Indexed (now s) k (now index) ⌝ }
+    ensures { λ r. ⌜ TookZone (now (s .entry)) k a e (now (index .entry)) (now (seen .entry)) (now (marks .entry)) (now (seen .exit)) (now (marks .exit)) r ⌝ }
+{
+    let v = zones::check(&s[a..e], k.count as u64);
+    match v {
+        ZoneVerdict::Refused(n) => Taken::Refused(n),
+        ZoneVerdict::Good(id) => {
+            let p = k.start;
+            let q = k.end;
+            if ids::take_id(&s[p..q], index, k.count, seen, marks, id as usize) {
+                return Taken::Refused(13);
+            }
+            Taken::Keep(k)
+        }
+    }
+}
+
+// Field 2, whose data go from a to e.
+fn take_text(s: &[u8], k: Kept, a: usize, e: usize) -> Taken
+    requires { ⌜ (a ≤ e) × (e ≤ length (now s)) ⌝ }
+    ensures { λ r. ⌜ TookText (now (s .entry)) k a e r ⌝ }
+{
+    let t = texts::read_text(&s[a..e]);
+    match t {
+        Text::Refused(n) => Taken::Refused(n),
+        Text::Part(b, n) => {
+            if b + n != e - a {
+                return Taken::Refused(9);
+            }
+            Taken::Keep(Kept {
+                start: k.start,
+                end: k.end,
+                count: k.count,
+                has: true,
+                text: a + b,
+                len: n,
+            })
+        }
+    }
+}
+
+// The whole field with the ID i, whose data go from a to e.
+fn take_field(
+    s: &[u8],
+    k: Kept,
+    i: u8,
+    a: usize,
+    e: usize,
+    index: &mut [u32; 8192],
+    seen: &mut [u8; 8192],
+    marks: &mut [u8; 65536],
+) -> Taken
+    requires { ⌜ (a ≤ e) × (e ≤ length (now s)) × Indexed (now s) k (now index) ⌝ }
+    ensures { λ r. ⌜ TookField (now (s .entry)) k i a e (now (index .entry)) (now (seen .entry)) (now (marks .entry)) (now (index .exit)) (now (seen .exit)) (now (marks .exit)) r ⌝ }
+{
+    if i == 0 {
+        return take_pool(s, k, a, e, index);
+    }
+    if i == 1 {
+        return take_zone(s, k, a, e, &*index, seen, marks);
+    }
+    if i == 2 {
+        return take_text(s, k, a, e);
+    }
+    Taken::Keep(k)
+}
+
+// The bytes end at the place at, behind whole fields or the version.
+fn conclude(at: usize, k: Kept) -> Conclusion
+    ensures { λ r. ⌜ r ≡ concluded (textOf k) at ⌝ }
+{
+    if at == 4 {
+        return Conclusion::Refused(6, at);
+    }
+    if k.has {
+        return Conclusion::WithText(k.text, k.len);
+    }
+    Conclusion::Bare(at)
+}
+
+// The frame at a cursor.
+fn step(
+    s: &[u8],
+    c: Cursor,
+    index: &mut [u32; 8192],
+    seen: &mut [u8; 8192],
+    marks: &mut [u8; 65536],
+) -> Turn
+    requires { ⌜ (c .at ≤ length (now s)) × Indexed (now s) (c .kept) (now index) ⌝ }
+    ensures { λ r. ⌜ Stepped (now (s .entry)) c (now (index .entry)) (now (seen .entry)) (now (marks .entry)) (now (index .exit)) (now (seen .exit)) (now (marks .exit)) r ⌝ }
+{
+    let at = c.at;
+    let kept = c.kept;
+    let f = frames::read_frame(&s[at..], 255, at, c.seen, c.prev);
+    match f {
+        Frame::End => Turn::Done(conclude(at, kept)),
+        Frame::Cut => Turn::Done(Conclusion::Refused(2, at)),
+        Frame::Refused(n) => Turn::Done(Conclusion::Refused(n, at)),
+        Frame::Version => Turn::Next(Cursor {
+            at: at + 4,
+            seen: false,
+            prev: 0,
+            kept: kept,
+        }),
+        Frame::Whole(i, h, n) => {
+            let e = at + (h + n);
+            let t = take_field(s, kept, i, at + h, e, index, seen, marks);
+            match t {
+                Taken::Refused(m) => Turn::Done(Conclusion::Refused(m, at)),
+                Taken::Keep(k) => Turn::Next(Cursor {
+                    at: e,
+                    seen: true,
+                    prev: i,
+                    kept: k,
+                }),
+            }
+        }
+    }
+}
+
+// The walk over a whole file.
+fn walk(s: &[u8]) -> Conclusion
+    ensures { λ r. ⌜ r ≡ conclusion (now (s .entry)) ⌝ }
+{
+    let mut index = [0u32; 8192];
+    let mut seen = [0u8; 8192];
+    let mut marks = [0u8; 65536];
+    let mut c = Cursor {
+        at: 0,
+        seen: false,
+        prev: 0,
+        kept: Kept {
+            start: 0,
+            end: 0,
+            count: 0,
+            has: false,
+            text: 0,
+            len: 0,
+        },
+    };
+    loop {
+        let t = step(s, c, &mut index, &mut seen, &mut marks);
+        match t {
+            Turn::Done(x) => {
+                return x;
+            }
+            Turn::Next(d) => {
+                c = d;
+            }
+        }
+    }
+}
+
+// The check of a whole file.
+pub fn check(s: &[u8]) -> Verdict
+    ensures { λ r. ⌜ r ≡ checkOf (now (s .entry)) ⌝ }
+{
+    let x = walk(s);
+    match x {
+        Conclusion::Refused(n, p) => Verdict::Refused(n, p),
+        Conclusion::Bare(_) => Verdict::Good,
+        Conclusion::WithText(_, _) => Verdict::Good,
+    }
+}
+
+// The version text of a file, all checked first.
+pub fn version_text(s: &[u8]) -> VersionText
+    ensures { λ r. ⌜ r ≡ versionOf (now (s .entry)) ⌝ }
+{
+    let x = walk(s);
+    match x {
+        Conclusion::Refused(n, p) => VersionText::Refused(n, p),
+        Conclusion::Bare(p) => VersionText::Refused(12, p),
+        Conclusion::WithText(a, n) => VersionText::Part(a, n),
+    }
+}

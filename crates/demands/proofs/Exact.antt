@@ -1,0 +1,146 @@
+-- DEMAND 3, exactly: of a well-formed file, any first part of it, and an instant in range. Assumes nothing.
+use mathlib.Core.Path.{_≡_, refl, sym, ap, _∙_, subst}
+use mathlib.Core.Bool.{Bool, true, false}
+use mathlib.Core.List.{List, [], _∷_, _++_}
+use mathlib.Core.Logic.{_⊎_, inl, inr}
+use mathlib.Core.Option.{Option, none, some}
+use Prim.Native.Nat.{ℕ, _≤_, _<_}
+use native.Mathlib.Omega.{arith}
+use lib.IntN.{ℤ}
+use lib.ListN.{length, take}
+use lib.Dec.{ltb, eqb}
+use borrow.Author.Tests.{ne-eqb, ltb-false}
+use Rattle.base.specs.Pick.{pick}
+use Rattle.base.specs.Run.{next}
+use Rattle.signed.specs.Instant.{instantOf}
+use Rattle.counts.specs.Groups.{readGroups}
+use Rattle.pool.specs.Pool.{stringsOf}
+use Rattle.frames.specs.Frame.{Field}
+use Rattle.frames.specs.Machine.{Out, found, refused, cut, ended, final, keep, walk}
+use Rattle.frames.specs.Fields.{endAt, fields, pass, outcome, upTo, firstAbove}
+use Rattle.frames.proofs.All.{All, all-none, all-also, all-head, all-tail, all-map, all-left}
+use Rattle.frames.proofs.ChainLaws.{Chain, listing-chain, chain-first, chain-split, Earlier}
+use Rattle.frames.proofs.GrowthLaws.{Exactly, exactly}
+use Rattle.frames.proofs.PassLaws.{pass-first, lockstep}
+use Rattle.frames.proofs.CapLaws.{stopAt}
+use Rattle.frames.proofs.PartLaws.{Absent, absent-beside, answer-beside, walk-ended, walk-fields}
+use Rattle.zones.specs.Lookup.{inBody}
+use Rattle.questions.specs.Question.{Pool, noPool, answered, question, finish, ask}
+use Rattle.questions.specs.declared.Mark.{Mark}
+use Rattle.questions.specs.declared.Mark.the-variants.{More, All as Whole}
+use Rattle.questions.specs.declared.Found.{Found}
+use Rattle.questions.specs.declared.Answer.{Answer}
+use Rattle.questions.specs.declared.Answer.the-variants.{In, Refused}
+use Rattle.checks.specs.Check.{Memory, start, job, WellFormed, filePool, HasId}
+use Rattle.demands.specs.Zones.{numberOf, InRange, Asked, NoZone}
+use Rattle.demands.proofs.Standing.{waits}
+use Rattle.demands.proofs.Beside.{Alike, Passed, keeps, answers}
+
+-- in range, the question is what the walk gives
+pub asks : (bs id : List ℕ) (z : ℤ) (mark : Mark) → InRange z → ask bs id z mark ≡ finish mark (walk (question id (instantOf z)) noPool bs)
+unfolding ask
+asks bs id z mark h = rw (ne-eqb (instantOf z) 0 h)
+
+-- what is known of the fields up to ID 1 that don't have the asked ID: the first has the file's pool
+module _ (f id : List ℕ) where
+  abbrev ts : List (List ℕ)
+  ts = filePool (fields f)
+
+  later-passed : (gs : List Field) → All (λ h. 0 < h .id) gs → All (λ h. h .id ≤ 1) gs → All (λ h. HasId ts id h → ⊥) gs → All (Passed ts id) gs
+  later-passed [] a b c = all-none
+  later-passed (g ∷ gs) a b c =
+      let p : 0 < g .id = all-head a in
+      all-also
+      (record { pool-is = λ (e : g .id ≡ 0). absurd (omega arith); low = all-head b; other = all-head c })
+      (later-passed gs (all-tail a) (all-tail b) (all-tail c))
+
+  -- a first part gs of the file's fields
+  pub passed : (gs hs : List Field) → fields f ≡ gs ++ hs → All (λ h. h .id ≤ 1) gs → All (λ h. HasId ts id h → ⊥) gs → All (Passed ts id) gs
+  unfolding filePool
+  passed [] hs e b c = all-none
+  passed (g ∷ gs) hs e b c =
+      let n = chain-first f 4 g (gs ++ hs) (rw e at (listing-chain f 255)) in
+      all-also
+      (record { pool-is = λ k. sym (ap filePool e); low = all-head b; other = all-head c })
+      (later-passed gs (all-left gs hs (n .1)) (all-tail b) (all-tail c))
+
+up-to-low : (gs : List Field) → All (λ h. h .id ≤ 1) (upTo 1 gs)
+unfolding upTo
+up-to-low [] = all-none
+up-to-low (g ∷ gs) = go (ltb 1 (g .id)) refl (up-to-low gs)
+  where
+    go : (t : Bool) → ltb 1 (g .id) ≡ t → All (λ h. h .id ≤ 1) (upTo 1 gs) → All (λ h. h .id ≤ 1) (pick t [] (g ∷ upTo 1 gs))
+    go true e a = all-none
+    go false e a = let p : g .id ≤ 1 = omega (arith, ltb-false 1 (g .id) e) in all-also p a
+
+up-to-first : (gs : List Field) → (hs : List Field) × (gs ≡ upTo 1 gs ++ hs)
+unfolding upTo
+up-to-first [] = ([], refl)
+up-to-first (g ∷ gs) = go (ltb 1 (g .id)) (up-to-first gs)
+  where
+    go : (t : Bool) → (hs : List Field) × (gs ≡ upTo 1 gs ++ hs) → (hs : List Field) × (g ∷ gs ≡ pick t [] (g ∷ upTo 1 gs) ++ hs)
+    go true s = (g ∷ gs, refl)
+    go false s = (s .0, ap (λ (xs : List Field). g ∷ xs) (s .1))
+
+pub begin-alike : (ts : List (List ℕ)) → Alike ts start noPool
+unfolding readGroups
+begin-alike ts = record { same = refl; which = inr refl }
+
+-- "If the file has the asked zone, the part gives 'not yet' exactly when that zone's field isn't all there, and else the answer that the
+-- whole file gives as all there is." A field is all there in the first k bytes where the place just past it is at most k.
+pub record There (f id : List ℕ) (z : ℤ) (g : Field) (k : ℕ) : Type 0 where
+  pub before : k < g .past → numberOf (ask (take k f) id z More) ≡ 1
+  pub from-then : g .past ≤ k → ask (take k f) id z More ≡ ask f id z Whole
+  pub answered : numberOf (ask f id z Whole) ≡ 0
+
+pub zone-there : (f id : List ℕ) (z : ℤ) (g : Field) (k : ℕ) → WellFormed f → Asked f id g → InRange z → k ≤ length f → There f id z g k
+zone-there f id z g k w a h l =
+    let t : ℕ = instantOf z in
+    let low = all-map {Q = λ (h : Field). h .id ≤ 1} (λ g′ e. omega (arith, e .rising, a .has .is-zone)) (chain-split f false 0 4 (a .before) g (a .behind) (rw (a .splits) at (listing-chain f 255))) in
+    let v = answer-beside job (question id t) (Alike (filePool (fields f))) (Passed (filePool (fields f)) id)
+    (λ x x′ y g′ p r e. keeps (filePool (fields f)) id t x x′ y r g′ p e) refl start (w .memory) noPool f (length f) (w .ends) (begin-alike (filePool (fields f)))
+    (a .before) g (a .behind) (a .splits) (passed f id (a .before) (g ∷ a .behind) (a .splits) low (a .first)) (omega (arith, a .has .is-zone))
+    (λ x x′ y r e. (answered y (inBody t (a .has .zone .body)), answers (filePool (fields f)) id t x x′ y r g (a .has) e)) in
+    let x = exactly (question id t) noPool f (v .0) (g .past) k (v .1) l in
+    record {
+      before = λ b. rw (asks (take k f) id z More h) (waits (walk (question id t) noPool (take k f)) (x .before b));
+      from-then = λ b. asks (take k f) id z More h ∙ ap (finish More) (x .from-then b ∙ v .1) ∙ sym (asks f id z Whole h ∙ ap (finish Whole) (v .1));
+      answered = rw (asks f id z Whole h, v .1);
+    }
+
+-- "If the file has no such zone, the part gives 'not yet' exactly when it holds no first byte of a field with an ID above 1, and else
+-- 'no such zone'", at that byte's place
+pub record Missing (f id : List ℕ) (z : ℤ) (k : ℕ) : Type 0 where
+  pub before : ((q : ℕ) → firstAbove 1 (fields f) ≡ some q → k ≤ q) → numberOf (ask (take k f) id z More) ≡ 1
+  pub from-then : (q : ℕ) → firstAbove 1 (fields f) ≡ some q → q < k → ask (take k f) id z More ≡ Refused 12 q
+
+pub zone-missing : (f id : List ℕ) (z : ℤ) (k : ℕ) → WellFormed f → NoZone f id → InRange z → k ≤ length f → Missing f id z k
+zone-missing f id z k w n h l =
+    let t : ℕ = instantOf z in
+    let s = up-to-first (fields f) in
+    let x = absent-beside job (question id t) (Alike (filePool (fields f))) (Passed (filePool (fields f)) id)
+    (λ x x′ y g′ p r e. keeps (filePool (fields f)) id t x x′ y r g′ p e) refl start (w .memory) noPool f (length f) (w .ends) (begin-alike (filePool (fields f)))
+    (passed f id (upTo 1 (fields f)) (s .0) (s .1) (up-to-low (fields f)) (all-left (upTo 1 (fields f)) (s .0) (subst (All (λ h. HasId (filePool (fields f)) id h → ⊥)) (s .1) n))) k l in
+    record {
+      before = λ b. rw (asks (take k f) id z More h) (waits (walk (question id t) noPool (take k f)) (x .waits b));
+      from-then = λ q e b. asks (take k f) id z More h ∙ ap (finish More) (x .refuses q e b);
+    }
+
+-- The whole file, as all there is, says 12 where it lacks the zone: at the first byte of a field with an ID above 1, or at its end.
+pub missing-number : (f id : List ℕ) (z : ℤ) → WellFormed f → NoZone f id → InRange z → numberOf (ask f id z Whole) ≡ 12
+missing-number f id z w n h =
+    let t : ℕ = instantOf z in
+    let s = up-to-first (fields f) in
+    let c = walk-ended job start (w .memory) f (length f) (w .ends) in
+    let q = pass-first (job .content) start (w .memory) (upTo 1 (fields f)) (s .0) (subst (λ (gs : List Field). pass (job .content) start gs ≡ next (w .memory)) (s .1) (c .kept)) in
+    let u = lockstep (Alike (filePool (fields f))) (Passed (filePool (fields f)) id) (job .content) (question id t .content)
+    (λ x x′ y g′ p r e. keeps (filePool (fields f)) id t x x′ y r g′ p e) (upTo 1 (fields f)) start (q .0) noPool
+    (passed f id (upTo 1 (fields f)) (s .0) (s .1) (up-to-low (fields f)) (all-left (upTo 1 (fields f)) (s .0) (subst (All (λ g′. HasId (filePool (fields f)) id g′ → ⊥)) (s .1) n)))
+    (begin-alike (filePool (fields f))) (q .1) in
+    let o : walk (question id t) noPool f ≡ outcome (stopAt (firstAbove 1 (fields f)) (endAt (length f))) (u .0) =
+    walk-fields (question id t) noPool f (length f) (c .whole) ∙ rw (u .1) in
+    rw (asks f id z Whole h, o) (go (firstAbove 1 (fields f)) (u .0))
+  where
+    go : (a : Option ℕ) (m : Pool) → numberOf (finish Whole (outcome (stopAt a (endAt (length f))) m)) ≡ 12
+    go none m = refl
+    go (some q) m = refl

@@ -1,0 +1,102 @@
+-- A file that meets the premises: 01's "One whole file" with a field 2 behind it, its zone, and a zone that it lacks. Assumes nothing.
+use mathlib.Core.Path.{_≡_, refl}
+use mathlib.Core.List.{List, [], _∷_}
+use mathlib.Core.Bool.{Bool, true, false}
+use Prim.Native.Nat.{ℕ, _≤_}
+use native.Mathlib.Omega.{arith}
+use lib.Dec.{eqb}
+use lib.IntN.{ℤ, pos}
+use lib.ListN.{length, getD}
+use Rattle.base.specs.Run.{iterate}
+use Rattle.base.specs.Parsed.{Parsed, got, bad, parseByte, ended, many}
+use Rattle.counts.specs.Groups.{readGroups}
+use Rattle.offsets.specs.Offset.{readSum}
+use Rattle.texts.specs.Utf8.{chars}
+use Rattle.texts.specs.Text.{sized as textSized}
+use Rattle.pool.specs.Pool.{allStrings, counted}
+use Rattle.pool.specs.Equal.{equal}
+use Rattle.places.specs.Name.{judgeName, parseName}
+use Rattle.zones.specs.Content.{Zone, fixed}
+use Rattle.zones.specs.Parse.{zoneOf, afterFixedOffset, parseFixed, afterFlag, afterId, parseZone}
+use Rattle.ids.specs.Ids.{among}
+use Rattle.signed.specs.Instant.{biasedOf}
+use Rattle.frames.specs.Frame.{order, zeros, version, sized, field, frame, Field}
+use Rattle.frames.specs.Machine.{ended as end, act, step, walk}
+use Rattle.frames.specs.Fields.{scan, listing, fields}
+use Rattle.frames.proofs.All.{All, all-none, all-also}
+use Rattle.checks.specs.Check.{nowhere, placed, Memory, poolKept, newId, zoneKept, textKept, contentOf, WellFormed, filePool, HasId}
+use Rattle.demands.specs.Zones.{InRange, Asked, NoZone}
+use Rattle.demands.proofs.Exact.{There, zone-there, Missing, zone-missing}
+
+-- 00 00 00 00, 00 05 01 03 55 54 43, 01 04 00 01 30 00, and 02 01 00
+abbrev pub file : List ℕ
+file = 0 ∷ 0 ∷ 0 ∷ 0 ∷ 0 ∷ 5 ∷ 1 ∷ 3 ∷ 85 ∷ 84 ∷ 67 ∷ 1 ∷ 4 ∷ 0 ∷ 1 ∷ 48 ∷ 0 ∷ 2 ∷ 1 ∷ 0 ∷ []
+
+abbrev utc : List ℕ
+utc = 85 ∷ 84 ∷ 67 ∷ []
+
+abbrev gmt : List ℕ
+gmt = 71 ∷ 77 ∷ 84 ∷ []
+
+abbrev pool : Field
+pool = record { place = 4; id = 0; start = 6; past = 11; body = 1 ∷ 3 ∷ 85 ∷ 84 ∷ 67 ∷ [] }
+
+abbrev zone : Field
+zone = record { place = 11; id = 1; start = 13; past = 17; body = 0 ∷ 1 ∷ 48 ∷ 0 ∷ [] }
+
+abbrev text : Field
+text = record { place = 17; id = 2; start = 19; past = 20; body = 0 ∷ [] }
+
+the-fields : fields file ≡ pool ∷ zone ∷ text ∷ []
+unfolding listing scan frame version zeros field sized order readGroups
+the-fields = refl
+
+the-zone : parseZone 1 (zone .body) ≡ got (record { id = 0; body = fixed 86400000 0 }) []
+unfolding parseZone afterId afterFlag parseFixed afterFixedOffset zoneOf parseName judgeName parseByte ended readGroups readSum
+the-zone = refl
+
+pub well-formed : WellFormed file
+unfolding walk step act iterate frame version zeros field sized order readGroups contentOf poolKept zoneKept newId textKept textSized chars counted allStrings many ended among equal parseZone afterId afterFlag parseFixed afterFixedOffset zoneOf parseName judgeName parseByte readSum listing scan
+well-formed = record {
+  memory = record { pool = utc ∷ []; ids = utc ∷ []; text = placed 20 0 };
+  ends = refl;
+  some-field = λ e. let z : _≡_ {A = ℕ} 0 1 = cc in omega arith;
+}
+
+-- the zone "UTC" is there
+pub asked : Asked file utc zone
+unfolding filePool listing scan frame version zeros field sized order readGroups textSized chars counted allStrings many ended parseZone afterId afterFlag parseFixed afterFixedOffset zoneOf parseName judgeName parseByte readSum
+asked = record {
+  before = pool ∷ [];
+  behind = text ∷ [];
+  splits = refl;
+  has = record { zone = record { id = 0; body = fixed 86400000 0 }; rest = []; is-zone = refl; parsed = refl; bytes = refl };
+  first = all-also (λ h. let z : _≡_ {A = ℕ} 0 1 = h .is-zone in omega arith) all-none;
+}
+
+-- the zone "GMT" is not
+pub lacks : NoZone file gmt
+unfolding filePool listing scan frame version zeros field sized order readGroups textSized chars counted allStrings many ended parseZone afterId afterFlag parseFixed afterFixedOffset zoneOf parseName judgeName parseByte readSum
+lacks =
+    all-also (λ h. let z : _≡_ {A = ℕ} 0 1 = h .is-zone in omega arith)
+    (all-also (λ h. other (h .zone) (h .parsed) (h .bytes))
+    (all-also (λ h. let z : _≡_ {A = ℕ} 2 1 = h .is-zone in omega arith) all-none))
+  where
+    other : (w : Zone) {q : List ℕ} → got (record { id = 0; body = fixed 86400000 0 }) [] ≡ got w q → getD (utc ∷ []) (w .id) [] ≡ gmt → ⊥
+    other w e b =
+        let i : record { id = 0; body = fixed 86400000 0 } ≡ w = cc in
+        let c : utc ≡ gmt = rw (← i) at b in
+        let d : _≡_ {A = ℕ} 85 71 = cc in
+        omega arith
+
+epoch-in-range : InRange (pos 0)
+unfolding biasedOf
+epoch-in-range e = omega arith
+
+-- so every first part of the file waits for "UTC" up to place 17 and then answers, and waits for "GMT" up to the byte at 17 and then
+-- says that there is no such zone
+pub utc-there : (k : ℕ) → k ≤ length file → There file utc (pos 0) zone k
+utc-there k l = zone-there file utc (pos 0) zone k well-formed asked epoch-in-range l
+
+pub gmt-missing : (k : ℕ) → k ≤ length file → Missing file gmt (pos 0) k
+gmt-missing k l = zone-missing file gmt (pos 0) k well-formed lacks epoch-in-range l

@@ -1,0 +1,150 @@
+-- The name of an answer is a part of the bytes that were asked, so more bytes do not change it. Assumes nothing.
+use mathlib.Core.Path.{_≡_, refl, sym, ap, _∙_, subst}
+use mathlib.Core.Bool.{Bool, true, false}
+use mathlib.Core.List.{List, [], _∷_, _++_}
+use Prim.Native.Nat.{ℕ, _+_, _≤_, _<_}
+use native.Mathlib.Omega.{arith}
+use lib.IntN.{ℤ}
+use lib.Dec.{eqb}
+use lib.ListN.{length, take, drop, getD, length-append, length-drop}
+use lib.Seq.{take-append-le, drop-append-le}
+use borrow.Author.Tests.{le-leb, eqb-false}
+use Rattle.base.specs.Pick.{pick}
+use Rattle.base.specs.Run.{Step, stop, next, follow}
+use Rattle.base.specs.Parsed.{Parsed, got, bad}
+use Rattle.base.specs.Moment.{Finite}
+use Rattle.signed.specs.Instant.{instantOf}
+use Rattle.pool.specs.Pool.{parsePool, stringsOf}
+use Rattle.pool.specs.Index.{spanOf}
+use Rattle.pool.specs.Equal.{equal}
+use Rattle.pool.proofs.StringLaws.{span-inside}
+use Rattle.zones.specs.Content.{Zone}
+use Rattle.zones.specs.Parse.{parseZone}
+use Rattle.zones.specs.Lookup.{inBody}
+use Rattle.zones.proofs.SoundLaws.{zone-sound}
+use Rattle.zones.proofs.RangeLaws.{body-found}
+use Rattle.frames.specs.Frame.{Field}
+use Rattle.frames.specs.Machine.{Out, found, refused, cut, ended, Content, bad as fault, answer, keep, verdict, onward, walk}
+use Rattle.frames.specs.Fields.{Ending, refusedAt, cutAt, endAt, listing, pass, outcome}
+use Rattle.frames.proofs.All.{All, all-head, all-tail}
+use Rattle.frames.proofs.ChainLaws.{FieldOf, listing-chain, chain-fields}
+use Rattle.frames.proofs.WalkLaws.{walk-pass}
+use Rattle.questions.specs.Question.{Pool, noPool, answered, poolSays, zoneSays, says, question, finish, ask, nameOf}
+use Rattle.questions.proofs.AskLaws.{instant-finite}
+use Rattle.questions.specs.declared.Mark.{Mark}
+use Rattle.questions.specs.declared.Mark.the-variants.{More}
+use Rattle.questions.specs.declared.Found.{Found}
+use Rattle.questions.specs.declared.Answer.{Answer}
+use Rattle.questions.specs.declared.Answer.the-variants.{In, Refused}
+
+no : {A : Type 0} → _≡_ {A = ℕ} 0 1 → A
+no e = absurd (omega arith)
+
+-- a kept field leaves the pool as it was, or is the pool
+zone-keeps : (P : Pool → Type 0) (id : List ℕ) (t : ℕ) (y : Pool) (p : Parsed Zone) (y′ : Pool) → zoneSays id t y p ≡ keep y′ → P y → P y′
+zone-keeps P id t y (got z q) y′ h i = go (equal (getD (stringsOf (y .body)) (z .id) []) id) h
+  where
+    go : (b : Bool) → pick {A = Content Pool Found} b (answer (answered y (inBody t (z .body)))) (keep y) ≡ keep y′ → P y′
+    go true k = no cc
+    go false k = let w : y ≡ y′ = cc in subst P w i
+zone-keeps P id t y (bad n) y′ h i = no cc
+
+pool-keeps : (P : Pool → Type 0) (g : Field) (p : Parsed (List (List ℕ))) (y′ : Pool) → poolSays g p ≡ keep y′
+    → P (record { start = g .start; body = g .body }) → P y′
+pool-keeps P g (got ts r) y′ h i = let w : record { start = g .start; body = g .body } ≡ y′ = cc in subst P w i
+pool-keeps P g (bad n) y′ h i = no cc
+
+pub by-kept : (P : Pool → Type 0) (id : List ℕ) (t : ℕ) (y : Pool) (g : Field) (y′ : Pool) → says id t y g ≡ keep y′
+    → P y → P (record { start = g .start; body = g .body }) → P y′
+unfolding says
+by-kept P id t y g y′ h a b = go (eqb (g .id) 0) h
+  where
+    go : (c : Bool) → pick c (poolSays g (parsePool (g .body))) (zoneSays id t y (parseZone (length (stringsOf (y .body))) (g .body))) ≡ keep y′ → P y′
+    go true k = pool-keeps P g (parsePool (g .body)) y′ k b
+    go false k = zone-keeps P id t y (parseZone (length (stringsOf (y .body))) (g .body)) y′ k a
+
+module _ (bs id : List ℕ) (t : ℕ) (f : Finite t) where
+  -- the pool that is remembered lies within the bytes
+  abbrev Inside : Pool → Type 0
+  Inside y = y .start + length (y .body) ≤ length bs
+
+  abbrev Named : Found → Type 0
+  Named x = x .name + x .length ≤ length bs
+
+  zone-named : (y : Pool) (d : List ℕ) (p : Parsed Zone) → parseZone (length (stringsOf (y .body))) d ≡ p → Inside y → (v : Found)
+      → zoneSays id t y p ≡ answer v → Named v
+  zone-named y d (got z q) e i v h = go (equal (getD (stringsOf (y .body)) (z .id) []) id) h
+    where
+      x : ℕ
+      x = inBody t (z .body) .name
+
+      below : x < length (stringsOf (y .body))
+      below = body-found (length (stringsOf (y .body))) t (z .body) (zone-sound _ d z q e .0 .body-ok) f .name-ok
+
+      go : (b : Bool) → pick {A = Content Pool Found} b (answer (answered y (inBody t (z .body)))) (keep y) ≡ answer v → Named v
+      go true k =
+          let w : answered y (inBody t (z .body)) ≡ v = cc in
+          subst Named w (omega (arith, span-inside (y .body) x below, i))
+      go false k = no cc
+  zone-named y d (bad n) e i v h = no cc
+
+  pool-answers : (g : Field) (p : Parsed (List (List ℕ))) (v : Found) → poolSays g p ≡ answer v → Named v
+  pool-answers g (got ts r) v h = no cc
+  pool-answers g (bad n) v h = no cc
+
+  says-named : (y : Pool) (g : Field) → Inside y → (v : Found) → says id t y g ≡ answer v → Named v
+  unfolding says
+  says-named y g i v = go (eqb (g .id) 0)
+    where
+      go : (b : Bool) → pick b (poolSays g (parsePool (g .body))) (zoneSays id t y (parseZone (length (stringsOf (y .body))) (g .body))) ≡ answer v → Named v
+      go true h = pool-answers g (parsePool (g .body)) v h
+      go false h = zone-named y (g .body) (parseZone (length (stringsOf (y .body))) (g .body)) refl i v h
+
+  says-inside : (y : Pool) (g : Field) → Inside y → FieldOf bs g → (y′ : Pool) → says id t y g ≡ keep y′ → Inside y′
+  says-inside y g i o y′ h = by-kept Inside id t y g y′ h i (omega (arith, o .ends, o .within))
+
+  pass-named : (gs : List Field) (y : Pool) → All (FieldOf bs) gs → Inside y → (x : Found) (p : ℕ) → pass (says id t) y gs ≡ stop (found x p) → Named x
+  unfolding pass
+  pass-named [] y a i x p h = no cc
+  pass-named (g ∷ gs) y a i x p h = go (says id t y g) refl h (λ y′ i′. pass-named gs y′ (all-tail a) i′ x p)
+    where
+      go : (c : Content Pool Found) → says id t y g ≡ c → onward (verdict g c) (λ m. pass (says id t) m gs) ≡ stop (found x p)
+          → ((y′ : Pool) → Inside y′ → pass (says id t) y′ gs ≡ stop (found x p) → Named x) → Named x
+      go (fault n) e k rec = no cc
+      go (answer v) e k rec = let w : v ≡ x = cc in subst Named w (says-named y g i v e)
+      go (keep y′) e k rec = rec y′ (says-inside y g i (all-head a) y′ e) k
+
+  -- an answer's name is a part of the bytes
+  pub name-inside : (x : Found) (p : ℕ) → walk (question id t) noPool bs ≡ found x p → Named x
+  name-inside x p h = go (pass (says id t) noPool (listing 1 bs .fields)) refl (sym (walk-pass (question id t) noPool bs) ∙ h)
+    where
+      by-end : (e : Ending) (m : Pool) → outcome {A = Found} e m ≡ found x p → Named x
+      by-end (refusedAt n q) m k = no cc
+      by-end (cutAt q) m k = no cc
+      by-end (endAt q) m k = no cc
+
+      go : (s : Step Pool (Out Pool Found)) → pass (says id t) noPool (listing 1 bs .fields) ≡ s → follow s (outcome (listing 1 bs .ending)) ≡ found x p → Named x
+      go (stop o) e k = pass-named (listing 1 bs .fields) noPool (chain-fields bs false 0 4 _ (listing-chain bs 1)) (omega arith) x p (e ∙ ap stop k)
+      go (next m) e k = by-end (listing 1 bs .ending) m k
+
+-- "The same answer: every value that it carries is equal, the name byte for byte."
+pub standing-name : (bs more id : List ℕ) (z : ℤ) (x : Found) → ask bs id z More ≡ In x → nameOf (bs ++ more) x ≡ nameOf bs x
+unfolding ask
+standing-name bs more id z x = go (eqb (instantOf z) 0) refl
+  where
+    named : (instantOf z ≡ 0 → ⊥) → (o : Out Pool Found) → walk (question id (instantOf z)) noPool bs ≡ o → finish More o ≡ In x → x .name + x .length ≤ length bs
+    named h (found v p) e k =
+        let w : v ≡ x = cc in
+        subst (λ (u : Found). u .name + u .length ≤ length bs) w (name-inside bs id (instantOf z) (instant-finite (instantOf z) z refl h) v p e)
+    named h (refused n p) e k = no cc
+    named h (cut p) e k = no cc
+    named h (ended m p) e k = no cc
+
+    go : (t : Bool) → eqb (instantOf z) 0 ≡ t → pick t (Refused 14 0) (finish More (walk (question id (instantOf z)) noPool bs)) ≡ In x
+        → nameOf (bs ++ more) x ≡ nameOf bs x
+    go true e k = no cc
+    go false e k =
+        let l = named (eqb-false (instantOf z) 0 e) (walk (question id (instantOf z)) noPool bs) refl k in
+        let l′ : x .name + x .length ≤ length (bs ++ more) = rw (length-append bs more) (omega arith) in
+        rw (le-leb _ _ l, le-leb _ _ l′, drop-append-le (x .name) bs more (omega arith))
+        (take-append-le (x .length) (drop (x .name) bs) more (simp length-drop (omega arith)))

@@ -1,0 +1,151 @@
+-- DEMAND 2, for readers: on a well-formed file each instant from year 1 to year 9999 falls in exactly one interval of each zone, and the
+-- offset, savings, name and bounds given are those of that interval. Assumes nothing.
+use mathlib.Core.Path.{_≡_, refl, sym, ap, _∙_, subst, subst⁻¹}
+use mathlib.Core.Bool.{Bool, true, false}
+use mathlib.Core.List.{List, [], _∷_, _++_}
+use Prim.Native.Nat.{ℕ, zero, suc, _+_, _-_, _≤_, _<_}
+use native.Mathlib.Omega.{arith}
+use lib.IntN.{ℤ}
+use lib.ListN.{length, take, drop, getD, length-take, length-drop}
+use lib.Seq.{take-take, drop-drop}
+use borrow.Author.Tests.{le-leb}
+use Rattle.base.specs.Run.{next}
+use Rattle.base.specs.Moment.{Finite}
+use Rattle.signed.specs.Instant.{instantOf, ticksOf}
+use Rattle.signed.specs.OffsetSum.{millisecondsOf}
+use Rattle.pool.specs.Pool.{stringsOf}
+use Rattle.pool.specs.Index.{spanOf}
+use Rattle.pool.proofs.StringLaws.{span-inside, span-string}
+use Rattle.zones.specs.Content.{Zone}
+use Rattle.zones.specs.Lookup.{inBody}
+use Rattle.zones.specs.Intervals.{Holds, InBody}
+use Rattle.zones.specs.declared.Found.{Found as Interval}
+use Rattle.zones.proofs.SoundLaws.{zone-sound}
+use Rattle.zones.proofs.RangeLaws.{body-found}
+use Rattle.zones.proofs.PartitionLaws.{lookup-holds, lookup-only}
+use Rattle.frames.specs.Frame.{Field}
+use Rattle.frames.specs.Machine.{answer, keep, found, walk}
+use Rattle.frames.specs.Fields.{fields, pass}
+use Rattle.frames.proofs.All.{All, all-none, all-also, all-head, all-tail, all-map, all-left}
+use Rattle.frames.proofs.ChainLaws.{FieldOf, listing-chain, chain-fields, chain-split}
+use Rattle.frames.proofs.PassLaws.{pass-first, pass-head, lockstep}
+use Rattle.frames.proofs.PartLaws.{walk-ended, walk-answer}
+use Rattle.questions.specs.Question.{Pool, noPool, answered, says, question, finish, ask, nameOf}
+use Rattle.questions.specs.declared.Mark.the-variants.{All as Whole}
+use Rattle.questions.specs.declared.Found.{Found}
+use Rattle.questions.specs.declared.Answer.the-variants.{In}
+use Rattle.questions.proofs.AskLaws.{instant-finite}
+use Rattle.checks.specs.Check.{Memory, start, job, contentOf, WellFormed, filePool, HasId}
+use Rattle.demands.specs.Zones.{InRange, Asked}
+use Rattle.demands.proofs.Beside.{Alike, Passed, keeps, answers, zone-pool}
+use Rattle.demands.proofs.Names.{by-kept}
+use Rattle.demands.proofs.Exact.{asks, passed, begin-alike}
+
+-- the pool's data is a part of the file
+record Located (f : List ℕ) (y : Pool) : Type 0 where
+  within : y .start + length (y .body) ≤ length f
+  part : y .body ≡ take (length (y .body)) (drop (y .start) f)
+
+record Beside (f : List ℕ) (ts : List (List ℕ)) (x : Memory) (y : Pool) : Type 0 where
+  alike : Alike ts x y
+  located : Located f y
+
+record Known (f : List ℕ) (ts : List (List ℕ)) (id : List ℕ) (g : Field) : Type 0 where
+  passes : Passed ts id g
+  is-field : FieldOf f g
+
+field-located : (f : List ℕ) (g : Field) → FieldOf f g → Located f (record { start = g .start; body = g .body })
+field-located f g o = record { within = omega (arith, o .ends, o .within); part = o .bytes }
+
+go-on : (f : List ℕ) (ts : List (List ℕ)) (id : List ℕ) (t : ℕ) (x x′ : Memory) (y : Pool) (g : Field) → Known f ts id g → Beside f ts x y
+    → contentOf x (g .id) (g .start) (g .body) ≡ keep x′ → (y′ : Pool) × (says id t y g ≡ keep y′) × Beside f ts x′ y′
+go-on f ts id t x x′ y g k r e =
+    let w = keeps ts id t x x′ y (r .alike) g (k .passes) e in
+    (w .0, w .1, record { alike = w .2; located = by-kept (Located f) id t y g (w .0) (w .1) (r .located) (field-located f g (k .is-field)) })
+
+known : (f : List ℕ) (ts : List (List ℕ)) (id : List ℕ) (gs : List Field) → All (Passed ts id) gs → All (FieldOf f) gs → All (Known f ts id) gs
+known f ts id [] a b = all-none
+known f ts id (g ∷ gs) a b = all-also (record { passes = all-head a; is-field = all-head b }) (known f ts id gs (all-tail a) (all-tail b))
+
+-- a part of a part
+take-none : (n : ℕ) → _≡_ {A = List ℕ} (take n []) []
+take-none zero = refl
+take-none (suc n) = refl
+
+drop-take : (i m : ℕ) (l : List ℕ) → i ≤ m → drop i (take m l) ≡ take (m - i) (drop i l)
+drop-take zero m l h = let e : m ≡ m - 0 = omega arith in ap (λ (j : ℕ). take j l) e
+drop-take (suc i) zero l h = absurd (omega arith)
+drop-take (suc i) (suc m) [] h = sym (take-none (suc m - suc i))
+drop-take (suc i) (suc m) (b ∷ l) h =
+    let e : m - i ≡ suc m - suc i = omega arith in
+    drop-take i m l (omega arith) ∙ ap (λ (j : ℕ). take j (drop i l)) e
+
+inner : (f : List ℕ) (start len at n : ℕ) → at + n ≤ len → take n (drop at (take len (drop start f))) ≡ take n (drop (start + at) f)
+inner f start len at n h =
+    ap (take n) (drop-take at len (drop start f) (omega arith))
+    ∙ take-take n (len - at) (drop at (drop start f)) (omega arith)
+    ∙ rw drop-drop
+
+-- the name of an answer is the string of the file's pool
+name-is : (f : List ℕ) (y : Pool) (i : Interval) → Located f y → i .name < length (stringsOf (y .body))
+    → nameOf f (answered y i) ≡ getD (stringsOf (y .body)) (i .name) []
+name-is f y i l h =
+    let d = y .body in
+    let k = i .name in
+    let s = span-inside d k h in
+    rw (le-leb (y .start + spanOf d k .at + spanOf d k .len) (length f) (omega (arith, s, l .within)))
+    (sym (inner f (y .start) (length d) (spanOf d k .at) (spanOf d k .len) s)
+    ∙ ap (λ (b : List ℕ). take (spanOf d k .len) (drop (spanOf d k .at) b)) (sym (l .part))
+    ∙ span-string d k h)
+
+-- what is right of an answer of the zone w of f at z
+pub record Right (f id : List ℕ) (z : ℤ) (w : Zone) : Type 0 where
+  pub interval : Interval
+  pub given : Found
+  pub answers-with : ask f id z Whole ≡ In given
+  pub of-zone : InBody (w .body) interval
+  pub holds : Holds interval (instantOf z)
+  pub only : (x : Interval) → InBody (w .body) x → Holds x (instantOf z) → x ≡ interval
+  pub wall-is : given .wall ≡ millisecondsOf (interval .wall)
+  pub savings-is : given .savings ≡ millisecondsOf (interval .savings)
+  pub start-is : given .start ≡ ticksOf (interval .start)
+  pub end-is : given .end ≡ ticksOf (interval .end)
+  pub named : nameOf f given ≡ getD (filePool (fields f)) (interval .name) []
+
+pub right : (f id : List ℕ) (z : ℤ) (g : Field) → WellFormed f → (a : Asked f id g) → InRange z → Right f id z (a .has .zone)
+right f id z g w a h =
+    let t : ℕ = instantOf z in
+    let ts : List (List ℕ) = filePool (fields f) in
+    let zone : Zone = a .has .zone in
+    let fin : Finite t = instant-finite t z refl h in
+    let ok = zone-sound (length ts) (g .body) zone (a .has .rest) (a .has .parsed) .0 .body-ok in
+    let c = walk-ended job start (w .memory) f (length f) (w .ends) in
+    let q = pass-first (job .content) start (w .memory) (a .before) (g ∷ a .behind)
+    (subst (λ (gs : List Field). pass (job .content) start gs ≡ next (w .memory)) (a .splits) (c .kept)) in
+    let low = all-map {Q = λ (e : Field). e .id ≤ 1} (λ g′ e. omega (arith, e .rising, a .has .is-zone))
+    (chain-split f false 0 4 (a .before) g (a .behind) (rw (a .splits) at (listing-chain f 255))) in
+    let fs = all-left (a .before) (g ∷ a .behind) (subst (All (FieldOf f)) (a .splits) (chain-fields f false 0 4 (fields f) (listing-chain f 255))) in
+    let u = lockstep (Beside f ts) (Known f ts id) (job .content) (question id t .content) (λ x x′ y g′ k r e. go-on f ts id t x x′ y g′ k r e)
+    (a .before) start (q .0) noPool (known f ts id (a .before) (passed f id (a .before) (g ∷ a .behind) (a .splits) low (a .first)) fs)
+    (record { alike = begin-alike ts; located = record { within = omega arith; part = refl } }) (q .1) in
+    let p = pass-head (job .content) (q .0) (w .memory) g (a .behind) (q .2) in
+    let y : Pool = u .0 in
+    let i : Interval = inBody t (zone .body) in
+    let s = answers ts id t (q .0) (p .0) y (u .2 .alike) g (a .has) (p .1) in
+    let o = walk-answer (question id t) noPool f (length f) (c .whole) (a .before) g (a .behind) y (answered y i) (a .splits) (omega (arith, a .has .is-zone)) (u .1) s in
+    let l = lookup-holds (length ts) t (zone .body) ok fin in
+    let same : stringsOf (y .body) ≡ ts = sym (u .2 .alike .same) ∙ zone-pool ts id t (q .0) (p .0) y (u .2 .alike) g (a .has) (p .1) in
+    record {
+      interval = i;
+      given = answered y i;
+      answers-with = asks f id z Whole h ∙ ap (finish Whole) o;
+      of-zone = l .0;
+      holds = l .1;
+      only = λ x e k. lookup-only (length ts) t (zone .body) x ok fin e k;
+      wall-is = refl;
+      savings-is = refl;
+      start-is = refl;
+      end-is = refl;
+      named = name-is f y i (u .2 .located) (subst⁻¹ (λ (ss : List (List ℕ)). i .name < length ss) same (body-found (length ts) t (zone .body) ok fin .name-ok))
+          ∙ ap (λ (ss : List (List ℕ)). getD ss (i .name) []) same;
+    }

@@ -1,0 +1,54 @@
+-- DEMAND 3, standing answers: "More bytes never change what we have said." Assumes nothing.
+use mathlib.Core.Path.{_≡_, refl, sym, ap, _∙_}
+use mathlib.Core.Bool.{Bool, true, false}
+use mathlib.Core.List.{List, _++_}
+use Prim.Native.Nat.{ℕ}
+use lib.IntN.{ℤ}
+use lib.Dec.{eqb}
+use Rattle.base.specs.Pick.{pick}
+use Rattle.base.proofs.Tests.{never}
+use Rattle.signed.specs.Instant.{instantOf}
+use Rattle.frames.specs.Machine.{Out, found, refused, cut, ended, final, walk}
+use Rattle.frames.proofs.GrowthLaws.{walk-stable}
+use Rattle.questions.specs.Question.{Pool, noPool, question, waiting, finish, ask}
+use Rattle.questions.specs.declared.Mark.{Mark}
+use Rattle.questions.specs.declared.Mark.the-variants.{More, All}
+use Rattle.questions.specs.declared.Found.{Found}
+use Rattle.questions.specs.declared.Answer.{Answer}
+use Rattle.questions.specs.declared.Answer.the-variants.{In, Refused}
+use Rattle.demands.specs.Zones.{numberOf}
+
+-- what is not "not yet" is settled
+settled : (o : Out Pool Found) → (numberOf (finish More o) ≡ 1 → ⊥) → final o ≡ true
+settled (found x p) h = refl
+settled (refused n p) h = refl
+settled (cut p) h = absurd (h refl)
+settled (ended m p) h = absurd (h refl)
+
+-- and the mark does not matter then
+unmarked : (mark : Mark) (o : Out Pool Found) → final o ≡ true → finish mark o ≡ finish More o
+unmarked mark (found x p) h = refl
+unmarked mark (refused n p) h = refl
+unmarked mark (cut p) h = never h refl
+unmarked mark (ended m p) h = never h refl
+
+-- what waits is "not yet"
+pub waits : (o : Out Pool Found) → final o ≡ false → numberOf (finish More o) ≡ 1
+waits (found x p) h = never refl h
+waits (refused n p) h = never refl h
+waits (cut p) h = refl
+waits (ended m p) h = refl
+
+-- "Take any bytes, any zone name and any instant, asked with more expected. If that gives anything but 'not yet', then whatever bytes
+-- follow, the bytes so lengthened give the same answer or refusal, asked with more expected or as all there is."
+pub standing : (bs more id : List ℕ) (z : ℤ) (mark : Mark) → (numberOf (ask bs id z More) ≡ 1 → ⊥) → ask (bs ++ more) id z mark ≡ ask bs id z More
+unfolding ask
+standing bs more id z mark = go (eqb (instantOf z) 0)
+  where
+    go : (t : Bool) → (numberOf (pick t (Refused 14 0) (finish More (walk (question id (instantOf z)) noPool bs))) ≡ 1 → ⊥)
+        → pick t (Refused 14 0) (finish mark (walk (question id (instantOf z)) noPool (bs ++ more)))
+        ≡ pick t (Refused 14 0) (finish More (walk (question id (instantOf z)) noPool bs))
+    go true h = refl
+    go false h =
+        let s = settled (walk (question id (instantOf z)) noPool bs) h in
+        rw (walk-stable (question id (instantOf z)) noPool bs more s) (unmarked mark (walk (question id (instantOf z)) noPool bs) s)

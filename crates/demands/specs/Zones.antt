@@ -1,0 +1,33 @@
+-- The words of demand 3, on a file's fields and not by way of a question. Assumes nothing: these are definitions.
+use Prim.Native.Nat.{ℕ}
+use mathlib.Core.Path.{_≡_}
+use mathlib.Core.List.{List, [], _∷_, _++_}
+use lib.IntN.{ℤ}
+use Rattle.signed.specs.Instant.{instantOf}
+use Rattle.frames.specs.Frame.{Field}
+use Rattle.frames.specs.Fields.{fields}
+use Rattle.frames.proofs.All.{All}
+use Rattle.questions.specs.declared.Answer.{Answer}
+use Rattle.questions.specs.declared.Answer.the-variants.{In, Refused}
+use Rattle.checks.specs.Check.{filePool, HasId}
+
+-- the table's number of an answer
+abbrev pub numberOf : Answer → ℕ
+numberOf (In x) = 0
+numberOf (Refused n p) = n
+
+-- an instant from year 1 to year 9999
+abbrev pub InRange : ℤ → Type 0
+InRange z = instantOf z ≡ 0 → ⊥
+
+-- "The asked zone is the field of ID 1 whose zone ID has exactly the asked bytes": g is that field of f
+pub record Asked (f id : List ℕ) (g : Field) : Type 0 where
+  pub before : List Field
+  pub behind : List Field
+  pub splits : fields f ≡ before ++ g ∷ behind
+  pub has : HasId (filePool (fields f)) id g
+  pub first : All (λ h. HasId (filePool (fields f)) id h → ⊥) before
+
+-- "the file has no such zone"
+abbrev pub NoZone : List ℕ → List ℕ → Type 0
+NoZone f id = All (λ h. HasId (filePool (fields f)) id h → ⊥) (fields f)

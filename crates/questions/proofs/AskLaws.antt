@@ -1,0 +1,56 @@
+-- The question, by the walk's outcome and the mark. Assumes nothing.
+use mathlib.Core.Path.{_≡_, refl, sym, ap, _∙_, subst⁻¹}
+use mathlib.Core.Logic.{_⊎_, inl, inr}
+use mathlib.Core.List.{List, []}
+use Prim.Native.Nat.{ℕ, _+_, _-_, _≤_, _<_}
+use native.Mathlib.Omega.{arith}
+use lib.IntN.{ℤ}
+use lib.ListN.{length, take, drop}
+use borrow.Author.Tests.{eq-eqb, ne-eqb, le-leb, lt-leb}
+use Rattle.base.specs.Moment.{Finite}
+use Rattle.signed.specs.Instant.{instantOf}
+use Rattle.signed.proofs.IntegerLaws.{finite-or-none}
+use Rattle.frames.specs.Machine.{Out, found, refused, cut, ended, walk}
+use Rattle.questions.specs.Question.{Pool, noPool, question, finish, ask, nameOf}
+use Rattle.questions.specs.View.{part, outcomeOf, answerOf}
+use Rattle.questions.specs.declared.Mark.{Mark}
+use Rattle.questions.specs.declared.Found.{Found}
+use Rattle.questions.specs.declared.Answer.the-variants.{In, Refused}
+use Rattle.questions.specs.declared.Outcome.{Outcome}
+
+finish-is : (mark : Mark) (o : Out Pool Found) → answerOf mark (outcomeOf o) ≡ finish mark o
+finish-is mark (found x p) = refl
+finish-is mark (refused n p) = refl
+finish-is mark (cut p) = refl
+finish-is mark (ended m p) = refl
+
+module _ (bs id : List ℕ) (z : ℤ) (mark : Mark) (t : ℕ) (e : t ≡ instantOf z) where
+  pub ask-outside : t ≡ 0 → Refused 14 0 ≡ ask bs id z mark
+  unfolding ask
+  ask-outside h = rw (eq-eqb (instantOf z) 0 (sym e ∙ h))
+
+  pub ask-inside : (t ≡ 0 → ⊥) → (o : Outcome) → o ≡ outcomeOf (walk (question id t) noPool bs) → answerOf mark o ≡ ask bs id z mark
+  unfolding ask
+  ask-inside h o k =
+      rw (ne-eqb (instantOf z) 0 (λ f. h (e ∙ f))) (
+      ap (answerOf mark) k ∙ finish-is mark (walk (question id t) noPool bs)
+      ∙ ap (λ (u : ℕ). finish mark (walk (question id u) noPool bs)) e
+      )
+
+-- the name
+module _ (bs : List ℕ) (x : Found) where
+  pub name-out : length bs < x .name + x .length → [] ≡ nameOf bs x
+  name-out h = rw (lt-leb (x .name + x .length) (length bs) h)
+
+  pub name-in : x .name + x .length ≤ length bs → take (x .name + x .length - x .name) (drop (x .name) bs) ≡ nameOf bs x
+  name-in h =
+      let e : x .name + x .length - x .name ≡ x .length = omega arith in
+      rw (le-leb (x .name + x .length) (length bs) h, e)
+
+-- what is not 0 is an instant
+pub instant-finite : (t : ℕ) (z : ℤ) → t ≡ instantOf z → (t ≡ 0 → ⊥) → Finite t
+instant-finite t z e h = go (finite-or-none z)
+  where
+    go : (instantOf z ≡ 0) ⊎ Finite (instantOf z) → Finite t
+    go (inl k) = absurd (h (e ∙ k))
+    go (inr f) = subst⁻¹ Finite e f

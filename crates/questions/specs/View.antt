@@ -1,0 +1,45 @@
+-- What the code's results stand for. Assumes nothing: these are definitions.
+use Prim.Native.Nat.{ℕ, _-_, _≤_, _<_}
+use mathlib.Core.Path.{_≡_}
+use mathlib.Core.List.{List}
+use lib.ListN.{length, take, drop}
+use Rattle.frames.specs.Machine.{Out, found, refused, cut, ended, Content, bad, answer, keep}
+use Rattle.questions.specs.Question.{Pool, waiting}
+use Rattle.questions.specs.declared.Mark.{Mark}
+use Rattle.questions.specs.declared.Answer.{Answer}
+use Rattle.questions.specs.declared.Answer.the-variants.{In, Refused as Denied}
+use Rattle.questions.specs.declared.Found.{Found}
+use Rattle.questions.specs.declared.Outcome.{Outcome}
+use Rattle.questions.specs.declared.Outcome.the-variants.{Answered, Refused, Cut, End}
+use Rattle.questions.specs.declared.Judged.{Judged}
+use Rattle.questions.specs.declared.Judged.the-variants.{Here, Keep, Fault}
+
+-- the bytes of s from a to e
+abbrev pub part : ℕ → ℕ → List ℕ → List ℕ
+part a e s = take (e - a) (drop a s)
+
+abbrev pub poolOf : ℕ → List ℕ → Pool
+poolOf start d = record { start = start; body = d }
+
+abbrev pub poolAt : List ℕ → ℕ → ℕ → Pool
+poolAt s a e = poolOf a (part a e s)
+
+-- an outcome, without what is remembered and without the place behind an answer
+abbrev pub outcomeOf : Out Pool Found → Outcome
+outcomeOf (found x p) = Answered x
+outcomeOf (refused n p) = Refused n p
+outcomeOf (cut p) = Cut p
+outcomeOf (ended m p) = End p
+
+-- what the mark makes of an outcome
+abbrev pub answerOf : Mark → Outcome → Answer
+answerOf mark (Answered x) = In x
+answerOf mark (Refused n p) = Denied n p
+answerOf mark (Cut p) = Denied (waiting mark 2) p
+answerOf mark (End p) = Denied (waiting mark 12) p
+
+-- what a zone says to the question
+abbrev pub judgedOf : Pool → Judged → Content Pool Found
+judgedOf p (Here x) = answer x
+judgedOf p Keep = keep p
+judgedOf p (Fault n) = bad n

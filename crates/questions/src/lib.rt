@@ -1,0 +1,247 @@
+// Asking one zone at one instant, on any bytes.
+use frames::Frame;
+use pool::Checked;
+use zones::Answer as ZoneAnswer;
+use zones::Found as Interval;
+use zones::Verdict;
+ghost use mathlib.Core.Path.{_≡_};
+ghost use Prim.Native.Nat.{_≤_, _<_};
+ghost use lib.ListN.{length, drop};
+ghost use mathlib.Core.Bool.{true, false};
+ghost use Rattle.base.specs.Moment.{Finite};
+ghost use Rattle.pool.specs.Pool.{stringsOf};
+ghost use Rattle.pool.specs.Index.{Ready};
+ghost use Rattle.zones.specs.Parse.{parseZone};
+ghost use Rattle.zones.specs.Sound.{FoundOk};
+ghost use Rattle.frames.specs.Machine.{from, stateAt, walk as walkOf};
+ghost use Rattle.questions.specs.Question.{noPool, answered as answeredOf, zoneSays, question, finish as finishOf, ask as askOf, askPlain, nameOf};
+ghost use Rattle.questions.specs.View.{part, poolAt, poolOf, outcomeOf, answerOf, judgedOf};
+
+// Whether more bytes may come.
+pub enum Mark {
+    More,
+    All,
+}
+
+// An answer: offsets in milliseconds, the place and the length of the name in the asked bytes, start and end in ticks since 1970; the
+// least i64 is start of time and the largest is end of time.
+pub struct Found {
+    pub wall: i64,
+    pub savings: i64,
+    pub name: usize,
+    pub length: usize,
+    pub start: i64,
+    pub end: i64,
+}
+
+// An answer, or the number and the place of a refusal.
+pub enum Answer {
+    In(Found),
+    Refused(u8, usize),
+}
+
+// What a walk comes to. Cut and End are the two ways of having too few bytes: inside the version or a field, and at the end of one.
+pub enum Outcome {
+    Answered(Found),
+    Refused(u8, usize),
+    Cut(usize),
+    End(usize),
+}
+
+// What a zone says to the question: its answer, nothing, or the number of its fault.
+pub enum Judged {
+    Here(Found),
+    Keep,
+    Fault(u8),
+}
+
+fn answered(pool: &[u8], starts: &[u32; 8192], start: usize, x: Interval) -> Found
+    requires { ⌜ Ready (now pool) (now starts) × FoundOk (length (stringsOf (now pool))) x × (start ≤ 4194304) × (length (now pool) ≤ 4194304) ⌝ }
+    ensures { λ r. ⌜ r ≡ answeredOf (poolOf start (now (pool .entry))) x ⌝ }
+{
+    let k = x.name as usize;
+    let p = pool::span_by(pool, starts, k);
+    let wall = signed::milliseconds(x.wall);
+    let savings = signed::milliseconds(x.savings);
+    let from = signed::ticks(x.start);
+    let to = signed::ticks(x.end);
+    Found {
+        wall: wall,
+        savings: savings,
+        name: start + p.at,
+        length: p.len,
+        start: from,
+        end: to,
+    }
+}
+
+// A whole zone in d: checked, and asked where its ID is the asked one.
+fn judge(
+    pool: &[u8],
+    starts: &[u32; 8192],
+    start: usize,
+    count: usize,
+    d: &[u8],
+    id: &[u8],
+    t: u64,
+) -> Judged
+    requires { ⌜ Ready (now pool) (now starts) × (count ≡ length (stringsOf (now pool))) × (start ≤ 4194304) × (length (now pool) ≤ 4194304) × Finite t ⌝ }
+    ensures { λ r. ⌜ judgedOf (poolOf start (now (pool .entry))) r ≡ zoneSays (now (id .entry)) t (poolOf start (now (pool .entry))) (parseZone count (now (d .entry))) ⌝ }
+{
+    match zones::check(d, count as u64) {
+        Verdict::Refused(n) => Judged::Fault(n),
+        Verdict::Good(z) => {
+            let k = z as usize;
+            if pool::has_id(pool, starts, k, id) {
+                return match zones::find(d, count as u64, t) {
+                    ZoneAnswer::Refused(n) => Judged::Fault(n),
+                    ZoneAnswer::In(x) => Judged::Here(answered(pool, starts, start, x)),
+                };
+            }
+            Judged::Keep
+        }
+    }
+}
+
+// The zones behind field 0, whose data is s[start..end].
+fn walk_zones(
+    s: &[u8],
+    starts: &[u32; 8192],
+    start: usize,
+    end: usize,
+    count: usize,
+    id: &[u8],
+    t: u64,
+) -> Outcome
+    requires { ⌜ (0 < end) × (start ≤ end) × (end ≤ length (now s)) × (end ≤ 4194304) × Ready (part start end (now s)) (now starts) × (count ≡ length (stringsOf (part start end (now s)))) × Finite t ⌝ }
+    ensures { λ r. ⌜ r ≡ outcomeOf (from (question (now (id .entry)) t) (stateAt end (drop end (now (s .entry))) true 0 (poolAt (now (s .entry)) start end))) ⌝ }
+{
+    let mut at = end;
+    let mut prev: u8 = 0;
+    loop {
+        let f = frames::read_frame(&s[at..], 1, at, true, prev);
+        match f {
+            Frame::End => {
+                return Outcome::End(at);
+            }
+            Frame::Cut => {
+                return Outcome::Cut(at);
+            }
+            Frame::Refused(n) => {
+                return Outcome::Refused(n, at);
+            }
+            // The version stands at place 0 only.
+            Frame::Version => {
+                return Outcome::Cut(at);
+            }
+            Frame::Whole(i, h, n) => {
+                let d = at + h;
+                let e = d + n;
+                let j = judge(&s[start..end], starts, start, count, &s[d..e], id, t);
+                match j {
+                    Judged::Here(x) => {
+                        return Outcome::Answered(x);
+                    }
+                    Judged::Fault(k) => {
+                        return Outcome::Refused(k, at);
+                    }
+                    Judged::Keep => {
+                        at = e;
+                        prev = i;
+                    }
+                }
+            }
+        }
+    }
+}
+
+// What stands behind the version.
+fn walk_pool(s: &[u8], id: &[u8], t: u64) -> Outcome
+    requires { ⌜ (4 ≤ length (now s)) × Finite t ⌝ }
+    ensures { λ r. ⌜ r ≡ outcomeOf (from (question (now (id .entry)) t) (stateAt 4 (drop 4 (now (s .entry))) false 0 noPool)) ⌝ }
+{
+    let at: usize = 4;
+    match frames::read_frame(&s[at..], 1, at, false, 0) {
+        Frame::End => Outcome::End(at),
+        Frame::Cut => Outcome::Cut(at),
+        Frame::Refused(n) => Outcome::Refused(n, at),
+        // The version stands at place 0 only.
+        Frame::Version => Outcome::Cut(at),
+        Frame::Whole(_, h, n) => {
+            let d = at + h;
+            let e = d + n;
+            let mut starts = [0u32; 8192];
+            match pool::check_pool(&s[d..e], &mut starts) {
+                Checked::Refused(m) => Outcome::Refused(m, at),
+                Checked::Strings(k) => walk_zones(s, &starts, d, e, k, id, t),
+            }
+        }
+    }
+}
+
+fn walk(s: &[u8], id: &[u8], t: u64) -> Outcome
+    requires { ⌜ Finite t ⌝ }
+    ensures { λ r. ⌜ r ≡ outcomeOf (walkOf (question (now (id .entry)) t) noPool (now (s .entry))) ⌝ }
+{
+    match frames::read_frame(s, 1, 0, false, 0) {
+        Frame::End => Outcome::End(0),
+        Frame::Cut => Outcome::Cut(0),
+        Frame::Refused(n) => Outcome::Refused(n, 0),
+        Frame::Version => walk_pool(s, id, t),
+        // No field stands at place 0.
+        Frame::Whole(_, _, _) => Outcome::Cut(0),
+    }
+}
+
+// The mark is used here and nowhere else.
+fn finish(o: Outcome, mark: Mark) -> Answer
+    ensures { λ r. ⌜ r ≡ answerOf mark o ⌝ }
+{
+    match o {
+        Outcome::Answered(x) => Answer::In(x),
+        Outcome::Refused(n, p) => Answer::Refused(n, p),
+        Outcome::Cut(p) => match mark {
+            Mark::More => Answer::Refused(1, p),
+            Mark::All => Answer::Refused(2, p),
+        },
+        Outcome::End(p) => match mark {
+            Mark::More => Answer::Refused(1, p),
+            Mark::All => Answer::Refused(12, p),
+        },
+    }
+}
+
+// The marked question: the zone with the bytes id, at a tick since 1970.
+pub fn ask(s: &[u8], id: &[u8], ticks: i64, mark: Mark) -> Answer
+    ensures { λ r. ⌜ r ≡ askOf (now (s .entry)) (now (id .entry)) ticks mark ⌝ }
+{
+    let t = signed::instant(ticks);
+    if t == 0 {
+        return Answer::Refused(14, 0);
+    }
+    let o = walk(s, id, t);
+    finish(o, mark)
+}
+
+// The plain question: this is all.
+pub fn ask_plain(s: &[u8], id: &[u8], ticks: i64) -> Answer
+    ensures { λ r. ⌜ r ≡ askPlain (now (s .entry)) (now (id .entry)) ticks ⌝ }
+{
+    ask(s, id, ticks, Mark::All)
+}
+
+// The name of an answer, as a part of the asked bytes.
+pub fn name_of<'a>(s: &'a [u8], x: Found) -> &'a [u8]
+    ensures { λ r. ⌜ now r ≡ nameOf (now (s .entry)) x ⌝ }
+{
+    let a = x.name;
+    let n = x.length;
+    if s.len() < a {
+        return &s[0..0];
+    }
+    if s.len() - a < n {
+        return &s[0..0];
+    }
+    let e = a + n;
+    &s[a..e]
+}

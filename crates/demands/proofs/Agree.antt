@@ -22,12 +22,12 @@ use Rattle.zones.specs.Parse.{parseZone}
 use Rattle.frames.specs.Frame.{Field}
 use Rattle.frames.specs.Fields.{fields, firstAbove}
 use Rattle.frames.proofs.All.{All, all-none, all-also}
-use Rattle.questions.specs.Question.{ask, askPlain}
+use Rattle.questions.specs.Question.{numberOf, ask, askPlain}
 use Rattle.questions.specs.declared.Mark.the-variants.{More, All as Whole}
 use Rattle.questions.specs.declared.Answer.{Answer}
 use Rattle.questions.specs.declared.Answer.the-variants.{In, Refused}
 use Rattle.checks.specs.Check.{WellFormed, filePool, HasId}
-use Rattle.demands.specs.Zones.{numberOf, InRange, Asked, NoZone}
+use Rattle.demands.specs.Zones.{InRange, Asked, NoZone}
 use Rattle.demands.proofs.Exact.{zone-there, missing-number}
 
 -- whether a field is the zone with the ID is decided

@@ -25,14 +25,14 @@ use Rattle.frames.proofs.PassLaws.{pass-first, lockstep}
 use Rattle.frames.proofs.CapLaws.{stopAt}
 use Rattle.frames.proofs.PartLaws.{Absent, absent-beside, answer-beside, walk-ended, walk-fields}
 use Rattle.zones.specs.Lookup.{inBody}
-use Rattle.questions.specs.Question.{Pool, noPool, answered, question, finish, ask}
+use Rattle.questions.specs.Question.{numberOf, Pool, noPool, answered, question, finish, ask}
 use Rattle.questions.specs.declared.Mark.{Mark}
 use Rattle.questions.specs.declared.Mark.the-variants.{More, All as Whole}
 use Rattle.questions.specs.declared.Found.{Found}
 use Rattle.questions.specs.declared.Answer.{Answer}
 use Rattle.questions.specs.declared.Answer.the-variants.{In, Refused}
 use Rattle.checks.specs.Check.{Memory, start, job, WellFormed, filePool, HasId}
-use Rattle.demands.specs.Zones.{numberOf, InRange, Asked, NoZone}
+use Rattle.demands.specs.Zones.{InRange, Asked, NoZone}
 use Rattle.demands.proofs.Standing.{waits}
 use Rattle.demands.proofs.Beside.{Alike, Passed, keeps, answers}
 

@@ -10,13 +10,12 @@ use Rattle.base.proofs.Tests.{never}
 use Rattle.signed.specs.Instant.{instantOf}
 use Rattle.frames.specs.Machine.{Out, found, refused, cut, ended, final, walk}
 use Rattle.frames.proofs.GrowthLaws.{walk-stable}
-use Rattle.questions.specs.Question.{Pool, noPool, question, waiting, finish, ask}
+use Rattle.questions.specs.Question.{numberOf, Pool, noPool, question, waiting, finish, ask}
 use Rattle.questions.specs.declared.Mark.{Mark}
 use Rattle.questions.specs.declared.Mark.the-variants.{More, All}
 use Rattle.questions.specs.declared.Found.{Found}
 use Rattle.questions.specs.declared.Answer.{Answer}
 use Rattle.questions.specs.declared.Answer.the-variants.{In, Refused}
-use Rattle.demands.specs.Zones.{numberOf}
 
 -- what is not "not yet" is settled
 settled : (o : Out Pool Found) → (numberOf (finish More o) ≡ 1 → ⊥) → final o ≡ true

@@ -7,14 +7,7 @@ use Rattle.signed.specs.Instant.{instantOf}
 use Rattle.frames.specs.Frame.{Field}
 use Rattle.frames.specs.Fields.{fields}
 use Rattle.frames.proofs.All.{All}
-use Rattle.questions.specs.declared.Answer.{Answer}
-use Rattle.questions.specs.declared.Answer.the-variants.{In, Refused}
 use Rattle.checks.specs.Check.{filePool, HasId}
-
--- the table's number of an answer
-abbrev pub numberOf : Answer → ℕ
-numberOf (In x) = 0
-numberOf (Refused n p) = n
 
 -- an instant from year 1 to year 9999
 abbrev pub InRange : ℤ → Type 0

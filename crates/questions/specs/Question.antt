@@ -23,6 +23,16 @@ use Rattle.questions.specs.declared.Found.{Found}
 use Rattle.questions.specs.declared.Answer.{Answer}
 use Rattle.questions.specs.declared.Answer.the-variants.{In, Refused}
 
+-- The table's number of an answer, and the place of a refusal: "A refusal carries number and place and no name." An answer's values
+-- are those of `Found`, with number 0.
+abbrev pub numberOf : Answer → ℕ
+numberOf (In x) = 0
+numberOf (Refused n p) = n
+
+abbrev pub placeOf : Answer → ℕ
+placeOf (In x) = 0
+placeOf (Refused n p) = p
+
 -- what a question remembers: where the data of field 0 starts in the file, and that data; none before field 0
 pub record Pool : Type 0 where
   pub start : ℕ

@@ -177,31 +177,6 @@ fn times(line: &[u8]) -> usize {
     wide(size[0]) * 65536 + wide(size[1]) * 256 + wide(size[2])
 }
 
-// Puts part into buf at a place, where it has room, and gives the place behind it.
-fn append(buf: &mut [u8], at: usize, part: &[u8]) -> usize
-    requires { ⌜ at ≤ length (now buf) ⌝ }
-    ensures { λ r. ⌜ r ≤ length (now (buf .exit)) ⌝ }
-{
-    if buf.len() - at < part.len() {
-        return at;
-    }
-    bytes::copy(part, &mut buf[at..]);
-    at + part.len()
-}
-
-fn repeat(buf: &mut [u8], from: usize, unit: &[u8], times: usize) -> usize
-    requires { ⌜ from ≤ length (now buf) ⌝ }
-    ensures { λ r. ⌜ r ≤ length (now (buf .exit)) ⌝ }
-{
-    let mut at = from;
-    let mut i: usize = 0;
-    while i < times {
-        at = append(buf, at, unit);
-        i += 1;
-    }
-    at
-}
-
 // The file, at the start of buf.
 fn build(line: &[u8], buf: &mut [u8]) -> usize
     ensures { λ r. ⌜ Counts r (now (buf .exit)) ⌝ }
@@ -212,9 +187,9 @@ fn build(line: &[u8], buf: &mut [u8]) -> usize
     let f = hex::word(line, 2, &mut front);
     let u = hex::word(line, 3, &mut unit);
     let e = hex::word(line, 5, &mut end);
-    let a = append(buf, 0, &front[..f]);
-    let b = repeat(buf, a, &unit[..u], times(line));
-    append(buf, b, &end[..e])
+    let a = hex::append(buf, 0, &front[..f]);
+    let b = hex::repeat(buf, a, &unit[..u], times(line));
+    hex::append(buf, b, &end[..e])
 }
 
 fn run_line(line: &[u8], buf: &mut [u8]) {

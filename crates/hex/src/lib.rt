@@ -1,4 +1,4 @@
-// Hexadecimal text, for the programs that run stored cases.
+// Hexadecimal text and the bytes that it spells, for the programs that run stored cases.
 use libc::STDOUT_FILENO;
 ghost use Prim.Native.Nat.{_≤_, _<_};
 ghost use lib.ListN.{length};
@@ -85,4 +85,30 @@ pub fn print(s: &[u8]) {
         io::print_hex(STDOUT_FILENO, s[i] as u64, 2);
         i += 1;
     }
+}
+
+// Puts part into buf at a place, where it has room, and gives the place behind it.
+pub fn append(buf: &mut [u8], at: usize, part: &[u8]) -> usize
+    requires { ⌜ at ≤ length (now buf) ⌝ }
+    ensures { λ r. ⌜ r ≤ length (now (buf .exit)) ⌝ }
+{
+    if buf.len() - at < part.len() {
+        return at;
+    }
+    bytes::copy(part, &mut buf[at..]);
+    at + part.len()
+}
+
+// Puts unit into buf so many times, each where it has room, and gives the place behind the last.
+pub fn repeat(buf: &mut [u8], from: usize, unit: &[u8], times: usize) -> usize
+    requires { ⌜ from ≤ length (now buf) ⌝ }
+    ensures { λ r. ⌜ r ≤ length (now (buf .exit)) ⌝ }
+{
+    let mut at = from;
+    let mut i: usize = 0;
+    while i < times {
+        at = append(buf, at, unit);
+        i += 1;
+    }
+    at
 }

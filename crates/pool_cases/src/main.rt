@@ -22,31 +22,6 @@ fn number(n: usize) {
     io::print_decimal(STDOUT_FILENO, n as u64);
 }
 
-// Puts part into buf at a place, where it has room, and gives the place behind it.
-fn append(buf: &mut [u8], at: usize, part: &[u8]) -> usize
-    requires { ⌜ at ≤ length (now buf) ⌝ }
-    ensures { λ r. ⌜ r ≤ length (now (buf .exit)) ⌝ }
-{
-    if buf.len() - at < part.len() {
-        return at;
-    }
-    bytes::copy(part, &mut buf[at..]);
-    at + part.len()
-}
-
-fn repeat(buf: &mut [u8], from: usize, unit: &[u8], times: usize) -> usize
-    requires { ⌜ from ≤ length (now buf) ⌝ }
-    ensures { λ r. ⌜ r ≤ length (now (buf .exit)) ⌝ }
-{
-    let mut at = from;
-    let mut i: usize = 0;
-    while i < times {
-        at = append(buf, at, unit);
-        i += 1;
-    }
-    at
-}
-
 // The pool's data, at the start of buf.
 fn build(line: &[u8], buf: &mut [u8]) -> usize
     ensures { λ r. ⌜ Counts r (now (buf .exit)) ⌝ }
@@ -60,9 +35,9 @@ fn build(line: &[u8], buf: &mut [u8]) -> usize
     hex::word(line, 2, &mut size);
     let e = hex::word(line, 3, &mut end);
     let times = wide(size[0]) * 256 + wide(size[1]);
-    let a = append(buf, 0, &front[..f]);
-    let b = repeat(buf, a, &unit[..u], times);
-    append(buf, b, &end[..e])
+    let a = hex::append(buf, 0, &front[..f]);
+    let b = hex::repeat(buf, a, &unit[..u], times);
+    hex::append(buf, b, &end[..e])
 }
 
 fn wide(b: u8) -> usize

@@ -2,8 +2,8 @@ use Prim.Native.Nat.{_≤_, _-_}
 use lib.ListN.{length}
 use mathlib.Core.Path.{_≡_}
 use borrow.Author.Needs.{needs}
-use Rattle.pool_cases.proofs.repeat.Statement.{statement}
-use Rattle.pool_cases.proofs.repeat.Tie as tie
+use Rattle.hex.proofs.repeat.Statement.{statement}
+use Rattle.hex.proofs.repeat.Tie as tie
 
 abbrev Inv-loop : tie.InvT-loop
 Inv-loop buf₀ from unit times at₀ i₀ buf at i = (at ≤ length buf) × (length buf ≡ length buf₀)

@@ -31,9 +31,9 @@ use Rattle.checks.specs.Check.{placed, Memory, start, withPool, withId, 
 use Rattle.checks.specs.Check.{zoneKept, textIn, textKept, contentOf, job, WellFormed, filePool, HasId}
 
 -- m′ has the pool of m, and its IDs at least
-record Grown (m m′ : Memory) : Type 0 where
-  pool : m′ .pool ≡ m .pool
-  ids : (x : List ℕ) → among x (m .ids) ≡ true → among x (m′ .ids) ≡ true
+pub record Grown (m m′ : Memory) : Type 0 where
+  pub pool : m′ .pool ≡ m .pool
+  pub ids : (x : List ℕ) → among x (m .ids) ≡ true → among x (m′ .ids) ≡ true
 
 grown-same : (m : Memory) → Grown m m
 grown-same m = record { pool = refl; ids = λ x h. h }
@@ -49,7 +49,7 @@ among-more x y ys h = go (equal y x)
     go true = refl
     go false = h
 
-abbrev KeepGrows : Memory → Content Memory ⊥ → Type 0
+abbrev pub KeepGrows : Memory → Content Memory ⊥ → Type 0
 KeepGrows m x = (m′ : Memory) → x ≡ keep m′ → Grown m m′
 
 bad-keeps : (m : Memory) (n : ℕ) → KeepGrows m (bad n)
@@ -88,7 +88,7 @@ text-grows m a d = go (readText d)
     go (Part b n) m′ e = two b n (eqb (b + n) (length d)) m′ e
 
 -- a field behind the first
-field-grows : (m : Memory) (g : Field) → 0 < g .id → KeepGrows m (job .content m g)
+pub field-grows : (m : Memory) (g : Field) → 0 < g .id → KeepGrows m (job .content m g)
 unfolding contentOf
 field-grows m g l m′ e = go (eqb (g .id) 1) (eqb (g .id) 2) m′ (rw (ne-eqb (g .id) 0 (λ z. omega arith)) at e)
   where
@@ -109,7 +109,7 @@ pass-grows (g ∷ gs) m m′ a h = go (job .content m g) refl h (λ m″. pass-g
     go (keep m″) e k rec = grown-on m m″ m′ (field-grows m g (all-head a) m″ e) (rec m″ k)
 
 -- the first field is the pool
-first-pool : (g : Field) (m : Memory) → g .id ≡ 0 → job .content start g ≡ keep m → m .pool ≡ stringsOf (g .body)
+pub first-pool : (g : Field) (m : Memory) → g .id ≡ 0 → job .content start g ≡ keep m → m .pool ≡ stringsOf (g .body)
 unfolding contentOf poolKept
 first-pool g m z e = go (parsePool (g .body)) (rw (eq-eqb (g .id) 0 z) at e)
   where

@@ -4,4 +4,5 @@ pub mod Beside
 pub mod Exact
 pub mod Agree
 pub mod Right
+pub mod Rewriting
 pub mod Example

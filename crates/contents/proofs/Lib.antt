@@ -1,0 +1,5 @@
+pub mod PieceLaws
+pub mod PutLaws
+pub mod FormLaws
+pub mod GoingLaws
+pub mod HeadLaws

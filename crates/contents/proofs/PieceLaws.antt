@@ -1,0 +1,97 @@
+-- A transition and what follows it, at a place of the data. Assumes nothing.
+use mathlib.Core.Path.{_≡_, refl, sym, ap}
+use mathlib.Core.List.{List, []}
+use Prim.Native.Nat.{ℕ, zero, suc, _+_, _-_, _≤_}
+use native.Mathlib.Omega.{arith}
+use lib.ListN.{length, take, drop, length-drop, drop-of-length-le}
+use borrow.Author.Tests.{ne-eqb, eq-eqb}
+use Rattle.base.specs.Parsed.{got, behindCode, parse}
+use Rattle.base.specs.declared.Read.{Read}
+use Rattle.base.specs.declared.Read.the-variants.{Value, Refused}
+use Rattle.base.proofs.ParseLaws.{bad-got, bind-good}
+use Rattle.places.specs.Placed.{Placed, at, no, Stands}
+use Rattle.places.proofs.PlaceLaws.{placed-got, code-holds, on, off, here}
+use Rattle.counts.specs.Count.{readCount}
+use Rattle.counts.proofs.CountLaws.{counted}
+use Rattle.transitions.specs.Transition.{readMoment}
+use Rattle.offsets.specs.Offset.{readSum}
+use Rattle.contents.specs.Content.{upTo, parseWall, pieceEnd, pieceOf, afterMoment, parsePiece, afterFlag, afterCount}
+use Rattle.contents.specs.View.{PieceAt}
+use Rattle.contents.specs.declared.PieceRead.the-variants.{Got, Refused as Unread}
+
+-- behind the end transition stands all the rest
+pub end-all : (s : List ℕ) (place n : ℕ) → n ≡ 0 → Stands s (pieceEnd n (drop place s)) (at 0 (length s))
+unfolding pieceEnd
+end-all s place n e = rw e (record { means = ap (got 0) (sym (drop-of-length-le s {i = length s} (omega arith))); within = omega arith })
+
+pub end-details : (s : List ℕ) (place n : ℕ) (x : Placed ℕ) → (n ≡ 0 → ⊥) → Stands s (pieceEnd 1 (drop place s)) x → Stands s (pieceEnd n (drop place s)) x
+unfolding pieceEnd
+end-details s place zero x h k = absurd (h refl)
+end-details s place (suc n) x h k = k
+
+-- a reader leaves no more than it was given
+parse-shorter : (read : List ℕ → Read) (s : List ℕ) (v : ℕ) (r : List ℕ) → parse read s ≡ got v r → length r ≤ length s
+parse-shorter read s v r e = go (read s) e
+  where
+    go : (x : Read) → behindCode s x ≡ got v r → length r ≤ length s
+    go (Value w n) k = let y : drop n s ≡ r = cc in rw (← y, length-drop) (omega arith)
+    go (Refused j) k = bad-got k
+
+pub end-shorter : (n : ℕ) (s : List ℕ) (v : ℕ) (r : List ℕ) → pieceEnd n s ≡ got v r → length r ≤ length s
+unfolding pieceEnd parseWall
+end-shorter zero s v r e = let y : [] ≡ r = cc in rw (← y) (omega arith)
+end-shorter (suc n) s v r e =
+    let a = bind-good (parse readCount s) parseWall v r e in
+    let b = bind-good (parse readSum (a .rest)) (λ w q. parse readSum q) v r (a .on) in
+    let x = parse-shorter readCount s (a .first) (a .rest) (a .is) in
+    let y = parse-shorter readSum (a .rest) (b .first) (b .rest) (b .is) in
+    let z = parse-shorter readSum (b .rest) v r (b .on) in
+    omega arith
+
+-- the bytes between two places
+up-to-places : (s : List ℕ) (a e : ℕ) → a ≤ length s → e ≤ length s → upTo (drop a s) (drop e s) ≡ take (e - a) (drop a s)
+up-to-places s a e h k =
+    let n : length (drop a s) - length (drop e s) ≡ e - a = rw (length-drop, length-drop) (omega arith) in
+    rw n
+
+-- the piece at a place: its moment, then what follows it
+module _ (s : List ℕ) (n prev place : ℕ) where
+  pub piece-bad : (k : ℕ) → Stands s (parse (readMoment prev) (drop place s)) (no k) → PieceAt s n prev place (Unread k)
+  unfolding parsePiece
+  piece-bad k h = record { stands = off h (afterMoment n) k refl; ordered = tt }
+
+  pub piece-cut : (m a k : ℕ) → Stands s (parse (readMoment prev) (drop place s)) (at m a) → Stands s (pieceEnd n (drop a s)) (no k)
+      → PieceAt s n prev place (Unread k)
+  unfolding parsePiece afterMoment
+  piece-cut m a k h j = record { stands = on h (afterMoment n) m a (no k) refl (off j (pieceOf m (drop a s)) k refl); ordered = tt }
+
+  pub piece-got : (m a v e : ℕ) → Stands s (parse (readMoment prev) (drop place s)) (at m a) → Stands s (pieceEnd n (drop a s)) (at v e)
+      → PieceAt s n prev place (Got (record { moment = m; from = a; to = e }))
+  unfolding parsePiece afterMoment
+  piece-got m a v e h j =
+      let o : length (drop e s) ≤ length (drop a s) = end-shorter n (drop a s) v (drop e s) (placed-got j v e refl) in
+      let i : a ≤ length s = h .within in
+      let k : e ≤ length s = j .within in
+      record {
+        stands = on h (afterMoment n) m a _ refl (on j (pieceOf m (drop a s)) v e _ refl
+            (record { means = ap (λ (xs : List ℕ). got (record { moment = m; copied = xs }) (drop e s)) (up-to-places s a e i k); within = k }));
+        ordered = let b : length s - e ≤ length s - a = rw (length-drop, length-drop) at o in omega arith;
+      }
+
+-- how many transitions a zone has, by its flag
+module _ (s : List ℕ) (place flag : ℕ) where
+  pub flag-other : (flag ≡ 2 → ⊥) → Stands s (afterFlag flag (drop place s)) (at 0 (length s))
+  unfolding afterFlag
+  flag-other h = rw (ne-eqb flag 2 h) (record { means = ap (got 0) (sym (drop-of-length-le s {i = length s} (omega arith))); within = omega arith })
+
+  pub flag-cut : (k : ℕ) → flag ≡ 2 → Stands s (parse readCount (drop place s)) (no k) → Stands s (afterFlag flag (drop place s)) (no k)
+  unfolding afterFlag
+  flag-cut k h j = rw (eq-eqb flag 2 h) (off j afterCount k refl)
+
+  pub flag-listed : (n e : ℕ) → flag ≡ 2 → Stands s (parse readCount (drop place s)) (at n e)
+      → Stands s (afterFlag flag (drop place s)) (at (n + 1) e)
+  unfolding afterFlag afterCount
+  flag-listed n e h j = rw (eq-eqb flag 2 h) (on j afterCount n e _ refl (here s (suc n) (n + 1) e (omega arith) (j .within)))
+
+pub count-small : (q : List ℕ) (v : ℕ) (r : List ℕ) → parse readCount q ≡ got v r → v ≤ 2147483647
+count-small q v r e = code-holds readCount (λ w. w ≤ 2147483647) (λ s w n h. counted s h .small) q v r e

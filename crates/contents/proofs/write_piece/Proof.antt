@@ -1,0 +1,53 @@
+use denote.Ref.{now}
+use mathlib.Core.Path.{refl, ap, _∙_}
+use mathlib.Core.List.{_++_}
+use native.Mathlib.Omega.{arith}
+use Rattle.transitions.specs.Transition.{writeMoment}
+use Rattle.contents.proofs.PutLaws.{InTwo, first-room, front-room, front-within, rest-room, sum-room, both-put, copied}
+use Rattle.contents.specs.View.{Put}
+use Rattle.contents.proofs.FormLaws.{form-put, form-refused, moment-form}
+use borrow.Author.Needs.{needs}
+use Rattle.contents.proofs.write_piece.Statement.{statement}
+use Rattle.contents.proofs.write_piece.Tie as tie
+
+-- the transition, then the bytes behind it
+two : (c : tie.After-known-told) → InTwo (writeMoment (c .before .before .before .before .before .before .before .before .before .args .prev) (c .before .before .before .before .before .before .before .before .before .args .m) ++ now (c .before .before .before .before .before .before .before .before .before .args .s)) (writeMoment (c .before .before .before .before .before .before .before .before .before .args .prev) (c .before .before .before .before .before .before .before .before .before .args .m)) (now (c .before .before .before .before .before .before .before .before .before .args .s)) (now (c .before .before .before .before .before .before .before .before .before .args .out))
+two c = record { all = refl; room = c .before .before .before .before .before .before .before .before .before .pre .1 }
+
+put : (c : tie.After-known-told) → Put (writeMoment (c .before .before .before .before .before .before .before .before .before .args .prev) (c .before .before .before .before .before .before .before .before .before .args .m)) (now (c .before .before .before .before .before .before .before .before .before .args .out)) (c .before .n .given .0 .0) (c .before .before .before .before .before .write-moment .last .1 .1 .0)
+put c = form-put _ _ _ _ _ (moment-form _ _ (c .before .before .before .before .before .before .before .before .before .pre .0)) (front-room (two c)) (c .before .before .before .before .before .write-moment .ensures) _ (c .before .n .given .1)
+
+sub-copy : tie.Need-sub-copy
+sub-copy c = front-within (two c) (put c)
+
+part-copy-start : tie.Need-part-copy-start
+part-copy-start c = front-within (two c) (put c)
+
+copy-requires : tie.Need-copy-requires
+copy-requires c κs = rest-room (two (c .before)) (put (c .before))
+
+add-result : tie.Need-add-result
+add-result c = omega (arith, sum-room (two (c .before .before .before .before)), put (c .before .before .before .before) .size, c .before .before .copy .ensures .0, c .before .before .before .before .before .before .before .before .before .before .before .before .before .good)
+
+returns : tie.Need-returns
+returns c = absurd (form-refused _ _ _ _ _ (moment-form _ _ (c .before .before .before .before .before .before .before .before .pre .0)) (first-room (writeMoment (c .before .before .before .before .before .before .before .before .args .prev) (c .before .before .before .before .before .before .before .before .args .m)) _ (now (c .before .before .before .before .before .before .before .before .args .out)) (c .before .before .before .before .before .before .before .before .pre .1)) (c .before .before .before .before .write-moment .ensures) _ (c .enum-told .given .1))
+
+returns-2 : tie.Need-returns-2
+returns-2 c = both-put (two (c .before .before .before .before)) (put (c .before .before .before .before)) (copied _ _ _ _ (c .before .before .copy .ensures .0) (c .before .before .copy .ensures .1))
+
+pub write-piece-spec : {M : Type 1} → statement M
+write-piece-spec =
+    tie.close
+    (tie.spec
+    (λ c κs. search needs)
+    (λ c. search needs)
+    (λ c. search needs)
+    sub-copy
+    part-copy-start
+    (λ c. search needs)
+    copy-requires
+    add-result
+    (λ c. search needs)
+    returns
+    (λ c. search needs)
+    returns-2)

@@ -1,0 +1,211 @@
+// A field's data in its preferred form: how long it is, and the writing of it. Every transition is written in the writer's form, all
+// else is copied.
+use base::Read;
+use base::Wrote;
+ghost use mathlib.Core.Path.{_≡_};
+ghost use mathlib.Core.List.{_++_};
+ghost use Prim.Native.Nat.{_≤_};
+ghost use lib.ListN.{length, drop};
+ghost use Rattle.base.specs.Moment.{endOfTime};
+ghost use Rattle.base.proofs.MomentLaws.{Moment};
+ghost use Rattle.transitions.specs.Transition.{writeMoment};
+ghost use Rattle.places.specs.Placed.{Stands, ofRead};
+ghost use Rattle.contents.specs.Content.{pieceEnd, afterFlag, parseHead, printPieces, contentOf, print};
+ghost use Rattle.contents.specs.View.{PieceAt, HasPieces, HasContent, piecesAt, Put};
+
+// The mark end of time, as a moment.
+const END: u64 = 3281606784000000000;
+
+// A transition's moment, and where the bytes behind it start and end.
+pub struct Piece {
+    pub moment: u64,
+    pub from: usize,
+    pub to: usize,
+}
+
+pub enum PieceRead {
+    Got(Piece),
+    Refused(u8),
+}
+
+// The place behind an interval's name, wall offset and savings.
+fn behind_details(s: &[u8], at: usize) -> Read
+    requires { ⌜ at ≤ length (now s) ⌝ }
+    ensures { λ r. ⌜ Stands (now (s .entry)) (pieceEnd 1 (drop at (now (s .entry)))) (ofRead r) ⌝ }
+{
+    match places::count_at(s, at) {
+        Read::Refused(k) => Read::Refused(k),
+        Read::Value(_, a) => match places::sum_at(s, a) {
+            Read::Refused(k) => Read::Refused(k),
+            Read::Value(_, b) => places::sum_at(s, b),
+        },
+    }
+}
+
+// The end of the piece whose bytes start at a place, with n more pieces behind it.
+fn piece_end(s: &[u8], at: usize, n: u64) -> Read
+    requires { ⌜ at ≤ length (now s) ⌝ }
+    ensures { λ r. ⌜ Stands (now (s .entry)) (pieceEnd n (drop at (now (s .entry)))) (ofRead r) ⌝ }
+{
+    if n == 0 {
+        return Read::Value(0, s.len());
+    }
+    behind_details(s, at)
+}
+
+// The transition at a place, after a previous one, with n more behind it, and the bytes that follow it.
+fn read_piece(s: &[u8], at: usize, prev: u64, n: u64) -> PieceRead
+    requires { ⌜ at ≤ length (now s) ⌝ }
+    ensures { λ r. ⌜ PieceAt (now (s .entry)) n prev at r ⌝ }
+{
+    match places::moment_at(s, at, prev) {
+        Read::Refused(k) => PieceRead::Refused(k),
+        Read::Value(m, a) => match piece_end(s, a, n) {
+            Read::Refused(k) => PieceRead::Refused(k),
+            Read::Value(_, e) => PieceRead::Got(Piece {
+                moment: m,
+                from: a,
+                to: e,
+            }),
+        },
+    }
+}
+
+// The length of n pieces from a place on, in their preferred form.
+fn pieces_size(s: &[u8], at: usize, n: u64) -> usize
+    requires { ⌜ HasPieces (now s) n at ⌝ }
+    ensures { λ r. ⌜ r ≡ length (printPieces endOfTime (piecesAt (now (s .entry)) n at)) ⌝ }
+{
+    let mut left = n;
+    let mut place = at;
+    let mut prev = END;
+    let mut size = 0;
+    while 0 < left {
+        left -= 1;
+        let item = read_piece(s, place, prev, left);
+        match item {
+            PieceRead::Refused(_) => {
+                return 0;
+            }
+            PieceRead::Got(p) => {
+                size += transitions::moment_size(prev, p.moment) + (p.to - p.from);
+                place = p.to;
+                prev = p.moment;
+            }
+        }
+    }
+    size
+}
+
+// Writes a transition and the bytes that follow it.
+fn write_piece(prev: u64, m: u64, s: &[u8], out: &mut [u8]) -> usize
+    requires { ⌜ Moment m × (length (writeMoment prev m ++ now s) ≤ length (now out)) ⌝ }
+    ensures { λ r. ⌜ Put (writeMoment prev m ++ now (s .entry)) (now (out .entry)) r (now (out .exit)) ⌝ }
+{
+    match transitions::write_moment(prev, m, out) {
+        Wrote::Refused(_) => 0,
+        Wrote::Length(n) => n + bytes::copy(s, &mut out[n..]),
+    }
+}
+
+// Writes n pieces from a place on.
+fn write_pieces(s: &[u8], at: usize, n: u64, out: &mut [u8]) -> usize
+    requires { ⌜ HasPieces (now s) n at × (length (printPieces endOfTime (piecesAt (now s) n at)) ≤ length (now out)) ⌝ }
+    ensures { λ r. ⌜ Put (printPieces endOfTime (piecesAt (now (s .entry)) n at)) (now (out .entry)) r (now (out .exit)) ⌝ }
+{
+    let mut left = n;
+    let mut place = at;
+    let mut prev = END;
+    let mut w = 0;
+    while 0 < left {
+        left -= 1;
+        let item = read_piece(s, place, prev, left);
+        match item {
+            PieceRead::Refused(_) => {
+                return w;
+            }
+            PieceRead::Got(p) => {
+                let a = p.from;
+                let e = p.to;
+                w += write_piece(prev, p.moment, &s[a..e], &mut out[w..]);
+                place = e;
+                prev = p.moment;
+            }
+        }
+    }
+    w
+}
+
+// How many transitions a zone with a flag has, and the place of the first.
+fn behind_flag(s: &[u8], at: usize, flag: u64) -> Read
+    requires { ⌜ at ≤ length (now s) ⌝ }
+    ensures { λ r. ⌜ Stands (now (s .entry)) (afterFlag flag (drop at (now (s .entry)))) (ofRead r) ⌝ }
+{
+    if flag != 2 {
+        return Read::Value(0, s.len());
+    }
+    match places::count_at(s, at) {
+        Read::Refused(k) => Read::Refused(k),
+        Read::Value(n, e) => Read::Value(n + 1, e),
+    }
+}
+
+// The same from the front of the zone's data on.
+fn read_head(s: &[u8]) -> Read
+    ensures { λ r. ⌜ Stands (now (s .entry)) (parseHead (now (s .entry))) (ofRead r) ⌝ }
+{
+    match places::count_at(s, 0) {
+        Read::Refused(k) => Read::Refused(k),
+        Read::Value(_, a) => match places::byte_at(s, a) {
+            Read::Refused(k) => Read::Refused(k),
+            Read::Value(flag, e) => behind_flag(s, e, flag),
+        },
+    }
+}
+
+// The length of a zone's data in their preferred form.
+fn zone_size(s: &[u8]) -> usize
+    requires { ⌜ HasContent (now s) ⌝ }
+    ensures { λ r. ⌜ r ≡ length (print (contentOf 1 (now (s .entry)))) ⌝ }
+{
+    match read_head(s) {
+        Read::Refused(_) => 0,
+        Read::Value(n, a) => a + pieces_size(s, a, n),
+    }
+}
+
+// Writes a zone's data in their preferred form.
+fn write_zone(s: &[u8], out: &mut [u8]) -> usize
+    requires { ⌜ HasContent (now s) × (length (print (contentOf 1 (now s))) ≤ length (now out)) ⌝ }
+    ensures { λ r. ⌜ Put (print (contentOf 1 (now (s .entry)))) (now (out .entry)) r (now (out .exit)) ⌝ }
+{
+    match read_head(s) {
+        Read::Refused(_) => 0,
+        Read::Value(n, a) => {
+            let k = bytes::copy(&s[..a], out);
+            k + write_pieces(s, a, n, &mut out[k..])
+        }
+    }
+}
+
+// The length of the preferred data of a field with the ID i.
+pub fn size(i: u8, d: &[u8]) -> usize
+    requires { ⌜ (i ≡ 1 → HasContent (now d)) ⌝ }
+    ensures { λ r. ⌜ r ≡ length (print (contentOf i (now (d .entry)))) ⌝ }
+{
+    if i == 1 {
+        return zone_size(d);
+    }
+    d.len()
+}
+
+// Writes the preferred data of a field with the ID i.
+pub fn write(i: u8, d: &[u8], out: &mut [u8]) -> usize
+    requires { ⌜ (i ≡ 1 → HasContent (now d)) × (length (print (contentOf i (now d))) ≤ length (now out)) ⌝ }
+    ensures { λ r. ⌜ Put (print (contentOf i (now (d .entry)))) (now (out .entry)) r (now (out .exit)) ⌝ }
+{
+    if i == 1 {
+        return write_zone(d, out);
+    }
+    bytes::copy(d, out)
+}

@@ -1,0 +1,11 @@
+pub mod CodeLaws
+pub mod IntervalsLaws
+pub mod ZoneLaws
+pub mod KeptLaws
+pub mod MovedLaws
+pub mod PassMovedLaws
+pub mod ZoneMovedLaws
+pub mod Rewriting
+pub mod ReadyLaws
+pub mod FieldLaws
+pub mod Example

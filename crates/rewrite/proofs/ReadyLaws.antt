@@ -1,0 +1,176 @@
+-- What the check of a file has shown, and the walk over its fields. Assumes nothing.
+use mathlib.Core.Path.{_≡_, refl, sym, ap, _∙_, subst, subst⁻¹}
+use mathlib.Core.Bool.{Bool, true, false}
+use mathlib.Core.List.{List, [], _∷_, _++_, append-nil, append-assoc}
+use Prim.Native.Nat.{ℕ, zero, suc, _+_, _-_, _≤_, _<_}
+use native.Mathlib.Omega.{arith}
+use lib.ListN.{length, drop, length-append}
+use lib.Dec.{leb}
+use Rattle.base.proofs.Parts.{Bytes}
+use Rattle.frames.specs.Frame.{frame, Field}
+use Rattle.frames.specs.Fields.{endAt, listed, scan, listing, fields}
+use Rattle.frames.specs.declared.Frame.{Frame}
+use Rattle.frames.specs.declared.Frame.the-variants.{End, Cut, Refused, Version, Whole}
+use Rattle.frames.proofs.All.{All, all-none, all-also, all-head, all-tail}
+use Rattle.frames.proofs.HeadLaws.{version-place}
+use Rattle.frames.proofs.ChainLaws.{FieldOf, Chain, listing-chain, chain-fields}
+use Rattle.frames.proofs.PartLaws.{walk-ended}
+use Rattle.checks.specs.Check.{start, job, WellFormed, filePool, checkOf}
+use Rattle.checks.specs.declared.Verdict.{Verdict}
+use Rattle.checks.specs.declared.Verdict.the-variants.{Good, Refused as Ill}
+use Rattle.contents.specs.Content.{contentOf}
+use Rattle.contents.specs.View.{HasContent, Put}
+use Rattle.contents.proofs.PutLaws.{InTwo}
+use Rattle.rewrite.specs.Preferred.{contents, content, printField, printFields, printFile, preferred, rewriteOf, outputOf}
+use Rattle.rewrite.specs.declared.Rewritten.the-variants.{Length, Refused as Unwritten}
+use Rattle.rewrite.specs.View.{Covers, Readable, Ready, IsField, fieldWith, partOf}
+use Rattle.rewrite.specs.declared.Extent.{Extent}
+use Rattle.rewrite.proofs.ZoneLaws.{zone-kept}
+use Rattle.rewrite.proofs.KeptLaws.{field-bytes}
+use Rattle.rewrite.proofs.PassMovedLaws.{Read, bodies-known}
+use Rattle.rewrite.proofs.Rewriting.{never-longer, preferred-limit}
+
+-- fields up to the bytes' end cover them
+module _ (f : List ℕ) where
+  scan-covers : (k at : ℕ) (seen : Bool) (prev : ℕ) (r : List ℕ) → 0 < at → scan k 255 at seen prev r .ending ≡ endAt (length f)
+      → Chain f seen prev at (scan k 255 at seen prev r .fields) → Covers f at (scan k 255 at seen prev r .fields)
+  unfolding scan
+  scan-covers zero at seen prev r a e c = let z : _≡_ {A = ℕ} 0 1 = cc in absurd (omega arith)
+  scan-covers (suc k) at seen prev r a e c = go (frame 255 at seen prev r) refl e c (scan-covers k)
+    where
+      go : (x : Frame) → frame 255 at seen prev r ≡ x → listed at r x (scan k 255) .ending ≡ endAt (length f)
+          → Chain f seen prev at (listed at r x (scan k 255) .fields)
+          → ((p : ℕ) (s : Bool) (v : ℕ) (q : List ℕ) → 0 < p → scan k 255 p s v q .ending ≡ endAt (length f)
+          → Chain f s v p (scan k 255 p s v q .fields) → Covers f p (scan k 255 p s v q .fields))
+          → Covers f at (listed at r x (scan k 255) .fields)
+      go End h e c rec = cc
+      go Cut h e c rec = let z : _≡_ {A = ℕ} 0 1 = cc in absurd (omega arith)
+      go (Refused n) h e c rec = let z : _≡_ {A = ℕ} 0 1 = cc in absurd (omega arith)
+      go Version h e c rec = absurd (omega (arith, version-place 255 at seen prev r h))
+      go (Whole i u n) h e c rec = (c .0, c .1, rec (at + (u + n)) true i (drop (u + n) r) (omega arith) e (c .3))
+
+  listing-covers : listing 255 f .ending ≡ endAt (length f) → (fields f ≡ [] → ⊥) → Covers f 4 (fields f)
+  unfolding listing scan
+  listing-covers e n = go (frame 255 0 false 0 f) refl e n (listing-chain f 255)
+    where
+      go : (x : Frame) → frame 255 0 false 0 f ≡ x → listed 0 f x (scan (length f) 255) .ending ≡ endAt (length f)
+          → (listed 0 f x (scan (length f) 255) .fields ≡ [] → ⊥)
+          → Chain f false 0 4 (listed 0 f x (scan (length f) 255) .fields) → Covers f 4 (listed 0 f x (scan (length f) 255) .fields)
+      go End h e n c = absurd (n refl)
+      go Cut h e n c = absurd (n refl)
+      go (Refused m) h e n c = absurd (n refl)
+      go Version h e n c = scan-covers (length f) 4 false 0 (drop 4 f) (omega arith) e c
+      go (Whole i u m) h e n c = absurd (omega arith)
+
+-- every zone of a well-formed file has a content that can be printed
+zones-readable : (f : List ℕ) (gs : List Field) → Bytes f → All (Read (filePool (fields f))) gs → All (FieldOf f) gs → All Readable gs
+zones-readable f [] b r o = all-none
+zones-readable f (g ∷ gs) b r o = all-also first (zones-readable f gs b (all-tail r) (all-tail o))
+  where
+    first : Readable g
+    first i =
+        let z = all-head r i in
+        let k = zone-kept (length (filePool (fields f))) (g .body) (z .zone) [] (field-bytes f g b (all-head o)) (z .parsed) in
+        record { content = contentOf 1 (g .body); is = k .read; shorter = k .shorter }
+
+-- A WELL-FORMED FILE IS READY to be rewritten
+pub file-ready : (f : List ℕ) → WellFormed f → Bytes f → Ready f
+file-ready f w b =
+    record {
+      covers = listing-covers f (walk-ended job start (w .memory) f (length f) (w .ends) .whole) (w .some-field);
+      readable = zones-readable f (fields f) b (bodies-known f w) (chain-fields f false 0 4 (fields f) (listing-chain f 255));
+      shorter = never-longer f w b;
+      limit = preferred-limit f w b;
+    }
+
+-- the walk over f stands at a place: the fields before it make `done` of the preferred ones
+pub record Walking (f : List ℕ) (at : ℕ) (done : List ℕ) : Type 0 where
+  pub rest : List Field
+  pub covers : Covers f at rest
+  pub readable : All Readable rest
+  pub all : printFields (content f) ≡ done ++ printFields (contents rest)
+
+pub walking-start : (f : List ℕ) → Ready f → Walking f 4 []
+walking-start f r = record { rest = fields f; covers = r .covers; readable = r .readable; all = refl }
+
+pub walking-done : (f : List ℕ) (at : ℕ) (done : List ℕ) → Walking f at done → length f ≤ at → printFields (content f) ≡ done
+unfolding contents printFields
+walking-done f at done w l = go (w .rest) (w .covers) (w .all)
+  where
+    go : (gs : List Field) → Covers f at gs → printFields (content f) ≡ done ++ printFields (contents gs) → printFields (content f) ≡ done
+    go [] c e = e ∙ append-nil done
+    go (g ∷ gs) c e = absurd (omega (arith, c .0, c .1 .starts, c .1 .ends, c .1 .within))
+
+pub walking-sum : (f : List ℕ) (at : ℕ) (done : List ℕ) → Walking f at done → length done ≤ length (printFields (content f))
+walking-sum f at done w = rw (w .all, length-append) (omega arith)
+
+-- the field r that was read at the place, and the walk behind it
+pub record Turn (f : List ℕ) (at : ℕ) (done : List ℕ) (r : Extent) : Type 0 where
+  pub ordered : r .start ≤ r .end
+  pub farther : at < r .end
+  pub within : r .end ≤ length f
+  pub readable : r .id ≡ 1 → HasContent (partOf f r)
+  pub next : Walking f (r .end) (done ++ printField (fieldWith (r .id) (partOf f r)))
+
+pub walking-turn : (f : List ℕ) (at : ℕ) (done : List ℕ) (r : Extent) → Walking f at done → at < length f → IsField f at r → Turn f at done r
+unfolding contents printFields
+walking-turn f at done r w l i = go (w .rest) (w .covers) (w .readable) (w .all)
+  where
+    go : (gs : List Field) → Covers f at gs → All Readable gs → printFields (content f) ≡ done ++ printFields (contents gs) → Turn f at done r
+    go [] c a e = absurd (omega arith)
+    go (g ∷ gs) c a e =
+        let o : FieldOf f g = c .1 in
+        let m = i .means g o (c .0) in
+        let n : r .end - r .start ≡ length (g .body) = omega (arith, m .1, m .2, o .ends) in
+        let p : partOf f r ≡ g .body = rw (n, m .1) (sym (o .bytes)) in
+        record {
+          ordered = omega (arith, m .1, m .2, o .ends);
+          farther = omega (arith, m .2, o .ends, o .starts, c .0);
+          within = omega (arith, m .2, o .within);
+          readable = λ z. subst⁻¹ HasContent p (all-head a (sym (m .0) ∙ z));
+          next = record {
+            rest = gs;
+            covers = subst⁻¹ (λ (q : ℕ). Covers f q gs) (m .2) (c .2);
+            readable = all-tail a;
+            all =
+                e
+                ∙ sym (append-assoc done (printField (fieldWith (g .id) (g .body))) (printFields (contents gs)))
+                ∙ ap (λ (x : List ℕ). (done ++ printField (fieldWith (g .id) x)) ++ printFields (contents gs)) (sym p)
+                ∙ ap (λ (j : ℕ). (done ++ printField (fieldWith j (partOf f r))) ++ printFields (contents gs)) (sym (m .0));
+          };
+        }
+
+-- what is done and the field that follows, in an output with room for the file
+pub turn-two : {f : List ℕ} {at : ℕ} {done : List ℕ} {r : Extent} → Turn f at done r → (d : List ℕ) → length (printFields (content f)) ≤ length d
+    → InTwo (done ++ printField (fieldWith (r .id) (partOf f r))) done (printField (fieldWith (r .id) (partOf f r))) d
+turn-two {f} {at} {done} {r} t d h =
+    let n = walking-sum f (r .end) _ (t .next) in
+    record { all = refl; room = omega arith }
+
+pub turn-sum : {f : List ℕ} {at : ℕ} {done : List ℕ} {r : Extent} → Turn f at done r
+    → length done + length (printField (fieldWith (r .id) (partOf f r))) ≤ length (printFields (content f))
+turn-sum {f} {at} {done} {r} t = let n = walking-sum f (r .end) _ (t .next) in rw length-append at n
+
+-- the version, then the fields
+pub file-length : (f : List ℕ) → length (preferred f) ≡ 4 + length (printFields (content f))
+unfolding printFile
+file-length f = omega arith
+
+pub file-two : (f d : List ℕ) → length (preferred f) ≤ length d → InTwo (preferred f) (0 ∷ 0 ∷ 0 ∷ 0 ∷ []) (printFields (content f)) d
+unfolding printFile
+file-two f d h = record { all = refl; room = h }
+
+-- the three ways out of a rewrite
+module _ (f d : List ℕ) (v : Verdict) (e : v ≡ checkOf f) where
+  pub rewrite-refused : (n p : ℕ) → v ≡ Ill n p → (Unwritten n p ≡ rewriteOf f d) × (d ≡ outputOf f d)
+  unfolding rewriteOf outputOf
+  rewrite-refused n p h = (rw (sym e ∙ h), rw (sym e ∙ h))
+
+  module _ (g : v ≡ Good) (b : Bool) (r : b ≡ leb (length (preferred f)) (length d)) where
+    pub rewrite-short : b ≡ false → (Unwritten 15 0 ≡ rewriteOf f d) × (d ≡ outputOf f d)
+    unfolding rewriteOf outputOf
+    rewrite-short h = (rw (sym e ∙ g, sym r ∙ h), rw (sym e ∙ g, sym r ∙ h))
+
+    pub rewrite-put : (n : ℕ) (o : List ℕ) → b ≡ true → Put (preferred f) d n o → (Length n ≡ rewriteOf f d) × (o ≡ outputOf f d)
+    unfolding rewriteOf outputOf
+    rewrite-put n o h p = (rw (sym e ∙ g, sym r ∙ h) (ap Length (p .size)), rw (sym e ∙ g, sym r ∙ h) (p .left))

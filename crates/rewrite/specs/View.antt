@@ -1,0 +1,40 @@
+-- What the walk over a well-formed file relies on, and what it reads. Assumes nothing: these are definitions.
+use Prim.Native.Nat.{ℕ, _-_, _≤_}
+use mathlib.Core.Path.{_≡_}
+use mathlib.Core.List.{List, [], _∷_}
+use lib.ListN.{length, take, drop}
+use Rattle.frames.specs.Frame.{Field}
+use Rattle.frames.specs.Fields.{fields}
+use Rattle.frames.proofs.All.{All}
+use Rattle.frames.proofs.ChainLaws.{FieldOf}
+use Rattle.contents.specs.Content.{contentOf}
+use Rattle.contents.specs.View.{HasContent}
+use Rattle.rewrite.specs.Preferred.{FieldContent, preferred}
+use Rattle.rewrite.specs.declared.Extent.{Extent}
+
+-- the fields gs stand in f one behind the other, from the place at to its end
+abbrev pub Covers : List ℕ → ℕ → List Field → Type 0
+Covers f at [] = at ≡ length f
+Covers f at (g ∷ gs) = (g .place ≡ at) × FieldOf f g × Covers f (g .past) gs
+
+-- the data of every zone have a content
+abbrev pub Readable : Field → Type 0
+Readable g = g .id ≡ 1 → HasContent (g .body)
+
+-- what the check of f has shown
+pub record Ready (f : List ℕ) : Type 0 where
+  pub covers : Covers f 4 (fields f)
+  pub readable : All Readable (fields f)
+  pub shorter : length (preferred f) ≤ length f
+  pub limit : length (preferred f) ≤ 4194304
+
+-- r is the field of f at a place, where there is one
+pub record IsField (f : List ℕ) (at : ℕ) (r : Extent) : Type 0 where
+  pub means : (g : Field) → FieldOf f g → g .place ≡ at → (r .id ≡ g .id) × (r .start ≡ g .start) × (r .end ≡ g .past)
+
+-- a field by its ID and data
+abbrev pub fieldWith : ℕ → List ℕ → FieldContent
+fieldWith i d = record { id = i; content = contentOf i d }
+
+abbrev pub partOf : List ℕ → Extent → List ℕ
+partOf f r = take (r .end - r .start) (drop (r .start) f)

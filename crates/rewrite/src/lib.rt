@@ -1,0 +1,163 @@
+// The preferred form of a whole file. The file is checked, then its fields are written one behind the other, each by a callee that is
+// lent the output from the present place on.
+use base::Read;
+use base::Wrote;
+use checks::Verdict;
+ghost use mathlib.Core.Path.{_≡_};
+ghost use mathlib.Core.List.{[], _∷_};
+ghost use Prim.Native.Nat.{_≤_, _<_};
+ghost use lib.ListN.{length};
+ghost use lib.Dec.{leb};
+ghost use Rattle.counts.specs.Count.{writeCount};
+ghost use Rattle.contents.specs.View.{HasContent, Put};
+ghost use Rattle.rewrite.specs.Preferred.{content, printField, printFields, preferred, rewriteOf, outputOf};
+ghost use Rattle.rewrite.specs.View.{Ready, IsField, fieldWith};
+
+// What a rewrite gives.
+pub enum Rewritten {
+    // The length of the preferred file.
+    Length(usize),
+    // The number and the place of a refusal: nothing was written.
+    Refused(u8, usize),
+}
+
+// A field's ID, and where its data start and end.
+pub struct Extent {
+    pub id: u8,
+    pub start: usize,
+    pub end: usize,
+}
+
+// The field at a place of a file whose fields are whole.
+fn read_field(s: &[u8], at: usize) -> Extent
+    requires { ⌜ at < length (now s) ⌝ }
+    ensures { λ r. ⌜ IsField (now (s .entry)) at r ⌝ }
+{
+    let a = at + 1;
+    match counts::read_count(&s[a..]) {
+        Read::Refused(_) => Extent {
+            id: 0,
+            start: a,
+            end: a,
+        },
+        Read::Value(n, u) => {
+            let start = a + u;
+            Extent {
+                id: s[at],
+                start: start,
+                end: start + n as usize,
+            }
+        }
+    }
+}
+
+// The length of a field in its preferred form.
+fn field_size(i: u8, d: &[u8]) -> usize
+    requires { ⌜ (i ≡ 1 → HasContent (now d)) × (length (printField (fieldWith i (now d))) ≤ 4194304) ⌝ }
+    ensures { λ r. ⌜ r ≡ length (printField (fieldWith i (now (d .entry)))) ⌝ }
+{
+    let n = contents::size(i, d);
+    1 + counts::count_size(n as u64) + n
+}
+
+// Writes a field's ID and size.
+fn write_head(i: u8, n: usize, out: &mut [u8]) -> usize
+    requires { ⌜ (n ≤ 4194304) × (length (i ∷ writeCount n) ≤ length (now out)) ⌝ }
+    ensures { λ r. ⌜ Put (i ∷ writeCount n) (now (out .entry)) r (now (out .exit)) ⌝ }
+{
+    out[0] = i;
+    match counts::write_count(n as u64, &mut out[1..]) {
+        Wrote::Refused(_) => 0,
+        Wrote::Length(k) => 1 + k,
+    }
+}
+
+// Writes a field in its preferred form.
+fn write_field(i: u8, d: &[u8], out: &mut [u8]) -> usize
+    requires { ⌜ (i ≡ 1 → HasContent (now d)) × (length (printField (fieldWith i (now d))) ≤ 4194304) × (length (printField (fieldWith i (now d))) ≤ length (now out)) ⌝ }
+    ensures { λ r. ⌜ Put (printField (fieldWith i (now (d .entry)))) (now (out .entry)) r (now (out .exit)) ⌝ }
+{
+    let w = write_head(i, contents::size(i, d), out);
+    w + contents::write(i, d, &mut out[w..])
+}
+
+// The length of the preferred file.
+fn total(s: &[u8]) -> usize
+    requires { ⌜ Ready (now s) ⌝ }
+    ensures { λ r. ⌜ r ≡ length (preferred (now (s .entry))) ⌝ }
+{
+    let mut n = 0;
+    let mut at = 4;
+    while at < s.len() {
+        let f = read_field(s, at);
+        let a = f.start;
+        let e = f.end;
+        n += field_size(f.id, &s[a..e]);
+        at = e;
+    }
+    4 + n
+}
+
+// Whether an output has room for the preferred file, which is never longer than its source.
+fn has_room(s: &[u8], room: usize) -> bool
+    requires { ⌜ Ready (now s) ⌝ }
+    ensures { λ r. ⌜ r ≡ leb (length (preferred (now (s .entry)))) room ⌝ }
+{
+    if s.len() <= room {
+        return true;
+    }
+    total(s) <= room
+}
+
+// Writes the version.
+fn write_version(out: &mut [u8]) -> usize
+    requires { ⌜ 4 ≤ length (now out) ⌝ }
+    ensures { λ r. ⌜ Put (0 ∷ 0 ∷ 0 ∷ 0 ∷ []) (now (out .entry)) r (now (out .exit)) ⌝ }
+{
+    out[0] = 0;
+    out[1] = 0;
+    out[2] = 0;
+    out[3] = 0;
+    4
+}
+
+// Writes the fields of the preferred file.
+fn write_fields(s: &[u8], out: &mut [u8]) -> usize
+    requires { ⌜ Ready (now s) × (length (printFields (content (now s))) ≤ length (now out)) ⌝ }
+    ensures { λ r. ⌜ Put (printFields (content (now (s .entry)))) (now (out .entry)) r (now (out .exit)) ⌝ }
+{
+    let mut w = 0;
+    let mut at = 4;
+    while at < s.len() {
+        let f = read_field(s, at);
+        let a = f.start;
+        let e = f.end;
+        w += write_field(f.id, &s[a..e], &mut out[w..]);
+        at = e;
+    }
+    w
+}
+
+// Writes the preferred file.
+fn write_file(s: &[u8], out: &mut [u8]) -> usize
+    requires { ⌜ Ready (now s) × (length (preferred (now s)) ≤ length (now out)) ⌝ }
+    ensures { λ r. ⌜ Put (preferred (now (s .entry))) (now (out .entry)) r (now (out .exit)) ⌝ }
+{
+    let w = write_version(out);
+    w + write_fields(s, &mut out[w..])
+}
+
+// Writes the preferred form of a whole file to the front of the output, all checked first.
+pub fn rewrite(s: &[u8], out: &mut [u8]) -> Rewritten
+    ensures { λ r. ⌜ (r ≡ rewriteOf (now (s .entry)) (now (out .entry))) × (now (out .exit) ≡ outputOf (now (s .entry)) (now (out .entry))) ⌝ }
+{
+    match checks::check(s) {
+        Verdict::Refused(n, p) => Rewritten::Refused(n, p),
+        Verdict::Good => {
+            if has_room(s, out.len()) {
+                return Rewritten::Length(write_file(s, out));
+            }
+            Rewritten::Refused(15, 0)
+        }
+    }
+}

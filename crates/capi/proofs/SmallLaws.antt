@@ -1,0 +1,90 @@
+-- The numbers that the functions below give fit where they go. Assumes nothing.
+use mathlib.Core.Path.{_≡_, refl, sym, ap, _∙_, subst}
+use mathlib.Core.Bool.{Bool, true, false}
+use mathlib.Core.Logic.{_⊎_, inl, inr}
+use mathlib.Core.List.{List}
+use Prim.Native.Nat.{ℕ, _+_, _≤_, _<_, _^_}
+use native.Mathlib.Omega.{arith}
+use lib.IntN.{ℤ}
+use lib.ListN.{length}
+use lib.Dec.{eqb}
+use borrow.Author.Tests.{eqb-false}
+use Rattle.base.specs.Pick.{pick}
+use Rattle.base.proofs.Tests.{pick-holds}
+use Rattle.base.proofs.MomentLaws.{Moment}
+use Rattle.base.specs.Moment.{startOfTime, endOfTime}
+use Rattle.base.specs.declared.Read.{Read}
+use Rattle.base.specs.declared.Read.the-variants.{Value, Refused as Unread}
+use Rattle.signed.specs.Instant.{instantOf}
+use Rattle.signed.specs.declared.Number.{Number}
+use Rattle.signed.specs.declared.Number.the-variants.{Value as Signed, Refused as NoNumber}
+use Rattle.counts.specs.Count.{readCount}
+use Rattle.counts.proofs.CountLaws.{counted}
+use Rattle.counts.specs.SignedCount.{readSignedCount}
+use Rattle.counts.proofs.SignedCountLaws.{signed-counted}
+use Rattle.offsets.specs.Offset.{readOffset}
+use Rattle.offsets.proofs.OffsetLaws.{offset-read}
+use Rattle.transitions.specs.Transition.{readMoment}
+use Rattle.transitions.proofs.MomentLaws.{moment-read}
+use Rattle.texts.specs.Text.{readText}
+use Rattle.texts.specs.declared.Text.{Text}
+use Rattle.texts.specs.declared.Text.the-variants.{Part, Refused as Untext}
+use Rattle.texts.proofs.TextLaws.{held}
+use Rattle.frames.specs.Machine.{Out, found, refused, cut, ended, walk}
+use Rattle.checks.specs.Check.{versionOf}
+use Rattle.checks.specs.declared.VersionText.{VersionText}
+use Rattle.checks.specs.declared.VersionText.the-variants.{Part as TextPart, Refused as NoText}
+use Rattle.checks.proofs.VersionLaws.{text-of-field}
+use Rattle.questions.specs.Question.{Pool, noPool, question, finish, ask}
+use Rattle.questions.specs.declared.Mark.{Mark}
+use Rattle.questions.specs.declared.Found.{Found}
+use Rattle.questions.specs.declared.Answer.{Answer}
+use Rattle.questions.specs.declared.Answer.the-variants.{In, Refused as Denied}
+use Rattle.questions.proofs.AskLaws.{instant-finite}
+use Rattle.demands.proofs.Names.{name-inside}
+use Rattle.capi.specs.Small.{SmallAnswer, SmallVersion, SmallRead, SmallNumber, SmallText}
+
+pub count-small : (s : List ℕ) (c : Read) → c ≡ readCount s → SmallRead c
+count-small s (Value v n) e = let x = counted s e in record { to = (omega arith, omega arith) }
+count-small s (Unread k) e = record { to = tt }
+
+moment-below : (m : ℕ) → Moment m → m < 2 ^ 63
+moment-below m (inl e) = omega arith
+moment-below m (inr (inl e)) = omega arith
+moment-below m (inr (inr f)) = omega arith
+
+pub moment-small : (p : ℕ) (s : List ℕ) (c : Read) → c ≡ readMoment p s → SmallRead c
+moment-small p s (Value m n) e = let x = moment-read p s e in record { to = (moment-below m (x .is), omega (arith, x .size)) }
+moment-small p s (Unread k) e = record { to = tt }
+
+pub signed-count-small : (s : List ℕ) (c : Number) → c ≡ readSignedCount s → SmallNumber c
+signed-count-small s (Signed z n) e = let x = signed-counted s e in record { to = omega (arith, x .size) }
+signed-count-small s (NoNumber k) e = record { to = tt }
+
+pub offset-small : (s : List ℕ) (c : Number) → c ≡ readOffset s → SmallNumber c
+offset-small s (Signed z n) e = let x = offset-read s e in record { to = omega (arith, x .size) }
+offset-small s (NoNumber k) e = record { to = tt }
+
+pub text-small : (s : List ℕ) (t : Text) → t ≡ readText s → SmallText t
+text-small s (Part a n) e = let x = held s a n (sym e) in record { to = (omega arith, omega arith) }
+text-small s (Untext k) e = record { to = tt }
+
+pub version-small : (f : List ℕ) → length f < 2 ^ 63 → (t : VersionText) → t ≡ versionOf f → SmallVersion t
+version-small f l (TextPart a n) e = let x = text-of-field f a n (sym e) in record { to = (omega (arith, x .within), omega (arith, x .within)) }
+version-small f l (NoText k p) e = record { to = tt }
+
+module _ (bs id : List ℕ) (z : ℤ) (mark : Mark) (l : length bs < 2 ^ 63) where
+  finish-small : (instantOf z ≡ 0 → ⊥) → (o : Out Pool Found) → walk (question id (instantOf z)) noPool bs ≡ o → SmallAnswer (finish mark o)
+  finish-small h (found x p) e =
+      let i = name-inside bs id (instantOf z) (instant-finite (instantOf z) z refl h) x p e in
+      record { to = (omega arith, omega arith) }
+  finish-small h (refused n p) e = record { to = tt }
+  finish-small h (cut p) e = record { to = tt }
+  finish-small h (ended m p) e = record { to = tt }
+
+  pub ask-small : SmallAnswer (ask bs id z mark)
+  unfolding ask
+  ask-small =
+      pick-holds SmallAnswer (eqb (instantOf z) 0)
+      (λ e. record { to = tt })
+      (λ e. finish-small (eqb-false (instantOf z) 0 e) (walk (question id (instantOf z)) noPool bs) refl)

@@ -1,0 +1,20 @@
+use mathlib.Core.Path.{ap, _∙_, subst⁻¹}
+use Rattle.capi.specs.Small.{SmallReply}
+use Rattle.capi.specs.Functions.{numberReply}
+use Rattle.capi.proofs.SmallLaws.{offset-small}
+use Rattle.capi.proofs.ReplyLaws.{gives-as, number-room}
+use borrow.Author.Needs.{needs}
+use Rattle.capi.proofs.nzd_read_offset.Statement.{statement}
+use Rattle.capi.proofs.nzd_read_offset.Tie as tie
+
+number-reply-requires : tie.Need-number-reply-requires
+number-reply-requires c κs = offset-small _ _ (c .read-offset .ensures)
+
+give-requires : tie.Need-give-requires
+give-requires c κs = subst⁻¹ (SmallReply 2) (c .before .number-reply .ensures) (number-room (c .before .before .read-offset .result))
+
+returns : tie.Need-returns
+returns c = gives-as _ _ _ _ _ _ (c .before .before .before .number-reply .ensures ∙ ap numberReply (c .before .before .before .before .read-offset .ensures)) (c .before .give .ensures)
+
+pub nzd-read-offset-spec : {M : Type 1} → statement M
+nzd-read-offset-spec = tie.close (tie.spec (λ c κs. search needs) number-reply-requires give-requires (λ c. search needs) returns)

@@ -178,7 +178,7 @@ abbrev pub nothing : Kept
 nothing = record { start = 0; end = 0; count = 0; has = false; text = 0; len = 0 }
 
 pub walking-start : (s : List ℕ)
-    → Walking s (record { at = 0; seen = false; prev = 0; kept = nothing }) (replicate 8192 0) (replicate 8192 0) (replicate 65536 0)
+    → Walking s (record { at = 0; seen = false; prev = 0; kept = nothing }) (replicate 8192 0) (replicate 8192 0) (replicate 16384 0)
 unfolding conclusion walk startsIn readGroups
 walking-start s =
     record {

@@ -45,7 +45,7 @@ pub record Stands (s : List ℕ) (k : Kept) (fl mk : List ℕ) (y : Memory) : Ty
 -- no field was seen
 pub record Fresh (fl mk : List ℕ) (y : Memory) : Type 0 where
   pub flags : fl ≡ replicate 8192 0
-  pub marks : mk ≡ replicate 65536 0
+  pub marks : mk ≡ replicate 16384 0
   pub ids : y .ids ≡ []
 
 -- what the definition says of a field, and what the code says

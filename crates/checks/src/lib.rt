@@ -91,8 +91,8 @@ fn take_zone(
     a: usize,
     e: usize,
     index: &[u32; 8192],
-    seen: &mut [u8; 8192],
-    marks: &mut [u8; 65536],
+    seen: &mut [u32; 8192],
+    marks: &mut [u16; 16384],
 ) -> Taken
     requires { ⌜ (a ≤ e) × (e ≤ length (now s)) × Indexed (now s) k (now index) ⌝ }
     ensures { λ r. ⌜ TookZone (now (s .entry)) k a e (now (index .entry)) (now (seen .entry)) (now (marks .entry)) (now (seen .exit)) (now (marks .exit)) r ⌝ }
@@ -143,8 +143,8 @@ fn take_field(
     a: usize,
     e: usize,
     index: &mut [u32; 8192],
-    seen: &mut [u8; 8192],
-    marks: &mut [u8; 65536],
+    seen: &mut [u32; 8192],
+    marks: &mut [u16; 16384],
 ) -> Taken
     requires { ⌜ (a ≤ e) × (e ≤ length (now s)) × Indexed (now s) k (now index) ⌝ }
     ensures { λ r. ⌜ TookField (now (s .entry)) k i a e (now (index .entry)) (now (seen .entry)) (now (marks .entry)) (now (index .exit)) (now (seen .exit)) (now (marks .exit)) r ⌝ }
@@ -179,8 +179,8 @@ fn step(
     s: &[u8],
     c: Cursor,
     index: &mut [u32; 8192],
-    seen: &mut [u8; 8192],
-    marks: &mut [u8; 65536],
+    seen: &mut [u32; 8192],
+    marks: &mut [u16; 16384],
 ) -> Turn
     requires { ⌜ (c .at ≤ length (now s)) × Indexed (now s) (c .kept) (now index) ⌝ }
     ensures { λ r. ⌜ Stepped (now (s .entry)) c (now (index .entry)) (now (seen .entry)) (now (marks .entry)) (now (index .exit)) (now (seen .exit)) (now (marks .exit)) r ⌝ }
@@ -219,8 +219,8 @@ fn walk(s: &[u8]) -> Conclusion
     ensures { λ r. ⌜ r ≡ conclusion (now (s .entry)) ⌝ }
 {
     let mut index = [0u32; 8192];
-    let mut seen = [0u8; 8192];
-    let mut marks = [0u8; 65536];
+    let mut seen = [0u32; 8192];
+    let mut marks = [0u16; 16384];
     let mut c = Cursor {
         at: 0,
         seen: false,

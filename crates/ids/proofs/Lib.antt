@@ -1,3 +1,4 @@
 pub mod IdLaws
 pub mod FlagLaws
+pub mod LinkLaws
 pub mod MemoryLaws

@@ -9,6 +9,13 @@ ghost use Rattle.offsets.specs.Offset.{readSum};
 ghost use Rattle.transitions.specs.Transition.{readMoment};
 ghost use Rattle.places.specs.Placed.{Stands, ofRead};
 ghost use Rattle.places.specs.Name.{readZigzag, parseName};
+ghost use Rattle.places.specs.Short.{TwoBytes, HoursAfter};
+
+const FIRST: u64 = 126227808000000000;
+
+const LAST: u64 = 3281606783999999999;
+
+const HOUR: u64 = 36000000000;
 
 pub fn byte_at(s: &[u8], at: usize) -> Read
     requires { ⌜ at ≤ length (now s) ⌝ }
@@ -21,7 +28,7 @@ pub fn byte_at(s: &[u8], at: usize) -> Read
 }
 
 // A code at a place, as a value and the place behind it.
-pub fn count_at(s: &[u8], at: usize) -> Read
+fn any_count_at(s: &[u8], at: usize) -> Read
     requires { ⌜ at ≤ length (now s) ⌝ }
     ensures { λ r. ⌜ Stands (now (s .entry)) (parse readCount (drop at (now (s .entry)))) (ofRead r) ⌝ }
 {
@@ -29,6 +36,21 @@ pub fn count_at(s: &[u8], at: usize) -> Read
         Read::Value(v, n) => Read::Value(v, at + n),
         Read::Refused(k) => Read::Refused(k),
     }
+}
+
+// The same. A count of one byte, the usual one, takes no call.
+pub fn count_at(s: &[u8], at: usize) -> Read
+    requires { ⌜ at ≤ length (now s) ⌝ }
+    ensures { λ r. ⌜ Stands (now (s .entry)) (parse readCount (drop at (now (s .entry)))) (ofRead r) ⌝ }
+{
+    if s.len() <= at {
+        return Read::Refused(9);
+    }
+    let b = s[at] as u64;
+    if b < 128 {
+        return Read::Value(b, at + 1);
+    }
+    any_count_at(s, at)
 }
 
 pub fn zigzag_at(s: &[u8], at: usize) -> Read
@@ -41,7 +63,7 @@ pub fn zigzag_at(s: &[u8], at: usize) -> Read
     }
 }
 
-pub fn sum_at(s: &[u8], at: usize) -> Read
+fn any_sum_at(s: &[u8], at: usize) -> Read
     requires { ⌜ at ≤ length (now s) ⌝ }
     ensures { λ r. ⌜ Stands (now (s .entry)) (parse readSum (drop at (now (s .entry)))) (ofRead r) ⌝ }
 {
@@ -51,7 +73,25 @@ pub fn sum_at(s: &[u8], at: usize) -> Read
     }
 }
 
-pub fn moment_at(s: &[u8], at: usize, prev: u64) -> Read
+// An offset of half hours, the usual one, takes no call.
+pub fn sum_at(s: &[u8], at: usize) -> Read
+    requires { ⌜ at ≤ length (now s) ⌝ }
+    ensures { λ r. ⌜ Stands (now (s .entry)) (parse readSum (drop at (now (s .entry)))) (ofRead r) ⌝ }
+{
+    if s.len() <= at {
+        return Read::Refused(9);
+    }
+    let b = s[at] as u64;
+    if b == 0 {
+        return Read::Refused(7);
+    }
+    if b < 96 {
+        return Read::Value(b * 1800000, at + 1);
+    }
+    any_sum_at(s, at)
+}
+
+fn any_moment_at(s: &[u8], at: usize, prev: u64) -> Read
     requires { ⌜ at ≤ length (now s) ⌝ }
     ensures { λ r. ⌜ Stands (now (s .entry)) (parse (readMoment prev) (drop at (now (s .entry)))) (ofRead r) ⌝ }
 {
@@ -59,6 +99,61 @@ pub fn moment_at(s: &[u8], at: usize, prev: u64) -> Read
         Read::Value(v, n) => Read::Value(v, at + n),
         Read::Refused(k) => Read::Refused(k),
     }
+}
+
+// The count of two bytes at a place, 0 where there is none.
+fn two_bytes_at(s: &[u8], at: usize) -> u64
+    requires { ⌜ at ≤ length (now s) ⌝ }
+    ensures { λ r. ⌜ TwoBytes (now (s .entry)) at r ⌝ }
+{
+    if s.len() - at < 2 {
+        return 0;
+    }
+    let b = s[at] as u64;
+    let d = s[at + 1] as u64;
+    if b < 128 {
+        return 0;
+    }
+    if d < 128 {
+        return b % 128 + 128 * d;
+    }
+    0
+}
+
+// The instant v hours after prev, 0 where v is no count of hours in two bytes or either is no instant.
+fn hours_after(prev: u64, v: u64) -> u64
+    ensures { λ r. ⌜ HoursAfter prev v r ⌝ }
+{
+    if v < 128 {
+        return 0;
+    }
+    if 16383 < v {
+        return 0;
+    }
+    if prev < FIRST {
+        return 0;
+    }
+    if LAST < prev {
+        return 0;
+    }
+    let t = prev + v * HOUR;
+    if LAST < t {
+        return 0;
+    }
+    t
+}
+
+// A transition of two bytes, the usual one, takes no call.
+pub fn moment_at(s: &[u8], at: usize, prev: u64) -> Read
+    requires { ⌜ at ≤ length (now s) ⌝ }
+    ensures { λ r. ⌜ Stands (now (s .entry)) (parse (readMoment prev) (drop at (now (s .entry)))) (ofRead r) ⌝ }
+{
+    let v = two_bytes_at(s, at);
+    let t = hours_after(prev, v);
+    if t == 0 {
+        return any_moment_at(s, at, prev);
+    }
+    Read::Value(t, at + 2)
 }
 
 // A pool number below the pool's count.

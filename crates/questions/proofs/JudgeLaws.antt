@@ -1,10 +1,10 @@
 -- What a zone says to the question, by its check and its lookup. Assumes nothing.
-use mathlib.Core.Path.{_≡_, refl, sym, ap, _∙_, subst}
+use mathlib.Core.Path.{_≡_, refl, ap, _∙_}
 use mathlib.Core.Bool.{Bool, true, false}
 use mathlib.Core.List.{List, []}
 use Prim.Native.Nat.{ℕ, _<_}
 use native.Mathlib.Omega.{arith}
-use lib.ListN.{getD}
+use lib.ListN.{drop, getD}
 use Rattle.base.specs.Pick.{pick}
 use Rattle.base.specs.Parsed.{Parsed, got, bad}
 use Rattle.pool.specs.Pool.{stringsOf}
@@ -17,7 +17,10 @@ use Rattle.zones.specs.declared.Verdict.{Verdict}
 use Rattle.zones.specs.declared.Verdict.the-variants.{Good, Refused}
 use Rattle.zones.specs.declared.Answer.{Answer}
 use Rattle.zones.specs.declared.Answer.the-variants.{In, Refused as Denied}
-use Rattle.zones.proofs.SoundLaws.{zone-sound}
+use Rattle.zones.proofs.SoundLaws.{zone-id, zone-bad}
+use Rattle.places.specs.Placed.{Placed, at, no, viewPlaced, Stands}
+use Rattle.places.specs.Name.{parseName}
+use Rattle.places.proofs.ValueLaws.{name-ok}
 use Rattle.frames.specs.Machine.{Content, bad as fault, answer, keep}
 use Rattle.questions.specs.Question.{Pool, answered, zoneSays}
 use Rattle.questions.specs.declared.Found.{Found}
@@ -25,48 +28,48 @@ use Rattle.questions.specs.declared.Found.{Found}
 never : {A : Type 0} → _≡_ {A = ℕ} 0 1 → A
 never e = absurd (omega arith)
 
--- the ID of a zone that is read is a number of the pool
-pub good-id : (pool : ℕ) (s : List ℕ) (z : ℕ) → Good z ≡ verdictOf (parseZone pool s) → z < pool
-good-id pool s z e = go (parseZone pool s) refl e
-  where
-    go : (p : Parsed Zone) → p ≡ parseZone pool s → Good z ≡ verdictOf p → z < pool
-    go (got x r) h k = let y : x .id ≡ z = cc in subst (λ (i : ℕ). i < pool) y (zone-sound pool s x r (sym h) .0 .id-ok)
-    go (bad n) h k = never cc
+-- what reading a zone's ID gave
+module _ (pool : ℕ) (s : List ℕ) (x : Placed ℕ) (h : Stands s (parseName pool (drop 0 s)) x) where
+  name-is : (z e : ℕ) → x ≡ at z e → parseName pool s ≡ got z (drop e s)
+  name-is z e f = h .means ∙ ap (viewPlaced s) f
 
-module _ (id : List ℕ) (t : ℕ) (m : Pool) where
-  fault-says : (p : Parsed Zone) (n : ℕ) → Refused n ≡ verdictOf p → fault n ≡ zoneSays id t m p
-  fault-says (got z r) n e = never cc
-  fault-says (bad k) n e = let x : n ≡ k = cc in ap fault x
+  pub id-below : (z e : ℕ) → x ≡ at z e → z < pool
+  id-below z e f = name-ok pool s z (drop e s) (name-is z e f)
 
-  other-says : (p : Parsed Zone) (z : ℕ) → Good z ≡ verdictOf p → false ≡ equal (getD (stringsOf (m .body)) z []) id → keep m ≡ zoneSays id t m p
-  other-says (got x r) z e f = let y : z ≡ x .id = cc in rw (← y, ← f)
-  other-says (bad k) z e f = never cc
+  module _ (id : List ℕ) (t : ℕ) (m : Pool) where
+    pub says-unnamed : (n : ℕ) → x ≡ no n → fault n ≡ zoneSays id t m (parseZone pool s)
+    says-unnamed n f = rw (zone-bad pool s n (h .means ∙ ap (viewPlaced s) f))
 
-  answer-says : (p : Parsed Zone) (z : ℕ) (x : Interval) → Good z ≡ verdictOf p → true ≡ equal (getD (stringsOf (m .body)) z []) id
-      → In x ≡ answerOf t p → answer (answered m x) ≡ zoneSays id t m p
-  answer-says (got w r) z x e f g =
-      let y : z ≡ w .id = cc in
-      let i : x ≡ inBody t (w .body) = cc in
-      rw (← y, ← f, ← i)
-  answer-says (bad k) z x e f g = never cc
-
-  -- the same of a zone's data
-  module _ (pool : ℕ) (s : List ℕ) where
     pub says-fault : (n : ℕ) → Refused n ≡ verdictOf (parseZone pool s) → fault n ≡ zoneSays id t m (parseZone pool s)
-    says-fault = fault-says (parseZone pool s)
+    says-fault n = go (parseZone pool s)
+      where
+        go : (p : Parsed Zone) → Refused n ≡ verdictOf p → fault n ≡ zoneSays id t m p
+        go (got z r) e = never cc
+        go (bad k) e = let y : n ≡ k = cc in ap fault y
 
-    pub says-other : (z : ℕ) → Good z ≡ verdictOf (parseZone pool s) → false ≡ equal (getD (stringsOf (m .body)) z []) id
-        → keep m ≡ zoneSays id t m (parseZone pool s)
-    says-other = other-says (parseZone pool s)
+    pub says-denied : (n : ℕ) → Denied n ≡ answerOf t (parseZone pool s) → fault n ≡ zoneSays id t m (parseZone pool s)
+    says-denied n = go (parseZone pool s)
+      where
+        go : (p : Parsed Zone) → Denied n ≡ answerOf t p → fault n ≡ zoneSays id t m p
+        go (got z r) e = never cc
+        go (bad k) e = let y : n ≡ k = cc in ap fault y
 
-    pub says-answer : (z : ℕ) (x : Interval) → Good z ≡ verdictOf (parseZone pool s) → true ≡ equal (getD (stringsOf (m .body)) z []) id
-        → In x ≡ answerOf t (parseZone pool s) → answer (answered m x) ≡ zoneSays id t m (parseZone pool s)
-    says-answer = answer-says (parseZone pool s)
+    module _ (z e : ℕ) (f : x ≡ at z e) where
+      pub says-other : (y : ℕ) → Good y ≡ verdictOf (parseZone pool s) → false ≡ equal (getD (stringsOf (m .body)) z []) id
+          → keep m ≡ zoneSays id t m (parseZone pool s)
+      says-other y = go (parseZone pool s) refl
+        where
+          go : (p : Parsed Zone) → parseZone pool s ≡ p → Good y ≡ verdictOf p → false ≡ equal (getD (stringsOf (m .body)) z []) id → keep m ≡ zoneSays id t m p
+          go (got w r) q g n = rw (zone-id pool s w r z (drop e s) (name-is z e f) q, ← n)
+          go (bad k) q g n = never cc
 
--- a zone whose check is good has an answer
-pub no-refusal : {A : Type 0} (t pool : ℕ) (s : List ℕ) (z n : ℕ) → Good z ≡ verdictOf (parseZone pool s) → Denied n ≡ answerOf t (parseZone pool s) → A
-no-refusal {A} t pool s z n = go (parseZone pool s)
-  where
-    go : (p : Parsed Zone) → Good z ≡ verdictOf p → Denied n ≡ answerOf t p → A
-    go (got w r) e f = never cc
-    go (bad k) e f = never cc
+      pub says-answer : (v : Interval) → In v ≡ answerOf t (parseZone pool s) → true ≡ equal (getD (stringsOf (m .body)) z []) id
+          → answer (answered m v) ≡ zoneSays id t m (parseZone pool s)
+      says-answer v = go (parseZone pool s) refl
+        where
+          go : (p : Parsed Zone) → parseZone pool s ≡ p → In v ≡ answerOf t p → true ≡ equal (getD (stringsOf (m .body)) z []) id
+              → answer (answered m v) ≡ zoneSays id t m p
+          go (got w r) q g n =
+              let i : v ≡ inBody t (w .body) = cc in
+              rw (zone-id pool s w r z (drop e s) (name-is z e f) q, ← n, ← i)
+          go (bad k) q g n = never cc

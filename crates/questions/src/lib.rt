@@ -1,4 +1,5 @@
 // Asking one zone at one instant, on any bytes.
+use base::Read;
 use frames::Frame;
 use pool::Checked;
 use zones::Answer as ZoneAnswer;
@@ -75,7 +76,7 @@ fn answered(pool: &[u8], starts: &[u32; 8192], start: usize, x: Interval) -> Fou
     }
 }
 
-// A whole zone in d: checked, and asked where its ID is the asked one.
+// A whole zone in d: checked, and asked where its ID is the asked one. The ID, which stands first, tells which of the two reads it.
 fn judge(
     pool: &[u8],
     starts: &[u32; 8192],
@@ -88,9 +89,9 @@ fn judge(
     requires { ⌜ Ready (now pool) (now starts) × (count ≡ length (stringsOf (now pool))) × (start ≤ 4194304) × (length (now pool) ≤ 4194304) × Finite t ⌝ }
     ensures { λ r. ⌜ judgedOf (poolOf start (now (pool .entry))) r ≡ zoneSays (now (id .entry)) t (poolOf start (now (pool .entry))) (parseZone count (now (d .entry))) ⌝ }
 {
-    match zones::check(d, count as u64) {
-        Verdict::Refused(n) => Judged::Fault(n),
-        Verdict::Good(z) => {
+    match places::name_at(d, 0, count as u64) {
+        Read::Refused(n) => Judged::Fault(n),
+        Read::Value(z, _) => {
             let k = z as usize;
             if pool::has_id(pool, starts, k, id) {
                 return match zones::find(d, count as u64, t) {
@@ -98,7 +99,10 @@ fn judge(
                     ZoneAnswer::In(x) => Judged::Here(answered(pool, starts, start, x)),
                 };
             }
-            Judged::Keep
+            match zones::check(d, count as u64) {
+                Verdict::Refused(n) => Judged::Fault(n),
+                Verdict::Good(_) => Judged::Keep,
+            }
         }
     }
 }

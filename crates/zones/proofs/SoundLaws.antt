@@ -96,17 +96,36 @@ listed-whole pool id s z q e =
     let g = bind-good (parseByte (f .rest)) (afterTailByte pool id is (f .first)) z q (f .on) in
     byte-whole pool id is (list-sound pool n _ is _ (eqb-false n 0 (b .0)) (d .is)) (f .first) (moment-is _ _ _ _ (f .is)) z q (g .first) (g .rest) (g .on)
 
+flag-whole : (pool id flag : ℕ) (s : List ℕ) (z : Zone) (q : List ℕ) → afterFlag pool id flag s ≡ got z q → Whole pool id z q
+unfolding afterFlag
+flag-whole pool id flag s z q = go (eqb flag 1) (eqb flag 2)
+  where
+    go : (t u : Bool) → pick t (parseFixed pool id s) (pick u (parseListed pool id s) (bad 9)) ≡ got z q → Whole pool id z q
+    go true u k = fixed-whole pool id s z q k
+    go false true k = listed-whole pool id s z q k
+    go false false k = bad-got k
+
 -- the content of every zone that is read is sound, and nothing is left over
 pub zone-sound : (pool : ℕ) (s : List ℕ) (z : Zone) (q : List ℕ) → parseZone pool s ≡ got z q → Sound pool z × (q ≡ [])
-unfolding parseZone afterId afterFlag
+unfolding parseZone afterId
 zone-sound pool s z q e =
     let a = bind-good (parseName pool s) (afterId pool) z q e in
-    let id : ℕ = a .first in
-    let b = bind-good (parseByte (a .rest)) (afterFlag pool id) z q (a .on) in
-    let w = go id (b .rest) (eqb (b .first) 1) (eqb (b .first) 2) (b .on) in
+    let b = bind-good (parseByte (a .rest)) (afterFlag pool (a .first)) z q (a .on) in
+    let w = flag-whole pool (a .first) (b .first) (b .rest) z q (b .on) in
     (record { id-ok = rw (w .id-is) (name-ok pool _ _ _ (a .is)); body-ok = w .body-ok }, w .ends)
-  where
-    go : (id : ℕ) (r : List ℕ) (t u : Bool) → pick t (parseFixed pool id r) (pick u (parseListed pool id r) (bad 9)) ≡ got z q → Whole pool id z q
-    go id r true u k = fixed-whole pool id r z q k
-    go id r false true k = listed-whole pool id r z q k
-    go id r false false k = bad-got k
+
+-- its ID stands first
+pub zone-id : (pool : ℕ) (s : List ℕ) (z : Zone) (q : List ℕ) (i : ℕ) (r : List ℕ) → parseName pool s ≡ got i r → parseZone pool s ≡ got z q
+    → z .id ≡ i
+unfolding parseZone afterId
+zone-id pool s z q i r n e =
+    let a = bind-good (parseName pool s) (afterId pool) z q e in
+    let b = bind-good (parseByte (a .rest)) (afterFlag pool (a .first)) z q (a .on) in
+    let w = flag-whole pool (a .first) (b .first) (b .rest) z q (b .on) in
+    let k : got (a .first) (a .rest) ≡ got i r = sym (a .is) ∙ n in
+    let j : a .first ≡ i = cc in
+    w .id-is ∙ j
+
+pub zone-bad : (pool : ℕ) (s : List ℕ) (k : ℕ) → parseName pool s ≡ bad k → parseZone pool s ≡ bad k
+unfolding parseZone
+zone-bad pool s k e = rw e

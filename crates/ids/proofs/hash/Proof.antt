@@ -30,7 +30,7 @@ loop-again : tie.Need-loop-again Inv-loop μ-loop
 loop-again c = (search needs, omega arith, sym (hash-at _ _ _ (c .before .loop-test .taken)) ∙ c .before .before .loop .inv .2)
 
 returns : tie.Need-returns Inv-loop μ-loop
-returns c = (ap (λ (x : ℕ). x / 65536) (sym (hash-end _ _ _ (c .loop-test .left)) ∙ c .before .loop .inv .2), omega arith)
+returns c = (ap (λ (x : ℕ). x / 262144) (sym (hash-end _ _ _ (c .loop-test .left)) ∙ c .before .loop .inv .2), omega arith)
 
 pub hash-spec : {M : Type 1} → statement M
 hash-spec =

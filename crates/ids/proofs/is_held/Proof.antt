@@ -24,6 +24,9 @@ text-by-requires c κs = (c .before .pre .0, omega arith)
 loop-holds : tie.Need-loop-holds Inv-loop μ-loop
 loop-holds c = (search needs, refl)
 
+mul-if1 : tie.Need-mul-if1 Inv-loop μ-loop
+mul-if1 c = omega (arith, below (now (c .before .before .before .before .args .pool)) (c .before .loop .j) (omega arith))
+
 element-copy-out-if1 : tie.Need-element-copy-out-if1 Inv-loop μ-loop
 element-copy-out-if1 c = below (now (c .before .before .before .before .args .pool)) _ (omega arith)
 
@@ -47,6 +50,7 @@ is-held-spec =
     μ-loop
     text-by-requires
     loop-holds
+    mul-if1
     element-copy-out-if1
     has-id-requires
     returns

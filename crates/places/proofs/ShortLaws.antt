@@ -1,0 +1,114 @@
+-- The short ways: codes of one and two bytes at a place. Assumes nothing.
+use mathlib.Core.Path.{_≡_, refl, sym, ap, _∙_}
+use mathlib.Core.List.{List, [], _∷_}
+use Prim.Native.Nat.{ℕ, suc, _+_, _*_, _%_, _≤_, _<_}
+use native.Mathlib.Omega.{arith}
+use native.Mathlib.Numerals.{add-one}
+use native.Mathlib.Nat.{mod-eq-of-lt}
+use lib.ListN.{length, drop, getD, drop-of-length-le}
+use lib.Seq.{drop-drop, drop-cons}
+use borrow.Author.Tests.{lt-ltb, le-ltb, ne-eqb}
+use Rattle.base.specs.Pick.{pick}
+use Rattle.base.specs.Moment.{Finite}
+use Rattle.base.specs.Parsed.{parse}
+use Rattle.base.specs.declared.Read.{Read}
+use Rattle.base.specs.declared.Read.the-variants.{Value, Refused}
+use Rattle.base.proofs.MomentLaws.{finite-yes}
+use Rattle.counts.specs.Groups.{readGroups}
+use Rattle.counts.specs.Count.{readCount}
+use Rattle.offsets.specs.Offset.{readSum}
+use Rattle.offsets.proofs.OffsetLaws.{fine-of}
+use Rattle.transitions.specs.Transition.{hour, fromCount, readMoment}
+use Rattle.places.specs.Placed.{Placed, at, no, Stands}
+use Rattle.places.specs.Short.{TwoBytes, HoursAfter}
+
+-- what reads at a place stands there
+pub reads : (read : List ℕ → Read) (s : List ℕ) (place v n : ℕ) → read (drop place s) ≡ Value v n → place + n ≤ length s
+    → Stands s (parse read (drop place s)) (at v (place + n))
+reads read s place v n e h = record { means = rw (e, drop-drop); within = h }
+
+pub refuses : (read : List ℕ → Read) (s : List ℕ) (place k : ℕ) → read (drop place s) ≡ Refused k → Stands s (parse read (drop place s)) (no k)
+refuses read s place k e = record { means = rw e; within = tt }
+
+module _ (s : List ℕ) (place : ℕ) where
+  pub no-count : length s ≤ place → readCount (drop place s) ≡ Refused 9
+  unfolding readGroups
+  no-count h = rw (drop-of-length-le s h)
+
+  pub no-sum : length s ≤ place → readSum (drop place s) ≡ Refused 9
+  unfolding readSum
+  no-sum h = rw (drop-of-length-le s h)
+
+  module _ (h : place < length s) where
+    pub one-byte : getD s place 0 < 128 → readCount (drop place s) ≡ Value (getD s place 0) 1
+    unfolding readGroups
+    one-byte l = rw (drop-cons s place 0 h, lt-ltb (getD s place 0) 128 l)
+
+    pub zero-sum : getD s place 0 ≡ 0 → readSum (drop place s) ≡ Refused 7
+    unfolding readSum
+    zero-sum e = rw (drop-cons s place 0 h, e) refl
+
+    pub half-hours : (getD s place 0 ≡ 0 → ⊥) → getD s place 0 < 96 → readSum (drop place s) ≡ Value (getD s place 0 * 1800000) 1
+    unfolding readSum
+    half-hours n l =
+        rw (drop-cons s place 0 h, lt-ltb (getD s place 0) 128 (omega arith))
+        (fine-of 1 172800000 (getD s place 0 * 1800000) (record { least = omega arith; most = omega arith; fine = λ e. omega (arith, sym (mod-eq-of-lt {n = getD s place 0 * 1800000} {m = 172800000} (omega arith)) ∙ e) }))
+
+  pub two-bytes : place + 2 ≤ length s → 128 ≤ getD s place 0 → getD s (place + 1) 0 < 128
+      → TwoBytes s place (getD s place 0 % 128 + 128 * getD s (place + 1) 0)
+  unfolding readGroups
+  two-bytes h l m = record { room = λ k. h; count = count }
+    where
+      count : 128 ≤ getD s place 0 % 128 + 128 * getD s (place + 1) 0
+          → readCount (drop place s) ≡ Value (getD s place 0 % 128 + 128 * getD s (place + 1) 0) 2
+      count k =
+          let n : getD s (suc place) 0 < 128 = rw (add-one place) at m in
+          let o : getD s (suc place) 0 ≡ 0 → ⊥ = λ e. omega (arith, rw (add-one place) at k) in
+          rw (
+            drop-cons s place 0 (omega arith),
+            le-ltb (getD s place 0) 128 l,
+            add-one place,
+            drop-cons s (suc place) 0 (omega arith),
+            lt-ltb (getD s (suc place) 0) 128 n,
+            ne-eqb (getD s (suc place) 0) 0 o,
+          )
+
+pub no-two-bytes : (s : List ℕ) (place : ℕ) → TwoBytes s place 0
+no-two-bytes s place = record { room = λ k. absurd (omega arith); count = λ k. absurd (omega arith) }
+
+pub no-hours : (prev v : ℕ) → HoursAfter prev v 0
+no-hours prev v =
+    record {
+      low = λ k. absurd (omega arith);
+      high = λ k. absurd (omega arith);
+      previous = λ k. absurd (omega arith);
+      instant = λ k. absurd (omega arith);
+      sum = λ k. absurd (omega arith);
+    }
+
+hours-from : (prev v t : ℕ) → HoursAfter prev v t → 0 < t → fromCount prev v 2 ≡ Value t 2
+unfolding fromCount
+hours-from prev v t h n =
+    let l : 128 ≤ v = h .low n in
+    let m : v < 16384 = h .high n in
+    rw (
+      ne-eqb v 0 (λ e. omega arith),
+      ne-eqb v 1 (λ e. omega arith),
+      le-ltb v 128 l,
+      lt-ltb v 2097152 (omega arith),
+      finite-yes prev (h .previous n),
+      h .sum n,
+      finite-yes t (h .instant n),
+    )
+
+hours-read : (prev : ℕ) (s : List ℕ) (place v t : ℕ) → TwoBytes s place v → HoursAfter prev v t → 0 < t
+    → readMoment prev (drop place s) ≡ Value t 2
+unfolding readMoment
+hours-read prev s place v t w h n =
+    let l : 128 ≤ v = h .low n in
+    rw (w .count l, ne-eqb v 2 (λ e. omega arith)) (hours-from prev v t h n)
+
+-- a transition of two bytes is hours after the previous one
+pub hours : (prev : ℕ) (s : List ℕ) (place v t : ℕ) → TwoBytes s place v → HoursAfter prev v t → (t ≡ 0 → ⊥)
+    → Stands s (parse (readMoment prev) (drop place s)) (at t (place + 2))
+hours prev s place v t w h n = reads (readMoment prev) s place t 2 (hours-read prev s place v t w h (omega arith)) (w .room (h .low (omega arith)))

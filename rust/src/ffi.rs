@@ -1,0 +1,134 @@
+//! The C functions of `include/nzd.h` over slices, with their results as they are there.
+//!
+//! All `unsafe` of this crate is here. The C functions ask only that a pointer and its length name valid memory, and
+//! that nothing else names what is written; a slice says both. So each function here is safe for every argument.
+
+#![allow(unsafe_code)]
+
+mod c {
+    extern "C" {
+        pub fn nzd_check(file: *const u8, n: usize) -> u64;
+        pub fn nzd_ask(
+            file: *const u8,
+            n: usize,
+            id: *const u8,
+            id_n: usize,
+            ticks: i64,
+            more: bool,
+            out: *mut i64,
+            out_n: usize,
+        ) -> u64;
+        pub fn nzd_ask_plain(
+            file: *const u8,
+            n: usize,
+            id: *const u8,
+            id_n: usize,
+            ticks: i64,
+            out: *mut i64,
+            out_n: usize,
+        ) -> u64;
+        pub fn nzd_version_text(file: *const u8, n: usize, out: *mut i64, out_n: usize) -> u64;
+        pub fn nzd_rewrite(file: *const u8, n: usize, out: *mut u8, out_n: usize) -> u64;
+        pub fn nzd_read_count(s: *const u8, n: usize, out: *mut i64, out_n: usize) -> u64;
+        pub fn nzd_read_signed_count(s: *const u8, n: usize, out: *mut i64, out_n: usize) -> u64;
+        pub fn nzd_read_offset(s: *const u8, n: usize, out: *mut i64, out_n: usize) -> u64;
+        pub fn nzd_read_text(s: *const u8, n: usize, out: *mut i64, out_n: usize) -> u64;
+        pub fn nzd_read_transition(
+            s: *const u8,
+            n: usize,
+            previous: i64,
+            finite: bool,
+            out: *mut i64,
+            out_n: usize,
+        ) -> u64;
+        pub fn nzd_write_count(v: i64, out: *mut u8, out_n: usize) -> u64;
+        pub fn nzd_write_signed_count(v: i64, out: *mut u8, out_n: usize) -> u64;
+        pub fn nzd_write_offset(ms: i64, out: *mut u8, out_n: usize) -> u64;
+        pub fn nzd_write_text(t: *const u8, t_n: usize, out: *mut u8, out_n: usize) -> u64;
+        pub fn nzd_write_transition(
+            kind: u8,
+            ticks: i64,
+            previous: i64,
+            finite: bool,
+            out: *mut u8,
+            out_n: usize,
+        ) -> u64;
+    }
+}
+
+/// `nzd_check`.
+pub fn check(file: &[u8]) -> u64 {
+    unsafe { c::nzd_check(file.as_ptr(), file.len()) }
+}
+
+/// `nzd_ask`.
+pub fn ask(file: &[u8], id: &[u8], ticks: i64, more: bool, out: &mut [i64]) -> u64 {
+    let (out, out_n) = (out.as_mut_ptr(), out.len());
+    unsafe { c::nzd_ask(file.as_ptr(), file.len(), id.as_ptr(), id.len(), ticks, more, out, out_n) }
+}
+
+/// `nzd_ask_plain`.
+pub fn ask_plain(file: &[u8], id: &[u8], ticks: i64, out: &mut [i64]) -> u64 {
+    let (out, out_n) = (out.as_mut_ptr(), out.len());
+    unsafe { c::nzd_ask_plain(file.as_ptr(), file.len(), id.as_ptr(), id.len(), ticks, out, out_n) }
+}
+
+/// `nzd_version_text`.
+pub fn version_text(file: &[u8], out: &mut [i64]) -> u64 {
+    unsafe { c::nzd_version_text(file.as_ptr(), file.len(), out.as_mut_ptr(), out.len()) }
+}
+
+/// `nzd_rewrite`.
+pub fn rewrite(file: &[u8], out: &mut [u8]) -> u64 {
+    unsafe { c::nzd_rewrite(file.as_ptr(), file.len(), out.as_mut_ptr(), out.len()) }
+}
+
+/// `nzd_read_count`.
+pub fn read_count(s: &[u8], out: &mut [i64]) -> u64 {
+    unsafe { c::nzd_read_count(s.as_ptr(), s.len(), out.as_mut_ptr(), out.len()) }
+}
+
+/// `nzd_read_signed_count`.
+pub fn read_signed_count(s: &[u8], out: &mut [i64]) -> u64 {
+    unsafe { c::nzd_read_signed_count(s.as_ptr(), s.len(), out.as_mut_ptr(), out.len()) }
+}
+
+/// `nzd_read_offset`.
+pub fn read_offset(s: &[u8], out: &mut [i64]) -> u64 {
+    unsafe { c::nzd_read_offset(s.as_ptr(), s.len(), out.as_mut_ptr(), out.len()) }
+}
+
+/// `nzd_read_text`.
+pub fn read_text(s: &[u8], out: &mut [i64]) -> u64 {
+    unsafe { c::nzd_read_text(s.as_ptr(), s.len(), out.as_mut_ptr(), out.len()) }
+}
+
+/// `nzd_read_transition`.
+pub fn read_transition(s: &[u8], previous: i64, finite: bool, out: &mut [i64]) -> u64 {
+    unsafe { c::nzd_read_transition(s.as_ptr(), s.len(), previous, finite, out.as_mut_ptr(), out.len()) }
+}
+
+/// `nzd_write_count`.
+pub fn write_count(v: i64, out: &mut [u8]) -> u64 {
+    unsafe { c::nzd_write_count(v, out.as_mut_ptr(), out.len()) }
+}
+
+/// `nzd_write_signed_count`.
+pub fn write_signed_count(v: i64, out: &mut [u8]) -> u64 {
+    unsafe { c::nzd_write_signed_count(v, out.as_mut_ptr(), out.len()) }
+}
+
+/// `nzd_write_offset`.
+pub fn write_offset(ms: i64, out: &mut [u8]) -> u64 {
+    unsafe { c::nzd_write_offset(ms, out.as_mut_ptr(), out.len()) }
+}
+
+/// `nzd_write_text`.
+pub fn write_text(t: &[u8], out: &mut [u8]) -> u64 {
+    unsafe { c::nzd_write_text(t.as_ptr(), t.len(), out.as_mut_ptr(), out.len()) }
+}
+
+/// `nzd_write_transition`.
+pub fn write_transition(kind: u8, ticks: i64, previous: i64, finite: bool, out: &mut [u8]) -> u64 {
+    unsafe { c::nzd_write_transition(kind, ticks, previous, finite, out.as_mut_ptr(), out.len()) }
+}

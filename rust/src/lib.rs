@@ -1,0 +1,160 @@
+//! Reading and rewriting Noda Time's zone files (NodaZoneData, `.nzd`), over a proved library.
+//!
+//! A file is lent as bytes. Any bytes, any zone ID and any instant get an answer or an [`Error`]; nothing has to be
+//! checked first. The bytes may be the first part of a file that is still arriving: what is said of them then stays
+//! true whatever bytes follow.
+//!
+//! Instants are ticks of 100 ns since 1970-01-01T00:00Z; offsets and savings are milliseconds.
+//!
+//! ```
+//! // A file with one fixed zone, "UTC".
+//! let file = b"\0\0\0\0\x00\x05\x01\x03UTC\x01\x04\x00\x01\x30\x00";
+//! let answer = nzd::ask_plain(file, "UTC", 0)?;
+//! assert_eq!(answer.wall_offset_ms, 0);
+//! assert_eq!(answer.name, b"UTC");
+//! # Ok::<(), nzd::Error>(())
+//! ```
+
+pub mod codes;
+mod error;
+pub mod ffi;
+
+pub use error::{Error, Number};
+
+use error::decode;
+
+/// Where an interval starts or ends, or what a transition names: an instant or one of the marks, ordered in time.
+#[derive(Clone, Copy, Debug, PartialEq, Eq, PartialOrd, Ord, Hash)]
+pub enum Bound {
+    /// Before every instant.
+    StartOfTime,
+    /// An instant, in ticks.
+    At(i64),
+    /// After every instant.
+    EndOfTime,
+}
+
+/// Whether the lent bytes may be the first part of a file.
+#[derive(Clone, Copy, Debug, PartialEq, Eq, Hash)]
+pub enum Mark {
+    /// More bytes may come: what isn't known yet is [`Number::NotYet`].
+    MoreMayCome,
+    /// The bytes are all there is.
+    ThisIsAll,
+}
+
+/// The interval of a zone that holds the asked instant.
+#[derive(Clone, Copy, Debug, PartialEq, Eq, Hash)]
+pub struct Answer<'a> {
+    /// What to add to UTC for the time on the wall, in milliseconds.
+    pub wall_offset_ms: i64,
+    /// How much of the wall offset is daylight saving, in milliseconds.
+    pub savings_ms: i64,
+    /// The name in force, as "CEST": a part of the file's bytes, in UTF-8.
+    pub name: &'a [u8],
+    /// The interval's start, which it holds.
+    pub start: Bound,
+    /// The interval's end, which it doesn't hold.
+    pub end: Bound,
+}
+
+/// Checks a whole file.
+///
+/// ```
+/// use nzd::{Error, Number};
+///
+/// let file = b"\0\0\0\0\x00\x05\x01\x03UTC\x01\x04\x00\x01\x30\x00";
+/// assert_eq!(nzd::check(file), Ok(()));
+///
+/// // The last byte is missing: the field at place 11 is cut short.
+/// let error = nzd::check(&file[..16]).unwrap_err();
+/// assert_eq!(error, Error { number: Number::CutShort, place: 11 });
+/// assert_eq!(error.to_string(), "cut short (number 2, place 11)");
+/// ```
+pub fn check(file: &[u8]) -> Result<(), Error> {
+    decode(ffi::check(file)).map(|_| ())
+}
+
+/// Asks for the interval of the zone `id` that holds the instant `ticks`.
+///
+/// ```
+/// use nzd::{Bound, Mark, Number};
+///
+/// let file = b"\0\0\0\0\x00\x05\x01\x03UTC\x01\x04\x00\x01\x30\x00";
+/// let answer = nzd::ask(file, "UTC", 0, Mark::MoreMayCome)?;
+/// assert_eq!((answer.start, answer.end), (Bound::StartOfTime, Bound::EndOfTime));
+///
+/// // Of the first 16 bytes nothing can be said yet: wait for more.
+/// let error = nzd::ask(&file[..16], "UTC", 0, Mark::MoreMayCome).unwrap_err();
+/// assert_eq!(error.number, Number::NotYet);
+/// # Ok::<(), nzd::Error>(())
+/// ```
+pub fn ask(file: &[u8], id: impl AsRef<[u8]>, ticks: i64, mark: Mark) -> Result<Answer<'_>, Error> {
+    let mut out = [0; 6];
+    decode(ffi::ask(file, id.as_ref(), ticks, mark == Mark::MoreMayCome, &mut out))?;
+    Ok(answer(file, out))
+}
+
+/// Asks bytes that are all there is for the interval of the zone `id` that holds the instant `ticks`.
+///
+/// ```
+/// use nzd::Number;
+///
+/// let file = b"\0\0\0\0\x00\x05\x01\x03UTC\x01\x04\x00\x01\x30\x00";
+/// assert_eq!(nzd::ask_plain(file, "UTC", 0)?.savings_ms, 0);
+/// assert_eq!(nzd::ask_plain(file, "GMT", 0).unwrap_err().number, Number::NotFound);
+/// # Ok::<(), nzd::Error>(())
+/// ```
+pub fn ask_plain(file: &[u8], id: impl AsRef<[u8]>, ticks: i64) -> Result<Answer<'_>, Error> {
+    let mut out = [0; 6];
+    decode(ffi::ask_plain(file, id.as_ref(), ticks, &mut out))?;
+    Ok(answer(file, out))
+}
+
+/// The numbers of an answered question, with the name as a part of the file.
+fn answer(file: &[u8], [wall_offset_ms, savings_ms, place, length, start, end]: [i64; 6]) -> Answer<'_> {
+    Answer { wall_offset_ms, savings_ms, name: part(file, place, length), start: bound(start), end: bound(end) }
+}
+
+/// The marks are the numbers that no instant has.
+fn bound(ticks: i64) -> Bound {
+    match ticks {
+        i64::MIN => Bound::StartOfTime,
+        i64::MAX => Bound::EndOfTime,
+        _ => Bound::At(ticks),
+    }
+}
+
+fn part(bytes: &[u8], place: i64, length: i64) -> &[u8] {
+    let (place, length) = (place as usize, length as usize);
+    &bytes[place..][..length]
+}
+
+/// The tzdb version that a well-formed file was made from, as "2025b": a part of its bytes.
+///
+/// ```
+/// let file = b"\0\0\0\0\x00\x01\x00\x02\x06\x052025b";
+/// assert_eq!(nzd::version_text(file)?, b"2025b");
+/// # Ok::<(), nzd::Error>(())
+/// ```
+pub fn version_text(file: &[u8]) -> Result<&[u8], Error> {
+    let mut out = [0; 2];
+    decode(ffi::version_text(file, &mut out))?;
+    let [place, length] = out;
+    Ok(part(file, place, length))
+}
+
+/// Writes the preferred form of a well-formed file to the front of `out`, and gives its length, which is at most the
+/// file's. The rest of `out`, and all of it on an error, stays as it was.
+///
+/// ```
+/// let file = b"\0\0\0\0\x00\x05\x01\x03UTC\x01\x04\x00\x01\x30\x00";
+/// let mut out = vec![0; file.len()];
+/// let length = nzd::rewrite(file, &mut out)?;
+/// // This file is in preferred form already.
+/// assert_eq!(&out[..length], file);
+/// # Ok::<(), nzd::Error>(())
+/// ```
+pub fn rewrite(file: &[u8], out: &mut [u8]) -> Result<usize, Error> {
+    decode(ffi::rewrite(file, out))
+}

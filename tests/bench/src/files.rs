@@ -1,0 +1,158 @@
+//! The files that are measured.
+
+use second_reader::codes::read_transition;
+use second_reader::file::read_file;
+use second_reader::generate::plan::Kind;
+use second_reader::generate::{plan, FileContent, Forms};
+use second_reader::zone::{Interval, Rest, Zone};
+use second_reader::{Refusal, Transition};
+
+const TICKS_PER_HOUR: i64 = 36_000_000_000;
+
+/// The content of a well-formed file.
+pub fn content(file: &[u8]) -> Result<FileContent, Refusal> {
+    let contents = read_file(file)?;
+    let others = contents.fields.iter().filter(|field| field.id > 2);
+    Ok(FileContent {
+        pool: contents.pool.iter().map(|part| file[part.clone()].to_vec()).collect(),
+        zones: contents.zones.into_iter().map(|(_, zone)| zone).collect(),
+        version: contents.version_text.map(|part| file[part].to_vec()),
+        others: others.map(|field| (field.id, field.data.to_vec())).collect(),
+    })
+}
+
+fn preferred(content: &FileContent) -> Vec<u8> {
+    plan(content, &mut Forms::Preferred).bytes()
+}
+
+/// The file of a content with every instant in the ticks form, the longest one, so that a rewriter has much to change.
+pub fn in_ticks(content: &FileContent) -> Vec<u8> {
+    let mut file = plan(content, &mut Forms::Preferred);
+    for code in file.fields.iter_mut().flat_map(|field| &mut field.codes) {
+        if let Kind::Transition(previous) = code.kind {
+            if let Ok((Transition::Finite(ticks), _)) = read_transition(&code.bytes, previous) {
+                code.bytes = [&[2][..], &ticks.to_be_bytes()].concat();
+            }
+        }
+    }
+    file.bytes()
+}
+
+/// A file of one of four sizes, and what is asked of it.
+pub struct Grown {
+    pub file: Vec<u8>,
+    /// The ID of the last zone.
+    pub last: Vec<u8>,
+    /// An ID that the file has not, as like those that it has as can be.
+    pub absent: Vec<u8>,
+}
+
+/// Makes a file whose length grows with a factor of 1, 2, 4 or 8, up to the largest sizes.
+pub struct Growing {
+    pub name: &'static str,
+    pub make: fn(usize) -> Grown,
+    /// Whether the file is well formed, so that check and rewrite are measured too.
+    pub well_formed: bool,
+}
+
+/// Files on which a reader with a cost that isn't linear would show it.
+pub const GROWING: [Growing; 9] = [
+    Growing {
+        name: "1,024 to 8,192 zones, IDs of 503 bytes that differ at the end",
+        make: |factor| fixed_zones(1024 * factor, |number| format!("{}{number:04}", "x".repeat(499))),
+        well_formed: true,
+    },
+    Growing {
+        name: "1,024 to 8,192 zones, IDs of 503 bytes that differ in the middle",
+        make: |factor| fixed_zones(1024 * factor, |number| format!("{0}{number:04}{0}x", "x".repeat(249))),
+        well_formed: true,
+    },
+    Growing {
+        name: "1,024 to 8,192 zones of 60 intervals",
+        make: |factor| {
+            let zones = (0..1024 * factor).map(|id| listed(id, 60)).collect();
+            grown(names(1024 * factor), zones, preferred)
+        },
+        well_formed: true,
+    },
+    Growing {
+        name: "1,024 to 8,192 strings of 169 three-byte characters",
+        make: |factor| {
+            let count = 1024 * factor;
+            let pool = (0..count).map(|_| "中".repeat(169)).chain(["Zone".to_string()]).skip(1).collect();
+            grown(pool, vec![fixed(count - 1)], preferred)
+        },
+        well_formed: true,
+    },
+    Growing {
+        name: "25 to 200 zones of 4,096 intervals in hours",
+        make: |factor| {
+            let zones = (0..25 * factor).map(|id| listed(id, 4096)).collect();
+            grown(names(25 * factor), zones, preferred)
+        },
+        well_formed: true,
+    },
+    Growing {
+        name: "10 to 80 zones of 4,096 intervals in ticks",
+        make: |factor| {
+            let zones = (0..10 * factor).map(|id| listed(id, 4096)).collect();
+            grown(names(10 * factor), zones, in_ticks)
+        },
+        well_formed: true,
+    },
+    Growing {
+        name: "one zone of 512 to 4,096 intervals",
+        make: |factor| grown(names(1), vec![listed(0, 512 * factor)], preferred),
+        well_formed: true,
+    },
+    Growing {
+        name: "261,000 to 2,088,000 fields of no data",
+        make: |factor| {
+            let others = vec![(8, Vec::new()); 261_000 * factor];
+            let pool = names(1).into_iter().map(String::into_bytes).collect();
+            let content = FileContent { pool, zones: vec![fixed(0)], version: None, others };
+            Grown { file: preferred(&content), last: content.pool[0].clone(), absent: b"Zone".to_vec() }
+        },
+        well_formed: true,
+    },
+    Growing {
+        name: "87,000 to 696,000 zones of one ID, 1,024 bytes long",
+        make: |factor| grown(vec!["x".repeat(1024)], vec![fixed(0); 87_000 * factor], preferred),
+        well_formed: false,
+    },
+];
+
+fn names(count: usize) -> Vec<String> {
+    (0..count).map(|number| format!("Area/City_{number:04}")).collect()
+}
+
+fn fixed_zones(count: usize, id: impl Fn(usize) -> String) -> Grown {
+    grown((0..count).map(id).collect(), (0..count).map(fixed).collect(), preferred)
+}
+
+fn grown(pool: Vec<String>, zones: Vec<Zone>, write: fn(&FileContent) -> Vec<u8>) -> Grown {
+    let pool: Vec<Vec<u8>> = pool.into_iter().map(String::into_bytes).collect();
+    let last = zones.last().map_or(Vec::new(), |zone| pool[zone.id].clone());
+    // The last zone's ID with another last byte.
+    let mut absent = last.clone();
+    if let Some(byte) = absent.last_mut() {
+        *byte = b'?';
+    }
+    Grown { file: write(&FileContent { pool, zones, version: None, others: Vec::new() }), last, absent }
+}
+
+fn fixed(id: usize) -> Zone {
+    Zone { id, rest: Rest::Fixed { offset: 0, name: 0 } }
+}
+
+/// A zone whose intervals are 200 days long.
+fn listed(id: usize, count: usize) -> Zone {
+    let start = |number: usize| match number as i64 {
+        0 => Transition::StartOfTime,
+        number => Transition::Finite(number * 200 * 24 * TICKS_PER_HOUR - 400_000_000_000_000_000),
+    };
+    let hour = |number: usize| (number % 2) as i32 * 3_600_000;
+    let interval = |number| Interval { start: start(number), name: 0, wall: hour(number), savings: hour(number) };
+    let intervals = (0..count).map(interval).collect();
+    Zone { id, rest: Rest::Listed { intervals, end: Transition::EndOfTime, tail: None } }
+}

@@ -1,0 +1,152 @@
+//! Measures the proved library beside the peer, and prints two Markdown tables: on the realistic files, ours against the
+//! peer's; on files of n, 2n, 4n and 8n bytes, how the time grows. Fails if the two give different answers.
+
+mod clock;
+mod files;
+mod measure;
+mod work;
+
+use files::{content, in_ticks, Grown, GROWING};
+use measure::{measure, SAMPLES};
+use second_reader::generate::FileContent;
+use second_reader::zone::{Rest, Zone};
+use std::process::ExitCode;
+use work::Work;
+
+/// 1950-01-01T00:00Z.
+const LISTED: i64 = -631_152_000 * 10_000_000;
+/// 2100-07-01T00:00Z.
+const IN_TAIL: i64 = 4_118_083_200 * 10_000_000;
+
+/// What is wanted of our time against the peer's.
+const WANTED_RATIO: f64 = 1.0;
+/// What is wanted of the time where a file is twice as long.
+const WANTED_GROWTH: f64 = 2.2;
+
+/// How many numbers were measured, and how many are above what is wanted.
+#[derive(Default)]
+struct Count {
+    all: usize,
+    above: usize,
+}
+
+impl Count {
+    fn add(&mut self, number: f64, wanted: f64) {
+        self.all += 1;
+        self.above += usize::from(number > wanted);
+    }
+}
+
+fn main() -> ExitCode {
+    let (mut ratio, mut growth) = (Count::default(), Count::default());
+    if let Err(fault) = realistic(&mut ratio).and_then(|()| growing(&mut growth)) {
+        eprintln!("bench: {fault}");
+        return ExitCode::FAILURE;
+    }
+    println!("Processor time of one call, median of {SAMPLES} samples, ours and the peer's taken in turn.");
+    println!("Ratio above {WANTED_RATIO:.1} in {} of {} rows of the first table,", ratio.above, ratio.all);
+    println!("growth above {WANTED_GROWTH:.1} in {} of {} steps of the second.", growth.above, growth.all);
+    ExitCode::SUCCESS
+}
+
+/// On the realistic files: ours against the peer's.
+fn realistic(ratio_count: &mut Count) -> Result<(), String> {
+    println!("| File | Work | Ours, µs | Peer, µs | Ratio |");
+    println!("|---|---|---:|---:|---:|");
+    for name in ["all.nzd", "europe.nzd"] {
+        let path = format!("{}/../data/{name}", env!("CARGO_MANIFEST_DIR"));
+        let file = std::fs::read(&path).map_err(|error| format!("{path}: {error}"))?;
+        let content = content(&file).map_err(|refusal| format!("{path}: {refusal}"))?;
+        let long = in_ticks(&content);
+        let mut rows = vec![(&file, "check".to_string(), Work::Check)];
+        rows.extend(questions(&content).into_iter().map(|(what, work)| (&file, what, work)));
+        rows.push((&file, "rewrite, preferred already".to_string(), Work::Rewrite));
+        rows.push((&long, "rewrite, every instant in ticks".to_string(), Work::Rewrite));
+        for (file, what, work) in rows {
+            agree(file, name, &what, &work)?;
+            let times = measure(&mut work.pieces(file));
+            let ratio = times[0] / times[1];
+            println!("| `{name}` | {what} | {} | {} | {ratio:.2} |", us(times[0]), us(times[1]));
+            ratio_count.add(ratio, WANTED_RATIO);
+        }
+    }
+    println!();
+    Ok(())
+}
+
+/// First, middle and last zone at a listed instant; of the zones with a tail the same at an instant in it; a zone that
+/// isn't there.
+fn questions(content: &FileContent) -> Vec<(String, Work)> {
+    let zones: Vec<&Zone> = content.zones.iter().collect();
+    let has_tail = |zone: &&Zone| matches!(&zone.rest, Rest::Listed { tail: Some(_), .. });
+    let with_tail: Vec<&Zone> = zones.iter().copied().filter(has_tail).collect();
+    let mut questions = Vec::new();
+    for (kind, zones, ticks) in [("listed", &zones, LISTED), ("in the tail", &with_tail, IN_TAIL)] {
+        let last = zones.len() - 1;
+        for (place, number) in [("first", 0), ("middle", last / 2), ("last", last)] {
+            let id = content.id(zones[number]).to_vec();
+            let what = format!("question, {place} zone, {kind} (`{}`)", String::from_utf8_lossy(&id));
+            questions.push((what, Work::Ask { id, ticks }));
+        }
+    }
+    let absent = Work::Ask { id: b"No/Such_Zone".to_vec(), ticks: LISTED };
+    questions.push(("question, absent zone".to_string(), absent));
+    questions
+}
+
+/// On files of n, 2n, 4n and 8n bytes: how the time grows.
+fn growing(growth: &mut Count) -> Result<(), String> {
+    println!(
+        "| Files of n, 2n, 4n, 8n bytes | Work | 8n, bytes | Ours at 8n, µs \
+         | t(2n)/t(n) | t(4n)/t(2n) | t(8n)/t(4n) | Peer's largest of these | Ours / peer at 8n |"
+    );
+    println!("|---|---|---:|---:|---:|---:|---:|---:|---:|");
+    for kind in GROWING {
+        let sizes = [1, 2, 4, 8].map(kind.make);
+        let absent = |grown: &Grown| Work::Ask { id: grown.absent.clone(), ticks: LISTED };
+        let last = |grown: &Grown| Work::Ask { id: grown.last.clone(), ticks: LISTED };
+        let mut rows = vec![("question, absent zone", sizes.each_ref().map(absent))];
+        if kind.well_formed {
+            rows.push(("question, last zone", sizes.each_ref().map(last)));
+            rows.push(("check", [(); 4].map(|()| Work::Check)));
+            rows.push(("rewrite", [(); 4].map(|()| Work::Rewrite)));
+        }
+        for (what, works) in rows {
+            let mut pieces = Vec::new();
+            for (grown, work) in sizes.iter().zip(&works) {
+                agree(&grown.file, kind.name, what, work)?;
+                pieces.extend(work.pieces(&grown.file));
+            }
+            // Ours and the peer's in turn, from n to 8n.
+            let times = measure(&mut pieces);
+            let steps = [2, 4, 6].map(|at| times[at] / times[at - 2]);
+            for step in steps {
+                growth.add(step, WANTED_GROWTH);
+            }
+            // Where the peer's is as large, it is the machine's caches.
+            let peer = [3, 5, 7].map(|at| times[at] / times[at - 2]).into_iter().fold(0.0, f64::max);
+            let shown = steps.map(|step| format!("{step:.2}")).join(" | ");
+            let (length, ours, ratio) = (sizes[3].file.len(), us(times[6]), times[6] / times[7]);
+            println!("| {} | {what} | {length} | {ours} | {shown} | {peer:.2} | {ratio:.2} |", kind.name);
+        }
+    }
+    println!();
+    Ok(())
+}
+
+fn agree(file: &[u8], name: &str, what: &str, work: &Work) -> Result<(), String> {
+    match work.agrees(file) {
+        true => Ok(()),
+        false => Err(format!("{name}, {what}: ours and the peer's answers differ")),
+    }
+}
+
+/// Microseconds, to about three digits.
+fn us(nanoseconds: f64) -> String {
+    let us = nanoseconds / 1000.0;
+    match us {
+        0.0..10.0 => format!("{us:.2}"),
+        10.0..100.0 => format!("{us:.1}"),
+        _ => format!("{us:.0}"),
+    }
+}

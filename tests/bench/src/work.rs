@@ -1,0 +1,78 @@
+//! What is measured: a check, a question or a rewrite, by the library and by the peer.
+
+use crate::measure::Piece;
+use nzd::Bound;
+use std::hint::black_box;
+
+/// One kind of work on a file.
+pub enum Work {
+    Check,
+    Ask { id: Vec<u8>, ticks: i64 },
+    Rewrite,
+}
+
+/// What a question gives: number and place of a refusal, or the values of an answer.
+type Said<'a> = Result<(i64, i64, &'a [u8], i64, i64), (u8, usize)>;
+
+fn pair(error: nzd::Error) -> (u8, usize) {
+    (error.number.value(), error.place)
+}
+
+fn peer_pair(refusal: peer::Refusal) -> (u8, usize) {
+    (refusal.number, refusal.place)
+}
+
+fn ticks_of(bound: Bound) -> i64 {
+    match bound {
+        Bound::StartOfTime => i64::MIN,
+        Bound::At(ticks) => ticks,
+        Bound::EndOfTime => i64::MAX,
+    }
+}
+
+impl Work {
+    /// Whether both give the same on a file.
+    pub fn agrees(&self, file: &[u8]) -> bool {
+        match self {
+            Work::Check => nzd::check(file).map_err(pair) == peer::check(file).map_err(peer_pair),
+            Work::Ask { id, ticks } => {
+                let ours: Said = nzd::ask_plain(file, id, *ticks)
+                    .map(|a| (a.wall_offset_ms, a.savings_ms, a.name, ticks_of(a.start), ticks_of(a.end)))
+                    .map_err(pair);
+                let theirs: Said = peer::ask(file, id, *ticks, false)
+                    .map(|a| (a.wall_offset_ms.into(), a.savings_ms.into(), a.name, a.start, a.end))
+                    .map_err(peer_pair);
+                ours == theirs
+            }
+            Work::Rewrite => {
+                let (mut ours, mut theirs) = (vec![0; file.len()], vec![0; file.len()]);
+                let given = nzd::rewrite(file, &mut ours).map_err(pair);
+                given == peer::rewrite(file, &mut theirs).map_err(peer_pair) && ours == theirs
+            }
+        }
+    }
+
+    /// The work done by the library, and by the peer.
+    pub fn pieces<'a>(&'a self, file: &'a [u8]) -> [Piece<'a>; 2] {
+        match self {
+            Work::Check => [piece(move || nzd::check(black_box(file))), piece(move || peer::check(black_box(file)))],
+            Work::Ask { id, ticks } => [
+                piece(move || nzd::ask_plain(black_box(file), black_box(id), *ticks)),
+                piece(move || peer::ask(black_box(file), black_box(id), *ticks, false)),
+            ],
+            Work::Rewrite => {
+                let (mut ours, mut theirs) = (vec![0; file.len()], vec![0; file.len()]);
+                [
+                    piece(move || nzd::rewrite(black_box(file), black_box(&mut ours))),
+                    piece(move || peer::rewrite(black_box(file), black_box(&mut theirs))),
+                ]
+            }
+        }
+    }
+}
+
+fn piece<'a, T>(mut work: impl FnMut() -> T + 'a) -> Piece<'a> {
+    Box::new(move || {
+        black_box(work());
+    })
+}

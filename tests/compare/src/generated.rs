@@ -1,0 +1,87 @@
+//! Generated files, well formed and damaged.
+
+use crate::questions::{ask, other_ids, prefixes, Question};
+use crate::tally::{Difference, Tally};
+use crate::whole::{check, whole};
+use second_reader::generate::{
+    damaged, instants, plan, random_content, Damage, FileContent, FilePlan, Forms, Prng, Size,
+};
+use second_reader::transition::{FIRST, LAST};
+
+/// Every prefix is taken of files up to this length.
+const EVERY_PREFIX: usize = 1500;
+/// How many instants of a zone are asked.
+const MOST_INSTANTS: usize = 60;
+
+/// One well-formed file, two damaged ones of it, and a short one of any bytes.
+pub fn round(tally: &mut Tally, seed: u64, number: u64) -> Result<(), Difference> {
+    let mut prng = Prng::of_case(seed, number);
+    // Files of the largest sizes take long: one round in four may have one.
+    let size = if number.is_multiple_of(4) { Size::Any } else { Size::Small };
+    let content = random_content(&mut prng, size);
+    let good = plan(&content, &mut Forms::Any(&mut prng));
+    let kind = *prng.pick(&Damage::ALL);
+    let bad = damaged(&good, kind, &mut prng);
+    let twice = damaged_twice(&good, &mut prng);
+    for file in [good.bytes(), bad, twice, any_bytes(&mut prng)] {
+        whole(tally, &file)?;
+        let asked = questions(&content, &mut prng);
+        for (id, ticks) in &asked {
+            ask(tally, &file, id, *ticks)?;
+        }
+        if file.len() <= EVERY_PREFIX {
+            let few: Vec<Question> = (0..3).map(|_| prng.pick(&asked).clone()).collect();
+            prefixes(tally, &file, &few, 1, &mut prng)?;
+            for length in 0..file.len() {
+                check(tally, &file[..length])?;
+            }
+        }
+    }
+    // A preferred file gives itself.
+    if let Ok(preferred) = second_reader::rewrite::preferred(&good.bytes()) {
+        whole(tally, &preferred)?;
+    }
+    Ok(())
+}
+
+/// Instants at and around every bound of the zones, and questions that are refused for another reason.
+fn questions(content: &FileContent, prng: &mut Prng) -> Vec<Question> {
+    let mut asked = Vec::new();
+    for zone in &content.zones {
+        let mut all = instants(zone, prng);
+        while all.len() > MOST_INSTANTS {
+            all.swap_remove(prng.below(all.len()));
+        }
+        asked.extend(all.into_iter().map(|ticks| (content.id(zone).to_vec(), ticks)));
+    }
+    let ids: Vec<&[u8]> = content.zones.iter().map(|zone| content.id(zone)).collect();
+    for id in other_ids(&ids, prng) {
+        let ticks = prng.range(FIRST, LAST);
+        asked.push((id, ticks));
+    }
+    let id = ids.first().map_or(Vec::new(), |id| id.to_vec());
+    for ticks in [FIRST - 1, LAST + 1, i64::MIN, i64::MAX, prng.next_u64() as i64] {
+        asked.push((id.clone(), ticks));
+    }
+    asked
+}
+
+/// A file with two faults, of which the first in order counts: one, or a doubled zone, and a byte changed.
+fn damaged_twice(good: &FilePlan, prng: &mut Prng) -> Vec<u8> {
+    let kind = if prng.one_in(2) { Damage::DoubledZone } else { *prng.pick(&Damage::ALL) };
+    let mut file = damaged(good, kind, prng);
+    if !file.is_empty() {
+        let place = prng.below(file.len());
+        file[place] = prng.byte();
+    }
+    file
+}
+
+/// A good start and then any bytes.
+fn any_bytes(prng: &mut Prng) -> Vec<u8> {
+    let mut file = b"\0\0\0\0\x00\x03\x01\x01A\x01".to_vec();
+    file.truncate(prng.below(11));
+    let count = prng.below(40);
+    file.extend(prng.bytes(count));
+    file
+}

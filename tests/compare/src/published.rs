@@ -1,0 +1,78 @@
+//! Files that were made elsewhere: the realistic ones, and any that is named.
+
+use crate::questions::{ask, other_ids, prefixes, Question};
+use crate::tally::{Difference, Tally};
+use crate::whole::{check, whole};
+use second_reader::file::{read_file, Contents};
+use second_reader::generate::{instants, plan, FileContent, Forms, Prng};
+use second_reader::transition::{FIRST, LAST};
+use second_reader::zone::{Rest, Zone};
+
+/// About how many prefixes of a long file are taken.
+const PREFIXES: usize = 600;
+
+/// Compares a file as a whole, its zones at and around every bound, and its prefixes.
+pub fn file(tally: &mut Tally, file: &[u8], prng: &mut Prng) -> Result<(), Difference> {
+    whole(tally, file)?;
+    let mut asked: Vec<Question> = vec![(b"No/Such_Zone".to_vec(), 0), (b"UTC".to_vec(), LAST + 1)];
+    // A file that is refused is good up to the field at fault.
+    let good = match second_reader::check(file) {
+        (0, _) => file,
+        (_, place) => &file[..place as usize],
+    };
+    if let Ok(contents) = read_file(good) {
+        let mut ids = Vec::new();
+        for (_, zone) in &contents.zones {
+            let id = &file[contents.pool[zone.id].clone()];
+            let mut all = instants(zone, prng);
+            all.extend((0..8).map(|_| prng.range(FIRST, LAST)));
+            // All instants are asked of the zone alone, which is quick, and a few of the whole file.
+            let short = alone(file, &contents, zone);
+            for ticks in &all {
+                ask(tally, &short, id, *ticks)?;
+            }
+            asked.extend((0..2).map(|_| (id.to_vec(), *prng.pick(&all))));
+            ids.push(id);
+        }
+        asked.extend(other_ids(&ids, prng).into_iter().map(|id| (id, 0)));
+    }
+    for (id, ticks) in &asked {
+        ask(tally, file, id, *ticks)?;
+    }
+    let step = 1 + file.len() / PREFIXES;
+    let few: Vec<Question> = (0..2).map(|_| prng.pick(&asked).clone()).collect();
+    prefixes(tally, file, &few, step, prng)?;
+    for length in (0..file.len()).step_by(step) {
+        check(tally, &file[..length])?;
+    }
+    Ok(())
+}
+
+/// A file that has one zone of another, and the pool strings of that zone.
+fn alone(file: &[u8], contents: &Contents, zone: &Zone) -> Vec<u8> {
+    let mut pool = Vec::new();
+    let mut number = |old: usize| {
+        let string = file[contents.pool[old].clone()].to_vec();
+        let known = pool.iter().position(|other| *other == string);
+        known.unwrap_or_else(|| {
+            pool.push(string);
+            pool.len() - 1
+        })
+    };
+    let mut zone = zone.clone();
+    zone.id = number(zone.id);
+    match &mut zone.rest {
+        Rest::Fixed { name, .. } => *name = number(*name),
+        Rest::Listed { intervals, tail, .. } => {
+            for interval in intervals {
+                interval.name = number(interval.name);
+            }
+            if let Some(tail) = tail {
+                tail.standard_name = number(tail.standard_name);
+                tail.daylight_name = number(tail.daylight_name);
+            }
+        }
+    }
+    let content = FileContent { pool, zones: vec![zone], version: None, others: Vec::new() };
+    plan(&content, &mut Forms::Preferred).bytes()
+}

@@ -1,0 +1,80 @@
+//! The version and the fields, stepped through in file order.
+
+use crate::codes::Cursor;
+use crate::number::{BAD_DATA, FIELD_ORDER, FIRST_FIELD, TOO_LARGE, WRONG_VERSION};
+use crate::Refusal;
+
+/// The largest place just past a field.
+const LAST_END: usize = 4_194_304;
+
+/// One whole field.
+#[derive(Clone, Copy)]
+pub struct Field<'a> {
+    /// The place of the ID byte.
+    pub place: usize,
+    pub data: &'a [u8],
+    /// The place just past the data.
+    pub end: usize,
+}
+
+impl Field<'_> {
+    pub fn refuse(&self, number: u8) -> Refusal {
+        Refusal { number, place: self.place }
+    }
+}
+
+pub struct Fields<'a> {
+    bytes: &'a [u8],
+    at: usize,
+    before: Option<u8>,
+    /// The number for bytes that end in the version or in a field.
+    cut: u8,
+}
+
+impl<'a> Fields<'a> {
+    pub fn new(bytes: &'a [u8], cut: u8) -> Result<Fields<'a>, Refusal> {
+        match bytes {
+            [0, 0, 0, 0, ..] => Ok(Fields { bytes, at: 4, before: None, cut }),
+            [_, _, _, _, ..] => Err(Refusal { number: WRONG_VERSION, place: 0 }),
+            _ => Err(Refusal { number: cut, place: 0 }),
+        }
+    }
+
+    /// The place of the next field.
+    pub fn place(&self) -> usize {
+        self.at
+    }
+
+    fn refuse(&self, number: u8) -> Refusal {
+        Refusal { number, place: self.at }
+    }
+
+    /// The next field's ID, judged; none at the bytes' end.
+    #[inline]
+    pub fn id(&self) -> Result<Option<u8>, Refusal> {
+        let Some(&id) = self.bytes.get(self.at) else {
+            return Ok(None);
+        };
+        match self.before {
+            None if id != 0 => Err(self.refuse(FIRST_FIELD)),
+            Some(before) if id < before || id == before && matches!(id, 0 | 2..=7) => Err(self.refuse(FIELD_ORDER)),
+            _ => Ok(Some(id)),
+        }
+    }
+
+    /// Steps over the next field, whose ID was judged.
+    #[inline]
+    pub fn field(&mut self, id: u8) -> Result<Field<'a>, Refusal> {
+        let mut cursor = Cursor::new(&self.bytes[self.at + 1..]);
+        let size = cursor.count().map_err(|number| self.refuse(if number == BAD_DATA { self.cut } else { number }))?;
+        let start = self.bytes.len() - cursor.left();
+        let end = start + size as usize;
+        if end > LAST_END {
+            return Err(self.refuse(TOO_LARGE));
+        }
+        let data = self.bytes.get(start..end).ok_or(self.refuse(self.cut))?;
+        let place = std::mem::replace(&mut self.at, end);
+        self.before = Some(id);
+        Ok(Field { place, data, end })
+    }
+}

@@ -1,0 +1,112 @@
+//! A quick reader of `.nzd` files in safe Rust: the peer that the proved reader's speed is measured against.
+//!
+//! It makes the same checks in the same order, over slices and in one pass. It allocates the index of the pool's
+//! strings, for a whole-file check the set of zone IDs, and for a rewrite the list of the zones that change.
+//!
+//! Instants are ticks; start of time is the lowest `i64` and end of time the highest.
+
+mod codes;
+mod fields;
+mod pool;
+mod rewrite;
+mod tail;
+mod whole;
+mod zone;
+
+pub use rewrite::rewrite;
+pub use whole::{check, version_text};
+
+use fields::Fields;
+use pool::Pool;
+use zone::{read_rest, Find};
+
+/// Number and place of a refusal.
+#[derive(Clone, Copy, Debug, PartialEq, Eq)]
+pub struct Refusal {
+    /// A number of the scope paper's table.
+    pub number: u8,
+    /// The place of the faulty field.
+    pub place: usize,
+}
+
+/// The numbers of the table, as far as they are given here.
+mod number {
+    pub const NOT_YET: u8 = 1;
+    pub const CUT_SHORT: u8 = 2;
+    pub const WRONG_VERSION: u8 = 3;
+    pub const TOO_LARGE: u8 = 4;
+    pub const FIELD_ORDER: u8 = 5;
+    pub const FIRST_FIELD: u8 = 6;
+    pub const BAD_CODE: u8 = 7;
+    pub const BAD_TEXT: u8 = 8;
+    pub const BAD_DATA: u8 = 9;
+    pub const BAD_INTERVAL: u8 = 10;
+    pub const BAD_RECURRENCE: u8 = 11;
+    pub const NOT_FOUND: u8 = 12;
+    pub const SECOND_ZONE: u8 = 13;
+    pub const INSTANT_RANGE: u8 = 14;
+    pub const OUTPUT_SHORT: u8 = 15;
+}
+
+/// The first instant of year 1.
+const FIRST: i64 = -621_355_968_000_000_000;
+/// The last instant of year 9999.
+const LAST: i64 = 2_534_023_007_999_999_999;
+/// The mark before every instant.
+const START_OF_TIME: i64 = i64::MIN;
+/// The mark after every instant.
+const END_OF_TIME: i64 = i64::MAX;
+
+/// The interval that holds the asked instant.
+#[derive(Clone, Copy, Debug, PartialEq, Eq)]
+pub struct Answer<'a> {
+    /// Wall offset in milliseconds.
+    pub wall_offset_ms: i32,
+    /// Savings in milliseconds.
+    pub savings_ms: i32,
+    /// The name, a part of the file.
+    pub name: &'a [u8],
+    /// First instant of the interval, or start of time.
+    pub start: i64,
+    /// First instant behind the interval, or end of time.
+    pub end: i64,
+}
+
+/// The interval of the zone `id` that holds `ticks`. `more` says that more bytes may come.
+pub fn ask<'a>(file: &'a [u8], id: &[u8], ticks: i64, more: bool) -> Result<Answer<'a>, Refusal> {
+    if !(FIRST..=LAST).contains(&ticks) {
+        return Err(Refusal { number: number::INSTANT_RANGE, place: 0 });
+    }
+    let cut = if more { number::NOT_YET } else { number::CUT_SHORT };
+    let mut fields = Fields::new(file, cut)?;
+    let mut pool = Pool::default();
+    while let Some(field_id) = fields.id()? {
+        if field_id > 1 {
+            return Err(Refusal { number: number::NOT_FOUND, place: fields.place() });
+        }
+        let field = fields.field(field_id)?;
+        if field_id == 0 {
+            pool = Pool::read(field.data).map_err(|number| field.refuse(number))?;
+            continue;
+        }
+        let mut find = Find::new(ticks);
+        let found = zone_of(field.data, &pool, id, &mut find).map_err(|number| field.refuse(number))?;
+        if found {
+            return Ok(find.answer(&pool));
+        }
+    }
+    let unseen = if more { number::NOT_YET } else { number::NOT_FOUND };
+    Err(Refusal { number: unseen, place: file.len() })
+}
+
+/// Checks a zone, and looks its interval up if it is the asked one.
+fn zone_of(data: &[u8], pool: &Pool, asked: &[u8], find: &mut Find) -> Result<bool, u8> {
+    let mut cursor = codes::Cursor::new(data);
+    let id = cursor.pool_number(pool.count())?;
+    let found = pool.string(id) == asked;
+    match found {
+        true => read_rest(cursor, pool.count(), find)?,
+        false => read_rest(cursor, pool.count(), &mut ())?,
+    }
+    Ok(found)
+}

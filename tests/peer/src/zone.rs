@@ -1,0 +1,133 @@
+//! Field 1, a zone: one pass that checks it and shows what it holds to a visitor.
+
+use crate::codes::Cursor;
+use crate::number::{BAD_DATA, BAD_INTERVAL, TOO_LARGE};
+use crate::pool::Pool;
+use crate::tail::Tail;
+use crate::{Answer, END_OF_TIME, START_OF_TIME};
+
+const MOST_INTERVALS: u32 = 4096;
+
+/// One interval; its end is the next one's start.
+#[derive(Clone, Copy)]
+pub struct Interval {
+    pub start: i64,
+    pub name: u32,
+    pub wall: i32,
+    pub savings: i32,
+}
+
+/// Is shown a zone's parts as they are read. A later part may still be refused.
+pub trait Visit {
+    /// A transition with the one before it, and how many bytes were left before and after its code.
+    #[inline]
+    fn transition(&mut self, _value: i64, _previous: i64, _before: usize, _after: usize) {}
+
+    /// A listed interval, or the only one of a fixed zone.
+    #[inline]
+    fn interval(&mut self, _interval: Interval) {}
+
+    /// The end of the last interval, and the tail that holds from there on.
+    #[inline]
+    fn end(&mut self, _end: i64, _tail: Option<&Tail>) {}
+}
+
+/// Checks only.
+impl Visit for () {}
+
+/// Reads what stands behind a zone's ID, to the end of its data.
+pub fn read_rest(mut cursor: Cursor, pool_count: u32, visit: &mut impl Visit) -> Result<(), u8> {
+    match cursor.byte()? {
+        1 => {
+            let wall = cursor.offset()?;
+            let name = cursor.pool_number(pool_count)?;
+            visit.interval(Interval { start: START_OF_TIME, name, wall, savings: 0 });
+            visit.end(END_OF_TIME, None);
+        }
+        2 => read_listed(&mut cursor, pool_count, visit)?,
+        _ => return Err(BAD_DATA),
+    }
+    cursor.end()
+}
+
+fn read_listed(cursor: &mut Cursor, pool_count: u32, visit: &mut impl Visit) -> Result<(), u8> {
+    let count = cursor.count()?;
+    if count == 0 {
+        return Err(BAD_INTERVAL);
+    }
+    if count > MOST_INTERVALS {
+        return Err(TOO_LARGE);
+    }
+    let mut previous = START_OF_TIME;
+    for number in 0..count {
+        let start = read_transition(cursor, previous, visit)?;
+        let allowed = if number == 0 { start == START_OF_TIME } else { start > previous && start != END_OF_TIME };
+        if !allowed {
+            return Err(BAD_INTERVAL);
+        }
+        let name = cursor.pool_number(pool_count)?;
+        let wall = cursor.offset()?;
+        let savings = cursor.offset()?;
+        visit.interval(Interval { start, name, wall, savings });
+        previous = start;
+    }
+    let end = read_transition(cursor, previous, visit)?;
+    match cursor.byte()? {
+        0 if end == END_OF_TIME => visit.end(end, None),
+        1 if end > previous && end != END_OF_TIME => {
+            let tail = Tail::read(cursor, pool_count)?;
+            visit.end(end, Some(&tail));
+        }
+        0 | 1 => return Err(BAD_INTERVAL),
+        _ => return Err(BAD_DATA),
+    }
+    Ok(())
+}
+
+#[inline]
+fn read_transition(cursor: &mut Cursor, previous: i64, visit: &mut impl Visit) -> Result<i64, u8> {
+    let before = cursor.left();
+    let value = cursor.transition(previous)?;
+    visit.transition(value, previous, before, cursor.left());
+    Ok(value)
+}
+
+/// Finds the interval that holds an instant.
+pub struct Find {
+    ticks: i64,
+    held: Interval,
+    end: i64,
+}
+
+impl Find {
+    pub fn new(ticks: i64) -> Find {
+        let held = Interval { start: START_OF_TIME, name: 0, wall: 0, savings: 0 };
+        Find { ticks, held, end: END_OF_TIME }
+    }
+
+    /// The answer, once the zone is read.
+    pub fn answer<'a>(&self, pool: &Pool<'a>) -> Answer<'a> {
+        let Interval { start, name, wall, savings } = self.held;
+        Answer { wall_offset_ms: wall, savings_ms: savings, name: pool.string(name), start, end: self.end }
+    }
+}
+
+impl Visit for Find {
+    #[inline]
+    fn interval(&mut self, interval: Interval) {
+        if interval.start <= self.ticks {
+            self.held = interval;
+        } else if self.end == END_OF_TIME {
+            self.end = interval.start;
+        }
+    }
+
+    #[inline]
+    fn end(&mut self, end: i64, tail: Option<&Tail>) {
+        match tail {
+            Some(tail) if end <= self.ticks => (self.held, self.end) = tail.at(end, self.ticks),
+            _ if self.end == END_OF_TIME => self.end = end,
+            _ => {}
+        }
+    }
+}

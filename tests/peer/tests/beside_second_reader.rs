@@ -1,0 +1,164 @@
+//! The peer beside the second reader: equal numbers, places, answers and rewritten files.
+
+use second_reader::generate::{damaged, instants, plan, random_content, Damage, FileContent, Forms, Prng, Size};
+use second_reader::transition::{Transition, FIRST, LAST};
+use second_reader::{Mark, Refusal};
+use std::collections::BTreeSet;
+
+type Pair = (u8, usize);
+
+fn pair(refusal: Refusal) -> Pair {
+    (refusal.number.value(), refusal.place as usize)
+}
+
+fn peer_pair(refusal: peer::Refusal) -> Pair {
+    (refusal.number, refusal.place)
+}
+
+fn ticks_of(bound: Transition) -> i64 {
+    match bound {
+        Transition::StartOfTime => i64::MIN,
+        Transition::Finite(ticks) => ticks,
+        Transition::EndOfTime => i64::MAX,
+    }
+}
+
+/// The numbers that came up, by the whole-file functions and by questions.
+#[derive(Default)]
+struct Seen {
+    whole: BTreeSet<u8>,
+    asked: BTreeSet<u8>,
+}
+
+fn same_question(file: &[u8], id: &[u8], ticks: i64, seen: &mut Seen) {
+    for mark in [Mark::MoreMayCome, Mark::ThisIsAll] {
+        let expected = second_reader::ask(file, id, ticks, mark)
+            .map(|answer| {
+                let (start, end) = (ticks_of(answer.start), ticks_of(answer.end));
+                (answer.wall, answer.savings, answer.name, start, end)
+            })
+            .map_err(pair);
+        let given = peer::ask(file, id, ticks, mark == Mark::MoreMayCome)
+            .map(|answer| {
+                // The name is a part of the file: where it stands is what is compared.
+                let place = answer.name.as_ptr() as usize - file.as_ptr() as usize;
+                let name = place..place + answer.name.len();
+                (answer.wall_offset_ms, answer.savings_ms, name, answer.start, answer.end)
+            })
+            .map_err(peer_pair);
+        seen.asked.insert(expected.as_ref().map_or_else(|refusal| refusal.0, |_| 0));
+        assert_eq!(given, expected, "{:02x?}, {id:?} at {ticks}, {mark:?}", &file[..file.len().min(2000)]);
+    }
+}
+
+fn same_whole(file: &[u8], seen: &mut Seen) {
+    let expected = match second_reader::check(file) {
+        (0, _) => Ok(()),
+        (number, place) => Err((number, place as usize)),
+    };
+    let shown = &file[..file.len().min(2000)];
+    assert_eq!(peer::check(file).map_err(peer_pair), expected, "check of {shown:02x?}");
+    seen.whole.insert(expected.map_or_else(|refusal| refusal.0, |_| 0));
+    let text = second_reader::version_text(file).map(|part| &file[part]).map_err(pair);
+    assert_eq!(peer::version_text(file).map_err(peer_pair), text, "version text of {shown:02x?}");
+    seen.whole.insert(text.map_or_else(|refusal| refusal.0, |_| 0));
+    let preferred = second_reader::rewrite::preferred(file).map(|file| file.len());
+    let length = preferred.unwrap_or(file.len());
+    for room in [length, length.saturating_sub(1), 0, file.len() + 3] {
+        let (mut wanted, mut out) = (vec![0xaa; room], vec![0xaa; room]);
+        let expected = second_reader::rewrite(file, &mut wanted).map_err(pair);
+        assert_eq!(peer::rewrite(file, &mut out).map_err(peer_pair), expected, "rewrite of {shown:02x?}");
+        assert!(out == wanted, "rewrite of {shown:02x?} with room for {room}");
+        seen.whole.insert(expected.map_or_else(|refusal| refusal.0, |_| 0));
+    }
+}
+
+fn questions(content: &FileContent, prng: &mut Prng, most: usize) -> Vec<(Vec<u8>, i64)> {
+    let mut asked =
+        vec![(b"No/Such_Zone".to_vec(), 0), (Vec::new(), LAST), (Vec::new(), LAST + 1), (vec![], FIRST - 1)];
+    for zone in &content.zones {
+        let mut all = instants(zone, prng);
+        while all.len() > most {
+            all.swap_remove(prng.below(all.len()));
+        }
+        asked.extend(all.into_iter().map(|ticks| (content.id(zone).to_vec(), ticks)));
+    }
+    asked
+}
+
+#[test]
+fn generated_files() {
+    let mut seen = Seen::default();
+    for seed in 0..3000 {
+        let mut prng = Prng::new(seed);
+        let size = if seed % 4 == 0 { Size::Any } else { Size::Small };
+        let content = random_content(&mut prng, size);
+        let whole = plan(&content, &mut Forms::Any(&mut prng));
+        let good = whole.bytes();
+        let kind = *prng.pick(&Damage::ALL);
+        let bad = damaged(&whole, kind, &mut prng);
+        for file in [&good, &bad] {
+            same_whole(file, &mut seen);
+            for (id, ticks) in questions(&content, &mut prng, 40) {
+                same_question(file, &id, ticks, &mut seen);
+            }
+        }
+    }
+    assert_eq!(seen.whole, BTreeSet::from([0, 2, 3, 4, 5, 6, 7, 8, 9, 10, 11, 12, 13, 15]));
+    assert_eq!(seen.asked, BTreeSet::from([0, 1, 2, 3, 4, 5, 6, 7, 8, 9, 10, 11, 12, 14]));
+}
+
+#[test]
+fn every_prefix() {
+    let mut seen = Seen::default();
+    for seed in 5000..5200 {
+        let mut prng = Prng::new(seed);
+        let content = random_content(&mut prng, Size::Small);
+        let whole = plan(&content, &mut Forms::Any(&mut prng));
+        let kind = *prng.pick(&Damage::ALL);
+        for file in [whole.bytes(), damaged(&whole, kind, &mut prng)] {
+            let asked = questions(&content, &mut prng, 2);
+            for length in 0..=file.len().min(2000) {
+                let part = &file[..length];
+                same_whole(part, &mut seen);
+                for (id, ticks) in &asked {
+                    same_question(part, id, *ticks, &mut seen);
+                }
+            }
+        }
+    }
+}
+
+#[test]
+fn realistic_files() {
+    let mut seen = Seen::default();
+    for name in ["all.nzd", "europe.nzd"] {
+        let file = std::fs::read(format!("{}/../data/{name}", env!("CARGO_MANIFEST_DIR"))).expect("a realistic file");
+        same_whole(&file, &mut seen);
+        let contents = second_reader::file::read_file(&file).expect("well formed");
+        let mut prng = Prng::new(1);
+        for (_, zone) in contents.zones.iter().step_by(9) {
+            let id = &file[contents.pool[zone.id].clone()];
+            for ticks in instants(zone, &mut prng).into_iter().step_by(7) {
+                same_question(&file, id, ticks, &mut seen);
+            }
+        }
+        same_question(&file, b"No/Such_Zone", 0, &mut seen);
+    }
+}
+
+#[test]
+fn limits() {
+    // A field that ends at 4,194,304 exactly, and what may stand behind it.
+    let mut full = vec![0, 0, 0, 0, 0, 1, 0, 8];
+    let size = 4_194_304 - full.len() - 4;
+    full.extend(second_reader::codes::encode_count(size as i64).expect("a count"));
+    full.resize(4_194_304, 0);
+    let mut seen = Seen::default();
+    for behind in [&[][..], &[0xc8], &[0xc8, 0], &[0xc8, 0x80, 0], &[0xc8, 0x80]] {
+        let file = [&full, behind].concat();
+        same_whole(&file, &mut seen);
+        same_question(&file, b"A", 0, &mut seen);
+    }
+    assert_eq!(seen.whole, BTreeSet::from([0, 2, 4, 7, 12, 15]));
+}

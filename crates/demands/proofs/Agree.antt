@@ -21,7 +21,7 @@ use Rattle.zones.specs.Content.{Zone}
 use Rattle.zones.specs.Parse.{parseZone}
 use Rattle.frames.specs.Frame.{Field}
 use Rattle.frames.specs.Fields.{fields, firstAbove}
-use Rattle.frames.proofs.All.{All, all-none, all-also}
+use Rattle.frames.specs.All.{All, all-none, all-also}
 use Rattle.questions.specs.Question.{numberOf, ask, askPlain}
 use Rattle.questions.specs.declared.Mark.the-variants.{More, All as Whole}
 use Rattle.questions.specs.declared.Answer.{Answer}

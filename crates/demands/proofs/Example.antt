@@ -23,10 +23,11 @@ use Rattle.signed.specs.Instant.{biasedOf}
 use Rattle.frames.specs.Frame.{order, zeros, version, sized, field, frame, Field}
 use Rattle.frames.specs.Machine.{ended as end, act, step, walk}
 use Rattle.frames.specs.Fields.{scan, listing, fields}
-use Rattle.frames.proofs.All.{All, all-none, all-also}
+use Rattle.frames.specs.All.{All, all-none, all-also}
 use Rattle.checks.specs.Check.{nowhere, placed, Memory, poolKept, newId, zoneKept, textKept, contentOf, WellFormed, filePool, HasId}
 use Rattle.demands.specs.Zones.{InRange, Asked, NoZone}
-use Rattle.demands.proofs.Exact.{There, zone-there, Missing, zone-missing}
+use Rattle.demands.specs.Parts.{There, Missing}
+use Rattle.demands.proofs.Exact.{zone-there, zone-missing}
 
 -- 00 00 00 00, 00 05 01 03 55 54 43, 01 04 00 01 30 00, and 02 01 00
 abbrev pub file : List ℕ

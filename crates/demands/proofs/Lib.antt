@@ -3,5 +3,8 @@ pub mod Names
 pub mod Beside
 pub mod Exact
 pub mod Agree
+pub mod RangeLaws
 pub mod Right
 pub mod Example
+pub mod Tailed
+pub mod Worked

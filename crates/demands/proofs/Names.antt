@@ -25,9 +25,10 @@ use Rattle.zones.proofs.SoundLaws.{zone-sound}
 use Rattle.zones.proofs.RangeLaws.{body-found}
 use Rattle.frames.specs.Frame.{Field}
 use Rattle.frames.specs.Machine.{Out, found, refused, cut, ended, Content, bad as fault, answer, keep, verdict, onward, walk}
-use Rattle.frames.specs.Fields.{Ending, refusedAt, cutAt, endAt, listing, pass, outcome}
-use Rattle.frames.proofs.All.{All, all-head, all-tail}
-use Rattle.frames.proofs.ChainLaws.{FieldOf, listing-chain, chain-fields}
+use Rattle.frames.specs.Fields.{Ending, refusedAt, cutAt, endAt, listing, pass, outcome, FieldOf}
+use Rattle.frames.specs.All.{All}
+use Rattle.frames.proofs.AllLaws.{all-head, all-tail}
+use Rattle.frames.proofs.ChainLaws.{listing-chain, chain-fields}
 use Rattle.frames.proofs.WalkLaws.{walk-pass}
 use Rattle.questions.specs.Question.{Pool, noPool, answered, poolSays, zoneSays, says, question, finish, ask, nameOf}
 use Rattle.questions.proofs.AskLaws.{instant-finite}

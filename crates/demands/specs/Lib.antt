@@ -1,1 +1,4 @@
 pub mod Zones
+pub mod Right
+pub mod Parts
+pub mod Cases

@@ -1,3 +1,4 @@
 pub mod Frame
 pub mod Machine
+pub mod All
 pub mod Fields

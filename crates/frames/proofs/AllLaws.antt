@@ -1,9 +1,6 @@
--- What holds of every element of a list. Assumes nothing.
+-- Parts of a list of which all elements have something. Assumes nothing.
 use mathlib.Core.List.{List, [], _∷_, _++_}
-
-pub data All {A : Type 0} (P : A → Type 0) : List A → Type 0 where
-  all-none : All P []
-  all-also : {x : A} {xs : List A} → P x → All P xs → All P (x ∷ xs)
+use Rattle.frames.specs.All.{All, all-none, all-also}
 
 module _ {A : Type 0} {P : A → Type 0} where
   pub all-head : {x : A} {xs : List A} → All P (x ∷ xs) → P x

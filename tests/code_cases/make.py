@@ -198,7 +198,7 @@ def read(kind, s, previous=None):
     except No as e:
         answer = "%d 0" % e.args
     words = [kind] if previous is None else [kind, str(previous)]
-    put("read %s %s" % (" ".join(words), s.hex().upper() or "-"), answer)
+    put("read %s %s" % (" ".join(words), s.hex() or "-"), answer)
 
 
 def write(kind, v, room, previous=None):
@@ -212,7 +212,7 @@ def write(kind, v, room, previous=None):
     except No as e:
         answer = "%d 0" % e.args
     words = [kind] if previous is None else [kind, str(previous)]
-    put("write %s %d %d" % (" ".join(words), v, room), "%s %s" % (answer, out.hex().upper() or "-"))
+    put("write %s %d %d" % (" ".join(words), v, room), "%s %s" % (answer, out.hex() or "-"))
 
 
 def rooms(kind, v, previous=None):

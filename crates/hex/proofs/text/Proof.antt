@@ -1,17 +1,17 @@
 use Prim.Native.Nat.{_≤_, _-_}
 use lib.ListN.{length}
 use borrow.Author.Needs.{needs}
-use Rattle.hex.proofs.word.Statement.{statement}
-use Rattle.hex.proofs.word.Tie as tie
+use Rattle.hex.proofs.text.Statement.{statement}
+use Rattle.hex.proofs.text.Tie as tie
 
 abbrev Inv-loop : tie.InvT-loop
-Inv-loop line k out at₀ i₀ at i = at ≤ length line
+Inv-loop line k at₀ i₀ at i = at ≤ length line
 
 abbrev μ-loop : tie.MeasureT-loop
-μ-loop line k out at₀ i₀ at i = k - i
+μ-loop line k at₀ i₀ at i = k - i
 
-pub word-spec : {M : Type 1} → statement M
-word-spec =
+pub text-spec : {M : Type 1} → statement M
+text-spec =
     tie.close
     (tie.spec
     Inv-loop
@@ -25,7 +25,5 @@ word-spec =
     (λ c κs. search needs)
     (λ c. search needs)
     (λ c. search needs)
-    (λ c. search needs)
-    (λ c κs. search needs)
     (λ c. search needs)
     (λ c. search needs))

@@ -1,21 +1,24 @@
-use Prim.Native.Nat.{_-_, _<_}
+use Prim.Native.Nat.{_-_}
 use lib.ListN.{length}
 use borrow.Author.Needs.{needs}
-use Rattle.zone_cases.proofs.decimal.Statement.{statement}
-use Rattle.zone_cases.proofs.decimal.Tie as tie
+use Rattle.code_cases.proofs.run_all.Statement.{statement}
+use Rattle.code_cases.proofs.run_all.Tie as tie
 
 abbrev Inv-loop : tie.InvT-loop
-Inv-loop s from v₀ i₀ v i = v < 9000000000000000000
+Inv-loop s at₀ at = Unit
 
 abbrev μ-loop : tie.MeasureT-loop
-μ-loop s from v₀ i₀ v i = length s - i
+μ-loop s at₀ at = length s - at
 
-pub decimal-spec : {M : Type 1} → statement M
-decimal-spec =
+pub run-all-spec : {M : Type 1} → statement M
+run-all-spec =
     tie.close
     (tie.spec
     Inv-loop
     μ-loop
+    (λ c. search needs)
+    (λ c κs. search needs)
+    (λ c. search needs)
     (λ c. search needs)
     (λ c. search needs)
     (λ c κs. search needs)

@@ -1,8 +1,8 @@
 use borrow.Author.Needs.{needs}
 use Prim.Native.Nat.{_≤_, _-_}
 use lib.ListN.{length}
-use Rattle.code_cases.proofs.natural.Statement.{statement}
-use Rattle.code_cases.proofs.natural.Tie as tie
+use Rattle.cases.proofs.natural.Statement.{statement}
+use Rattle.cases.proofs.natural.Tie as tie
 
 abbrev Inv-loop : tie.InvT-loop
 Inv-loop s v₀ i₀ v i = i ≤ length s

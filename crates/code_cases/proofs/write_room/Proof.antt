@@ -2,14 +2,14 @@ use native.Mathlib.Omega.{arith}
 use mathlib.Core.Path.{sym}
 use lib.Seq.{length-take-le}
 use borrow.Author.Needs.{needs}
-use Rattle.code_cases.proofs.write_bytes.Statement.{statement}
-use Rattle.code_cases.proofs.write_bytes.Tie as tie
+use Rattle.code_cases.proofs.write_room.Statement.{statement}
+use Rattle.code_cases.proofs.write_room.Tie as tie
 
 slice-aggregate-write-shown : tie.Need-slice-aggregate-write-shown
 slice-aggregate-write-shown c = sym (length-take-le (c .before .before .before .args .room) _ (omega arith))
 
-pub write-bytes-spec : {M : Type 1} → statement M
-write-bytes-spec =
+pub write-room-spec : {M : Type 1} → statement M
+write-room-spec =
     tie.close
     (tie.spec
     (λ c. search needs)

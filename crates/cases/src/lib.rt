@@ -16,10 +16,8 @@ pub fn say_number(n: u64) {
 pub fn say_integer(z: i64) {
     if z < 0 {
         say(b"-");
-        say_number(((-1 - z) as u64) + 1);
-        return;
     }
-    say_number(z as u64);
+    say_number(signed::magnitude(z));
 }
 
 // The integer a - b.

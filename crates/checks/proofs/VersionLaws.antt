@@ -22,7 +22,7 @@ use Rattle.ids.specs.Ids.{among as amongIds}
 use Rattle.frames.specs.Frame.{Field}
 use Rattle.frames.specs.Machine.{Out, found, refused, cut, ended, Content, bad, answer, keep, verdict, onward, walk}
 use Rattle.frames.specs.Fields.{fields, pass, FieldOf}
-use Rattle.frames.proofs.AllLaws.{all-head, all-right}
+use Rattle.base.proofs.AllLaws.{all-head, all-right}
 use Rattle.frames.proofs.ChainLaws.{listing-chain, chain-fields}
 use Rattle.frames.proofs.PartLaws.{walk-ended}
 use Rattle.checks.specs.Check.{TextPlace, nowhere, placed, Memory, start, withPool, withId, withText, poolIn, poolKept, newId, zoneIn}

@@ -15,16 +15,16 @@ use Rattle.texts.specs.Text.{readText}
 use Rattle.texts.specs.declared.Text.{Text}
 use Rattle.texts.specs.declared.Text.the-variants.{Part, Refused as Untext}
 use Rattle.pool.specs.Pool.{Pool, parsePool, stringsIn, stringsOf}
-use Rattle.pool.specs.Equal.{equal}
-use Rattle.pool.proofs.EqualLaws.{equal-refl}
+use Rattle.base.specs.Equal.{equal}
+use Rattle.base.proofs.EqualLaws.{equal-refl}
 use Rattle.zones.specs.Content.{Zone}
 use Rattle.zones.specs.Parse.{parseZone}
 use Rattle.ids.specs.Ids.{among}
 use Rattle.frames.specs.Frame.{Field}
 use Rattle.frames.specs.Machine.{Content, bad, answer, keep, verdict, onward}
 use Rattle.frames.specs.Fields.{fields, pass}
-use Rattle.frames.specs.All.{All}
-use Rattle.frames.proofs.AllLaws.{all-head, all-tail, all-left, all-right}
+use Rattle.base.specs.All.{All}
+use Rattle.base.proofs.AllLaws.{all-head, all-tail, all-left, all-right}
 use Rattle.frames.proofs.ChainLaws.{Chain, listing-chain, chain-first}
 use Rattle.frames.proofs.PassLaws.{pass-first, pass-head}
 use Rattle.frames.proofs.PartLaws.{walk-ended}

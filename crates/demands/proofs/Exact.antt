@@ -2,37 +2,33 @@
 use mathlib.Core.Path.{_≡_, refl, sym, ap, _∙_, subst}
 use mathlib.Core.Bool.{Bool, true, false}
 use mathlib.Core.List.{List, [], _∷_, _++_}
-use mathlib.Core.Logic.{_⊎_, inl, inr}
+use mathlib.Core.Logic.{inr}
 use mathlib.Core.Option.{Option, none, some}
 use Prim.Native.Nat.{ℕ, _≤_, _<_}
 use native.Mathlib.Omega.{arith}
 use lib.IntN.{ℤ}
 use lib.ListN.{length, take}
-use lib.Dec.{ltb, eqb}
+use lib.Dec.{ltb}
 use borrow.Author.Tests.{ne-eqb, ltb-false}
 use Rattle.base.specs.Pick.{pick}
 use Rattle.base.specs.Run.{next}
 use Rattle.signed.specs.Instant.{instantOf}
 use Rattle.counts.specs.Groups.{readGroups}
-use Rattle.pool.specs.Pool.{stringsOf}
 use Rattle.frames.specs.Frame.{Field}
-use Rattle.frames.specs.Machine.{Out, found, refused, cut, ended, final, keep, walk}
+use Rattle.frames.specs.Machine.{walk}
 use Rattle.frames.specs.Fields.{endAt, fields, pass, outcome, upTo, firstAbove}
-use Rattle.frames.specs.All.{All, all-none, all-also}
-use Rattle.frames.proofs.AllLaws.{all-head, all-tail, all-map, all-left}
-use Rattle.frames.proofs.ChainLaws.{Chain, listing-chain, chain-first, chain-split, Earlier}
-use Rattle.frames.proofs.GrowthLaws.{Exactly, exactly}
+use Rattle.base.specs.All.{All, all-none, all-also}
+use Rattle.base.proofs.AllLaws.{all-head, all-tail, all-map, all-left}
+use Rattle.frames.proofs.ChainLaws.{listing-chain, chain-first, chain-split}
+use Rattle.frames.proofs.GrowthLaws.{exactly}
 use Rattle.frames.proofs.PassLaws.{pass-first, lockstep}
 use Rattle.frames.proofs.CapLaws.{stopAt}
-use Rattle.frames.proofs.PartLaws.{Absent, absent-beside, answer-beside, walk-ended, walk-fields}
+use Rattle.frames.proofs.PartLaws.{absent-beside, answer-beside, walk-ended, walk-fields}
 use Rattle.zones.specs.Lookup.{inBody}
 use Rattle.questions.specs.Question.{numberOf, Pool, noPool, answered, question, finish, ask}
 use Rattle.questions.specs.declared.Mark.{Mark}
 use Rattle.questions.specs.declared.Mark.the-variants.{More, All as Whole}
-use Rattle.questions.specs.declared.Found.{Found}
-use Rattle.questions.specs.declared.Answer.{Answer}
-use Rattle.questions.specs.declared.Answer.the-variants.{In, Refused}
-use Rattle.checks.specs.Check.{Memory, start, job, WellFormed, filePool, HasId}
+use Rattle.checks.specs.Check.{start, job, WellFormed, filePool, HasId}
 use Rattle.demands.specs.Zones.{InRange, Asked, NoZone}
 use Rattle.demands.specs.Parts.{There, Missing}
 use Rattle.demands.proofs.Standing.{waits}

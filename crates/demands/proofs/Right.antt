@@ -1,40 +1,37 @@
 -- DEMAND 2, for readers: on a well-formed file each instant from year 1 to year 9999 falls in exactly one interval of each zone, and the
 -- offset, savings, name and bounds given are those of that interval. Assumes nothing.
 use mathlib.Core.Path.{_≡_, refl, sym, ap, _∙_, subst, subst⁻¹}
-use mathlib.Core.Bool.{Bool, true, false}
+use mathlib.Core.Bool.{false}
 use mathlib.Core.List.{List, [], _∷_, _++_, append-assoc}
-use Prim.Native.Nat.{ℕ, zero, suc, _+_, _-_, _≤_, _<_}
+use Prim.Native.Nat.{ℕ, _+_, _-_, _≤_, _<_}
 use native.Mathlib.Omega.{arith}
 use lib.IntN.{ℤ}
-use lib.ListN.{length, take, drop, getD, length-take, length-drop}
-use lib.Seq.{take-take, take-nil, drop-drop}
+use lib.ListN.{length, take, drop, getD}
 use borrow.Author.Tests.{le-leb}
 use Rattle.base.specs.Run.{next}
 use Rattle.base.specs.Parsed.{got}
 use Rattle.base.specs.Moment.{Finite}
+use Rattle.base.proofs.Parts.{part-of-part}
 use Rattle.signed.specs.Instant.{instantOf}
 use Rattle.pool.specs.Pool.{stringsOf}
 use Rattle.pool.specs.Index.{spanOf}
 use Rattle.pool.proofs.StringLaws.{span-inside, span-string}
 use Rattle.zones.specs.Content.{Zone}
 use Rattle.zones.specs.Lookup.{inBody}
-use Rattle.zones.specs.Intervals.{Holds, InBody}
 use Rattle.zones.specs.declared.Found.{Found as Interval}
 use Rattle.zones.proofs.SoundLaws.{zone-sound}
 use Rattle.zones.proofs.RangeLaws.{body-found}
 use Rattle.zones.proofs.PartitionLaws.{lookup-holds, lookup-only}
 use Rattle.frames.specs.Frame.{Field}
-use Rattle.frames.specs.Machine.{answer, keep, found, walk}
+use Rattle.frames.specs.Machine.{keep}
 use Rattle.frames.specs.Fields.{fields, pass, FieldOf}
-use Rattle.frames.specs.All.{All, all-none, all-also}
-use Rattle.frames.proofs.AllLaws.{all-head, all-tail, all-map, all-left}
+use Rattle.base.specs.All.{All, all-none, all-also}
+use Rattle.base.proofs.AllLaws.{all-head, all-tail, all-map, all-left}
 use Rattle.frames.proofs.ChainLaws.{listing-chain, chain-fields, chain-split}
 use Rattle.frames.proofs.PassLaws.{pass-first, pass-head, lockstep}
 use Rattle.frames.proofs.PartLaws.{walk-ended, walk-answer}
-use Rattle.questions.specs.Question.{Pool, noPool, answered, says, question, finish, ask, nameOf}
+use Rattle.questions.specs.Question.{Pool, noPool, answered, says, question, finish, nameOf}
 use Rattle.questions.specs.declared.Mark.the-variants.{All as Whole}
-use Rattle.questions.specs.declared.Found.{Found}
-use Rattle.questions.specs.declared.Answer.the-variants.{In}
 use Rattle.questions.proofs.AskLaws.{instant-finite}
 use Rattle.checks.specs.Check.{Memory, start, job, contentOf, WellFormed, filePool, HasId}
 use Rattle.checks.proofs.ZoneIdLaws.{one-zone, each-zone}
@@ -70,21 +67,6 @@ known : (f : List ℕ) (ts : List (List ℕ)) (id : List ℕ) (gs : List Field) 
 known f ts id [] a b = all-none
 known f ts id (g ∷ gs) a b = all-also (record { passes = all-head a; is-field = all-head b }) (known f ts id gs (all-tail a) (all-tail b))
 
--- a part of a part
-drop-take : (i m : ℕ) (l : List ℕ) → i ≤ m → drop i (take m l) ≡ take (m - i) (drop i l)
-drop-take zero m l h = let e : m ≡ m - 0 = omega arith in ap (λ (j : ℕ). take j l) e
-drop-take (suc i) zero l h = absurd (omega arith)
-drop-take (suc i) (suc m) [] h = sym (take-nil (suc m - suc i))
-drop-take (suc i) (suc m) (b ∷ l) h =
-    let e : m - i ≡ suc m - suc i = omega arith in
-    drop-take i m l (omega arith) ∙ ap (λ (j : ℕ). take j (drop i l)) e
-
-inner : (f : List ℕ) (start len at n : ℕ) → at + n ≤ len → take n (drop at (take len (drop start f))) ≡ take n (drop (start + at) f)
-inner f start len at n h =
-    ap (take n) (drop-take at len (drop start f) (omega arith))
-    ∙ take-take n (len - at) (drop at (drop start f)) (omega arith)
-    ∙ rw drop-drop
-
 -- the name of an answer is the string of the file's pool
 name-is : (f : List ℕ) (y : Pool) (i : Interval) → Located f y → i .name < length (stringsOf (y .body))
     → nameOf f (answered y i) ≡ getD (stringsOf (y .body)) (i .name) []
@@ -93,7 +75,7 @@ name-is f y i l h =
     let k = i .name in
     let s = span-inside d k h in
     rw (le-leb (y .start + spanOf d k .at + spanOf d k .len) (length f) (omega (arith, s, l .within)))
-    (sym (inner f (y .start) (length d) (spanOf d k .at) (spanOf d k .len) s)
+    (sym (part-of-part f (y .start) (length d) (spanOf d k .at) (spanOf d k .len) s)
     ∙ ap (λ (b : List ℕ). take (spanOf d k .len) (drop (spanOf d k .at) b)) (sym (l .part))
     ∙ span-string d k h)
 

@@ -1,7 +1,7 @@
 -- A file that meets demand 2's premises with a list and a tail behind another zone: shown well formed, its zones right at every instant in
 -- range, and answers computed at the changes. Assumes nothing.
 use mathlib.Core.Path.{_≡_, refl}
-use mathlib.Core.List.{List, [], _∷_, _++_, map}
+use mathlib.Core.List.{List, [], _∷_, map}
 use Prim.Native.Nat.{ℕ, _*_, _-_}
 use lib.IntN.{ℤ, pos, negsuc}
 use lib.ListN.{drop}
@@ -20,7 +20,7 @@ use Rattle.recurrence.specs.Search.{searchFrom, yearBefore, lastAt, nextAfter}
 use Rattle.recurrence.specs.Tails.{standardIn, daylightIn, lookup}
 use Rattle.pool.specs.Pool.{allStrings, counted}
 use Rattle.pool.specs.Index.{readStarts, startsIn}
-use Rattle.pool.specs.Equal.{equal}
+use Rattle.base.specs.Equal.{equal}
 use Rattle.places.specs.Name.{judgeName, parseName}
 use Rattle.intervals.specs.Interval.{afterWall, afterName, parseDetails, afterStart, parseInterval}
 use Rattle.tails.specs.Tail.{afterTime, parseTime, afterDay, parseDay, afterMonth, parseMonth, afterByte, parseRule}
@@ -31,14 +31,12 @@ use Rattle.zones.specs.Lookup.{holding, inList, inTail, behindList, inBody}
 use Rattle.ids.specs.Ids.{among}
 use Rattle.frames.specs.Frame.{order, zeros, version, sized, field, frame, Field}
 use Rattle.frames.specs.Machine.{act, step, walk}
-use Rattle.frames.specs.Fields.{scan, listing, fields}
+use Rattle.frames.specs.Fields.{scan, listing}
 use Rattle.checks.specs.Check.{poolKept, newId, zoneKept, contentOf, concluded, conclusion, WellFormed}
 use Rattle.checks.proofs.WellFormedLaws.{good-well-formed}
 use Rattle.questions.specs.Question.{says, ask, askPlain, nameOf}
-use Rattle.questions.specs.declared.Found.{Found}
 use Rattle.questions.specs.declared.Answer.{Answer}
 use Rattle.questions.specs.declared.Answer.the-variants.{In, Refused}
-use Rattle.demands.specs.Zones.{ZoneIn}
 use Rattle.demands.specs.Right.{Answered}
 use Rattle.demands.proofs.Right.{demand-2}
 

@@ -17,7 +17,7 @@ use Rattle.recurrence.specs.Fields.{byteOk, monthOk, dayOk, timeOk}
 use Rattle.tails.specs.Tail.{afterTime, parseTime, afterDay, parseDay, afterMonth, parseMonth, afterByte, parseRule}
 use Rattle.pool.specs.Pool.{allStrings, counted}
 use Rattle.pool.specs.Index.{readStarts, startsIn}
-use Rattle.pool.specs.Equal.{equal}
+use Rattle.base.specs.Equal.{equal}
 use Rattle.places.specs.Name.{judgeName, parseName}
 use Rattle.zones.specs.Lookup.{inBody}
 use Rattle.zones.specs.Parse.{zoneOf, afterFixedOffset, parseFixed, afterFlag, afterId, parseZone}

@@ -1,12 +1,12 @@
 -- The words of demands 2 and 3, on a file's fields and not by way of a question. Assumes nothing: these are definitions.
 use Prim.Native.Nat.{ℕ}
 use mathlib.Core.Path.{_≡_}
-use mathlib.Core.List.{List, [], _∷_, _++_}
+use mathlib.Core.List.{List, _∷_, _++_}
 use lib.IntN.{ℤ}
 use Rattle.signed.specs.Instant.{instantOf}
 use Rattle.frames.specs.Frame.{Field}
 use Rattle.frames.specs.Fields.{fields}
-use Rattle.frames.specs.All.{All}
+use Rattle.base.specs.All.{All}
 use Rattle.checks.specs.Check.{filePool, HasId}
 
 -- an instant from year 1 to year 9999 (in-range and range-in in proofs/RangeLaws.antt: these are its first and its last tick)

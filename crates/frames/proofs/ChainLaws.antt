@@ -11,8 +11,8 @@ use Rattle.frames.specs.Machine.{fieldAt}
 use Rattle.frames.specs.Fields.{listed, scan, listing, FieldOf}
 use Rattle.frames.specs.declared.Frame.{Frame}
 use Rattle.frames.specs.declared.Frame.the-variants.{End, Cut, Refused, Version, Whole}
-use Rattle.frames.specs.All.{All, all-none, all-also}
-use Rattle.frames.proofs.AllLaws.{all-map, all-head, all-right}
+use Rattle.base.specs.All.{All, all-none, all-also}
+use Rattle.base.proofs.AllLaws.{all-map, all-head, all-right}
 use Rattle.frames.proofs.HeadLaws.{Headed, whole-headed, version-place, Follows, order-follows, order-first}
 
 headed-field : (f : List ℕ) (last at : ℕ) (seen : Bool) (prev i h n : ℕ) → Headed last at seen prev (drop at f) i h n

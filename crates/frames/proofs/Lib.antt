@@ -1,7 +1,6 @@
 pub mod FrameLaws
 pub mod HeadLaws
 pub mod ReadLaws
-pub mod AllLaws
 pub mod FieldLaws
 pub mod WalkLaws
 pub mod PassLaws

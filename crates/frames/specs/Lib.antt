@@ -1,4 +1,3 @@
 pub mod Frame
 pub mod Machine
-pub mod All
 pub mod Fields

@@ -1,6 +1,6 @@
 -- Parts of a list of which all elements have something. Assumes nothing.
 use mathlib.Core.List.{List, [], _∷_, _++_}
-use Rattle.frames.specs.All.{All, all-none, all-also}
+use Rattle.base.specs.All.{All, all-none, all-also}
 
 module _ {A : Type 0} {P : A → Type 0} where
   pub all-head : {x : A} {xs : List A} → All P (x ∷ xs) → P x

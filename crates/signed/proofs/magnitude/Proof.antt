@@ -1,9 +1,9 @@
 use mir.Facts.{toZ-ofZ}
-use Rattle.lines.proofs.ReplyLaws.{Negative, negative, less-of, not-negative}
+use Rattle.signed.proofs.SignLaws.{Negative, negative, less-of, not-negative}
 use native.Mathlib.Omega.{arith}
 use borrow.Author.Needs.{needs}
-use Rattle.lines.proofs.magnitude.Statement.{statement}
-use Rattle.lines.proofs.magnitude.Tie as tie
+use Rattle.signed.proofs.magnitude.Statement.{statement}
+use Rattle.signed.proofs.magnitude.Tie as tie
 
 below : (c : tie.Then1) → Negative (c .before .args .z)
 below c = negative _ (c .before .fits .z) (rw (toZ-ofZ (c .before .fits .z)) at (c .if1 .taken))

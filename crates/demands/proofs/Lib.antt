@@ -3,6 +3,7 @@ pub mod Names
 pub mod Beside
 pub mod Exact
 pub mod Agree
+pub mod Growth
 pub mod RangeLaws
 pub mod Right
 pub mod Example

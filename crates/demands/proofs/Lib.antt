@@ -9,3 +9,5 @@ pub mod Right
 pub mod Example
 pub mod Tailed
 pub mod Worked
+pub mod ContentNumbers
+pub mod Numbers

@@ -2,3 +2,4 @@ pub mod Zones
 pub mod Right
 pub mod Parts
 pub mod Cases
+pub mod Numbers

@@ -7,47 +7,17 @@ Where a case below has numbers with places beside it, 01-scope.md gives them, an
 The first word of the command line, if there is one, is the second reader's program; else it is built.
 """
 import os
-import subprocess
 import sys
-import tempfile
 
-TOP = os.path.abspath(os.path.join(os.path.dirname(os.path.abspath(__file__)), "..", ".."))
-CRATE = os.path.join(TOP, "crates", "check_cases")
+sys.path.insert(0, os.path.join(os.path.dirname(os.path.abspath(__file__)), ".."))
+from stored import Second, count, write_cases, text  # noqa: E402
 
-
-def built():
-    target = os.path.join(TOP, "target", "second_reader")
-    subprocess.run(["cargo", "build", "--offline", "--locked", "--release", "--quiet"], cwd=os.path.join(TOP, "tests", "second_reader"),
-                   env=dict(os.environ, CARGO_TARGET_DIR=target), check=True)
-    return os.path.join(target, "release", "second_reader")
-
-
-READER = sys.argv[1] if len(sys.argv) > 1 else built()
-FOLDER = tempfile.TemporaryDirectory()
-FILE = os.path.join(FOLDER.name, "zones.nzd")
-
-
-def second(*words):
-    """What the second reader writes, without the line feed."""
-    done = subprocess.run([READER, *words], capture_output=True)
-    assert done.returncode in (0, 1), (words, done.stderr)
-    assert done.stdout.endswith(b"\n")
-    return done.stdout[:-1]
+SECOND = Second()
+FILE = SECOND.file
+second = SECOND.says
 
 
 # ---- codes, fields and zones
-
-def count(n):
-    out = []
-    while n > 127:
-        out.append(128 + n % 128)
-        n //= 128
-    return bytes(out + [n])
-
-
-def text(s):
-    return count(len(s)) + s
-
 
 def field(id_, data):
     return bytes([id_]) + count(len(data)) + data
@@ -436,10 +406,4 @@ for end in (MOST - 7, MOST - 6, MOST, MOST + 1):
     if end == MOST:
         long_case(head, text(WORD), times, last + b"\x01", id_, checked="2 4194304", asked="2 4194304")
 
-lines = "".join(line + "\n" for line in cases)
-assert len(lines) <= 65536, "the program's input"
-with open(os.path.join(CRATE, "stdin"), "w") as f:
-    f.write(lines)
-with open(os.path.join(CRATE, "stdout"), "w") as f:
-    f.write("".join(" | ".join(said) + "\n" for said in cases.values()))
-print("%d cases" % len(cases))
+write_cases("check_cases", [(line, " | ".join(said)) for line, said in cases.items()])

@@ -1,5 +1,5 @@
 #!/usr/bin/env python3
-"""make.py FOLDER: writes FOLDER/stdin and FOLDER/stdout, the small codes' cases and what they must give.
+"""Writes the input and the expected output of the program code_cases, from the papers: run it in any folder.
 
 The codes are worked out here from the words of the papers, apart from the code that the cases are run on.
 
@@ -7,7 +7,11 @@ A case is a line: `read KIND BYTES` or `write KIND NUMBER ROOM`, and for a trans
 number. BYTES are hex, `-` for none. ROOM is how many bytes of output are lent; they are A5 before the call.
 Answers: `0 VALUE LENGTH` of a read, `0 LENGTH OUTPUT` of a write, and `NUMBER 0` of a refusal, of a write with the output behind it.
 """
+import os
 import sys
+
+sys.path.insert(0, os.path.join(os.path.dirname(os.path.abspath(__file__)), ".."))
+from stored import count as to_groups, write_cases  # noqa: E402
 
 MIN, MAX = -(1 << 63), (1 << 63) - 1  # start of time, end of time
 FIRST, LAST = -621355968000000000, 2534023007999999999
@@ -103,14 +107,6 @@ def read_transition(previous, s):
 # Writing: the bytes, or No.
 
 
-def to_groups(v):
-    out = []
-    while v >= 0x80:
-        out.append(v & 0x7F | 0x80)
-        v >>= 7
-    return bytes(out + [v])
-
-
 def write_count(v):
     if not 0 <= v <= 2147483647:
         raise No(7)
@@ -198,7 +194,7 @@ def read(kind, s, previous=None):
     except No as e:
         answer = "%d 0" % e.args
     words = [kind] if previous is None else [kind, str(previous)]
-    put("read %s %s" % (" ".join(words), s.hex().upper() or "-"), answer)
+    put("read %s %s" % (" ".join(words), s.hex() or "-"), answer)
 
 
 def write(kind, v, room, previous=None):
@@ -212,7 +208,7 @@ def write(kind, v, room, previous=None):
     except No as e:
         answer = "%d 0" % e.args
     words = [kind] if previous is None else [kind, str(previous)]
-    put("write %s %d %d" % (" ".join(words), v, room), "%s %s" % (answer, out.hex().upper() or "-"))
+    put("write %s %d %d" % (" ".join(words), v, room), "%s %s" % (answer, out.hex() or "-"))
 
 
 def rooms(kind, v, previous=None):
@@ -226,7 +222,7 @@ def rooms(kind, v, previous=None):
         write(kind, v, room, previous)
 
 
-def main(folder):
+def main():
     # the worked values
     for kind, rows in WORKED.items():
         for s, v in rows:
@@ -296,9 +292,7 @@ def main(folder):
     for t in FIRST, LAST, FIRST - 1, LAST + 1, MIN + 1, MAX - 1:
         write("transition", t, 9, MIN)
         write("transition", t, 0, MIN)
-    for name, lines in ("stdin", cases), ("stdout", answers):
-        with open(folder + "/" + name, "w") as f:
-            f.write("\n".join(lines) + "\n")
+    write_cases("code_cases", list(zip(cases, answers)))
 
 
-main(sys.argv[1])
+main()

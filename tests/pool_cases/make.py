@@ -5,21 +5,10 @@
 refusal stands in the table below with its number written by hand; reading the pool anew, with Python's own UTF-8 codec, must give the same.
 """
 import os
+import sys
 
-ROOT = os.path.join(os.path.dirname(os.path.abspath(__file__)), "..", "..", "crates", "pool_cases")
-
-
-def count(n):
-    out = []
-    while n > 127:
-        out.append(128 + n % 128)
-        n //= 128
-    return bytes(out + [n])
-
-
-def text(s):
-    b = s if isinstance(s, bytes) else s.encode("utf-8")
-    return count(len(b)) + b
+sys.path.insert(0, os.path.join(os.path.dirname(os.path.abspath(__file__)), ".."))
+from stored import count, write_cases, text  # noqa: E402
 
 
 class Refused(Exception):
@@ -161,10 +150,4 @@ case(9, count(1) + text("UTC") + b"\x00")
 case(9, count(3) + text("a") + text("b") + text("c") + b"\xff")
 case(9, count(1) + text("UTC"), b"\x00", 300)
 
-lines = "".join(line + "\n" for line, _ in cases)
-assert len(lines) < 65536, "the program's input"
-with open(os.path.join(ROOT, "stdin"), "w") as f:
-    f.write(lines)
-with open(os.path.join(ROOT, "stdout"), "w") as f:
-    f.write("".join(answer + "\n" for _, answer in cases))
-print("%d cases" % len(cases))
+write_cases("pool_cases", cases)

@@ -1,13 +1,15 @@
 #!/usr/bin/env python3
-"""Input and expected output of the program crates/tail_cases.
-
-Run here: `python3 make.py stdin > ../../crates/tail_cases/stdin` and `python3 make.py stdout > ../../crates/tail_cases/stdout`.
+"""Writes the input and the expected output of the program tail_cases, from the papers: run it in any folder.
 
 The expected output is found by counting: the days of each year and month are counted up from 1970-01-01, a weekday is found by walking
 day by day, and the occurrences are those of every year in a window around the instant. Instants are signed ticks since 1970 and offsets
 signed milliseconds here; only the printed numbers are counted as the program counts them.
 """
+import os
 import sys
+
+sys.path.insert(0, os.path.join(os.path.dirname(os.path.abspath(__file__)), ".."))
+from stored import write_cases  # noqa: E402
 
 DAY = 864000000000  # ticks
 HOUR = 3600000  # milliseconds
@@ -232,8 +234,4 @@ def cases():
         yield tail, max(tail.start, at(year, pick(1, 12), pick(1, 28), pick(0, 24 * HOUR - 1)))
 
 
-if __name__ == "__main__":
-    rows = list(dict.fromkeys((question(t, i), reply(t, i)) for t, i in cases()))
-    text = "".join(row[sys.argv[1:] == ["stdout"]] + "\n" for row in rows)
-    assert len(text) <= 65536, len(text)  # the program's buffer
-    sys.stdout.write(text)
+write_cases("tail_cases", list(dict.fromkeys((question(t, i), reply(t, i)) for t, i in cases())))

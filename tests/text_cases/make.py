@@ -4,17 +4,10 @@
 01-scope.md, "Small codes" and "Order", gives the lengths and the order of the numbers; Python's own UTF-8 codec, which is RFC 3629's, judges the bytes.
 """
 import os
+import sys
 
-ROOT = os.path.join(os.path.dirname(os.path.abspath(__file__)), "..", "..", "crates", "text_cases")
-
-
-def count(n):
-    """The shortest form of a count: seven bits a byte, low first, the top bit set on all but the last."""
-    out = []
-    while n > 127:
-        out.append(128 + n % 128)
-        n //= 128
-    return bytes(out + [n])
+sys.path.insert(0, os.path.join(os.path.dirname(os.path.abspath(__file__)), ".."))
+from stored import count, write_cases  # noqa: E402
 
 
 def good(b):
@@ -140,10 +133,4 @@ for t in (b"\xff", b"ab\xc3", b"\xed\xa0\x80", long_text[:1023] + b"\xc3"):
 writing(b"a" * 1025, b"")
 writing(b"\xff" * 1025, b"\xaa" * 4)
 
-lines = "".join(line + "\n" for line, _ in cases)
-assert len(lines) < 65536, "the program's input"
-with open(os.path.join(ROOT, "stdin"), "w") as f:
-    f.write(lines)
-with open(os.path.join(ROOT, "stdout"), "w") as f:
-    f.write("".join(answer + "\n" for _, answer in cases))
-print("%d cases" % len(cases))
+write_cases("text_cases", cases)

@@ -6,44 +6,23 @@ and answers for the instants. Each refusal stands below with the number that 01-
 The first word of the command line, if there is one, is the second reader's program; else it is built.
 """
 import os
-import subprocess
 import sys
-import tempfile
 
-TOP = os.path.abspath(os.path.join(os.path.dirname(os.path.abspath(__file__)), "..", ".."))
-CRATE = os.path.join(TOP, "crates", "zone_cases")
+sys.path.insert(0, os.path.join(os.path.dirname(os.path.abspath(__file__)), ".."))
+from stored import Second, count, write_cases  # noqa: E402
 
-
-def built():
-    target = os.path.join(TOP, "target", "second_reader")
-    subprocess.run(["cargo", "build", "--offline", "--locked", "--release", "--quiet"], cwd=os.path.join(TOP, "tests", "second_reader"),
-                   env=dict(os.environ, CARGO_TARGET_DIR=target), check=True)
-    return os.path.join(target, "release", "second_reader")
-
-
-READER = sys.argv[1] if len(sys.argv) > 1 else built()
-FOLDER = tempfile.TemporaryDirectory()
-FILE = os.path.join(FOLDER.name, "zones.nzd")
+SECOND = Second()
+FILE = SECOND.file
 
 
 def second(*words):
     """What the second reader writes, as words."""
-    done = subprocess.run([READER, *words], capture_output=True, text=True)
-    assert done.returncode in (0, 1), (words, done.stderr)
-    return done.stdout.split()
+    return SECOND.says(*words).decode().split()
 
 
 # ---- the small codes
 
 START, END = b"\x00", b"\x01"
-
-
-def count(n):
-    out = []
-    while n > 127:
-        out.append(128 + n % 128)
-        n //= 128
-    return bytes(out + [n])
 
 
 def signed(n):
@@ -377,10 +356,4 @@ for number, times, end in ((9, 4093, b""), (9, 4093, unit[:4]), (8, 4093, hours(
     d, words = most(times, end)
     refused(number, 3, d, words)
 
-lines = "".join(line + "\n" for line in cases)
-assert len(lines) <= 65536, "the program's input: %d bytes" % len(lines)
-with open(os.path.join(CRATE, "stdin"), "w") as f:
-    f.write(lines)
-with open(os.path.join(CRATE, "stdout"), "w") as f:
-    f.write("".join(said + "\n" for said in cases.values()))
-print("%d cases" % len(cases))
+write_cases("zone_cases", list(cases.items()))

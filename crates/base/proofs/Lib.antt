@@ -6,3 +6,5 @@ pub mod ParseLaws
 pub mod ManyLaws
 pub mod MomentLaws
 pub mod RunLaws
+pub mod EqualLaws
+pub mod AllLaws

@@ -3,3 +3,5 @@ pub mod Writing
 pub mod Parsed
 pub mod Moment
 pub mod Run
+pub mod Equal
+pub mod All

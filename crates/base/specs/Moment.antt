@@ -4,7 +4,7 @@
 -- puts it in its order, so an interval holds t exactly when its start is at most t and t is below its end.
 use Prim.Native.Nat.{ℕ, _≤_}
 use mathlib.Core.Bool.{Bool}
-use lib.Dec.{ltb, leb}
+use lib.Dec.{leb}
 use Rattle.base.specs.Pick.{both}
 
 -- 1970-01-01T00:00Z

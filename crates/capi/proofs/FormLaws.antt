@@ -1,8 +1,7 @@
 -- No code is longer than 1,029 bytes, so that its length fits a result. Assumes nothing.
-use mathlib.Core.Path.{_≡_}
-use mathlib.Core.Bool.{Bool, true, false}
-use mathlib.Core.List.{List, _∷_, _++_}
-use Prim.Native.Nat.{ℕ, _+_, _/_, _%_, _≤_}
+use mathlib.Core.Bool.{Bool}
+use mathlib.Core.List.{List}
+use Prim.Native.Nat.{ℕ, _/_, _%_, _≤_}
 use native.Mathlib.Omega.{arith}
 use lib.IntN.{ℤ, pos, negsuc}
 use lib.ListN.{length, length-append}
@@ -15,12 +14,11 @@ use Rattle.base.proofs.Tests.{pick-holds}
 use Rattle.signed.specs.Instant.{rawOf}
 use Rattle.signed.specs.Zigzag.{zigzagOf}
 use Rattle.signed.specs.OffsetSum.{sumOf}
-use Rattle.counts.specs.Count.{writeCount, countForm}
+use Rattle.counts.specs.Count.{writeCount}
 use Rattle.counts.specs.SignedCount.{signedCountForm}
-use Rattle.counts.specs.Fixed.{fixedBytes}
 use Rattle.counts.proofs.CountLaws.{count-size}
 use Rattle.counts.proofs.FixedLaws.{length-fixed}
-use Rattle.offsets.specs.Offset.{inDay, writeSum, sumForm, offsetForm}
+use Rattle.offsets.specs.Offset.{inDay, writeSum, offsetForm}
 use Rattle.transitions.specs.Transition.{countTo, isMoment, writeMoment, momentForm}
 use Rattle.texts.specs.Utf8.{utf8}
 use Rattle.texts.specs.Text.{writeText, textForm}

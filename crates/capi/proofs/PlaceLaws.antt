@@ -1,13 +1,12 @@
 -- The place of a refusal is at most 4,194,304, so that number and place fit one result. Assumes nothing.
-use mathlib.Core.Path.{_≡_, refl, sym, ap, _∙_, subst}
-use mathlib.Core.Bool.{Bool, true, false}
+use mathlib.Core.Path.{_≡_, refl, sym, _∙_, subst}
+use mathlib.Core.Bool.{true, false}
 use mathlib.Core.List.{List}
 use Prim.Native.Nat.{ℕ, _+_, _≤_}
 use native.Mathlib.Omega.{arith}
 use lib.IntN.{ℤ}
 use lib.ListN.{drop}
 use lib.Dec.{eqb}
-use Rattle.base.specs.Pick.{pick}
 use Rattle.base.specs.Run.{Step, stop, next}
 use Rattle.base.proofs.Tests.{pick-holds}
 use Rattle.frames.specs.Frame.{frame}
@@ -20,7 +19,6 @@ use Rattle.signed.specs.Instant.{instantOf}
 use Rattle.checks.specs.Check.{TextPlace, nowhere, placed, Memory, start, job, concluded, concludes, conclusion, verdictOf, checkOf, textGiven, versionOf}
 use Rattle.checks.specs.declared.Conclusion.{Conclusion}
 use Rattle.checks.specs.declared.Conclusion.the-variants.{Refused as Ill, Bare, WithText}
-use Rattle.checks.specs.declared.VersionText.{VersionText}
 use Rattle.checks.specs.declared.Verdict.{Verdict}
 use Rattle.checks.specs.declared.Verdict.the-variants.{Good, Refused as IllFormed}
 use Rattle.capi.specs.Small.{SmallReply}
@@ -29,7 +27,6 @@ use Rattle.questions.specs.Question.{Pool, noPool, question, finish, ask}
 use Rattle.questions.specs.declared.Mark.{Mark}
 use Rattle.questions.specs.declared.Found.{Found}
 use Rattle.questions.specs.declared.Answer.{Answer}
-use Rattle.questions.specs.declared.Answer.the-variants.{In, Refused}
 
 abbrev NearTo : {M A : Type 0} → Out M A → Type 0
 NearTo (found v p) = Unit {0}

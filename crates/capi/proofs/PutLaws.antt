@@ -1,5 +1,5 @@
 -- The result of a writer, and the count of a signed number. Assumes nothing.
-use mathlib.Core.Path.{_≡_, refl, sym, ap, _∙_, subst⁻¹}
+use mathlib.Core.Path.{_≡_, refl, ap, _∙_, subst⁻¹}
 use mathlib.Core.Bool.{true, false}
 use mathlib.Core.List.{List}
 use Prim.Native.Nat.{ℕ, _<_, _^_}
@@ -9,7 +9,7 @@ use lib.Signed.{ltZ}
 use borrow.Author.Tests.{ltb-true}
 use mir.Syntax.{w64}
 use mir.Val.{SFits}
-use Rattle.base.specs.Writing.{Form, unfit, wrote, placed}
+use Rattle.base.specs.Writing.{Form, wrote, placed}
 use Rattle.base.specs.declared.Wrote.{Wrote}
 use Rattle.base.proofs.Tests.{never}
 use Rattle.base.proofs.WriteLaws.{Writes}

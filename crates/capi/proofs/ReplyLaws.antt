@@ -1,7 +1,6 @@
 -- What a reply leaves in the output, and that it has room. Assumes nothing.
-use mathlib.Core.Path.{_≡_, refl, sym, ap, _∙_, subst}
-use mathlib.Core.Bool.{Bool, true, false}
-use mathlib.Core.List.{List, [], _∷_, _++_}
+use mathlib.Core.Path.{_≡_, ap, _∙_, subst}
+use mathlib.Core.List.{List, _++_}
 use Prim.Native.Nat.{ℕ, _+_, _≤_, _<_}
 use native.Mathlib.Omega.{arith}
 use native.Mathlib.Nat.{zero-add}
@@ -10,7 +9,6 @@ use lib.IntN.{ℤ, pos}
 use lib.ListN.{length, drop}
 use lib.Seq.{sets, sets-eq}
 use borrow.Author.Tests.{lt-ltb, le-ltb, ne-eqb}
-use Rattle.base.specs.Pick.{pick}
 use Rattle.base.specs.Moment.{startOfTime, endOfTime}
 use Rattle.base.proofs.Tests.{pick-holds}
 use Rattle.base.specs.declared.Read.{Read}
@@ -22,9 +20,9 @@ use Rattle.texts.specs.declared.Text.{Text}
 use Rattle.texts.specs.declared.Text.the-variants.{Part, Refused as Untext}
 use Rattle.capi.specs.Small.{SmallReply}
 use Rattle.capi.specs.Functions.{readReply, numberReply, textReply, momentNumbers, momentReply}
-use Rattle.capi.specs.Reply.{refusal, valuesOf, resultOf, put, Gives}
+use Rattle.capi.specs.Reply.{refusal, valuesOf, resultOf, Gives}
 use Rattle.capi.specs.declared.Reply.{Reply}
-use Rattle.capi.specs.declared.Reply.the-variants.{Two, Three, Six, Refused}
+use Rattle.capi.specs.declared.Reply.the-variants.{Three, Refused}
 
 module _ (k : ℕ) (x : Reply) (d : List ℤ) where
   pub too-short : length d < k → Gives k x d 15 d

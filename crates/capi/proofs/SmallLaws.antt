@@ -1,18 +1,15 @@
 -- The numbers that the functions below give fit where they go. Assumes nothing.
-use mathlib.Core.Path.{_≡_, refl, sym, ap, _∙_, subst}
-use mathlib.Core.Bool.{Bool, true, false}
-use mathlib.Core.Logic.{_⊎_, inl, inr}
+use mathlib.Core.Path.{_≡_, refl, sym}
+use mathlib.Core.Logic.{inl, inr}
 use mathlib.Core.List.{List}
-use Prim.Native.Nat.{ℕ, _+_, _≤_, _<_, _^_}
+use Prim.Native.Nat.{ℕ, _<_, _^_}
 use native.Mathlib.Omega.{arith}
 use lib.IntN.{ℤ}
 use lib.ListN.{length}
 use lib.Dec.{eqb}
 use borrow.Author.Tests.{eqb-false}
-use Rattle.base.specs.Pick.{pick}
 use Rattle.base.proofs.Tests.{pick-holds}
 use Rattle.base.proofs.MomentLaws.{Moment}
-use Rattle.base.specs.Moment.{startOfTime, endOfTime}
 use Rattle.base.specs.declared.Read.{Read}
 use Rattle.base.specs.declared.Read.the-variants.{Value, Refused as Unread}
 use Rattle.signed.specs.Instant.{instantOf}
@@ -38,8 +35,6 @@ use Rattle.checks.proofs.VersionLaws.{text-of-field}
 use Rattle.questions.specs.Question.{Pool, noPool, question, finish, ask}
 use Rattle.questions.specs.declared.Mark.{Mark}
 use Rattle.questions.specs.declared.Found.{Found}
-use Rattle.questions.specs.declared.Answer.{Answer}
-use Rattle.questions.specs.declared.Answer.the-variants.{In, Refused as Denied}
 use Rattle.questions.proofs.AskLaws.{instant-finite}
 use Rattle.demands.proofs.Names.{name-inside}
 use Rattle.capi.specs.Small.{SmallAnswer, SmallVersion, SmallRead, SmallNumber, SmallText}

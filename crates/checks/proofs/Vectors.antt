@@ -11,7 +11,7 @@ use Rattle.texts.specs.Text.{sized as textSized}
 use Rattle.offsets.specs.Offset.{readSum}
 use Rattle.places.specs.Name.{judgeName, parseName}
 use Rattle.pool.specs.Pool.{allStrings, counted}
-use Rattle.pool.specs.Equal.{equal}
+use Rattle.base.specs.Equal.{equal}
 use Rattle.ids.specs.Ids.{among}
 use Rattle.zones.specs.Parse.{zoneOf, afterFixedOffset, parseFixed, afterFlag, afterId, parseZone}
 use Rattle.frames.specs.Frame.{order, zeros, version, sized, field, frame}

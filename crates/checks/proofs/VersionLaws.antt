@@ -21,9 +21,9 @@ use Rattle.zones.specs.Parse.{parseZone}
 use Rattle.ids.specs.Ids.{among as amongIds}
 use Rattle.frames.specs.Frame.{Field}
 use Rattle.frames.specs.Machine.{Out, found, refused, cut, ended, Content, bad, answer, keep, verdict, onward, walk}
-use Rattle.frames.specs.Fields.{fields, pass}
-use Rattle.frames.proofs.All.{all-head, all-right}
-use Rattle.frames.proofs.ChainLaws.{FieldOf, listing-chain, chain-fields}
+use Rattle.frames.specs.Fields.{fields, pass, FieldOf}
+use Rattle.base.proofs.AllLaws.{all-head, all-right}
+use Rattle.frames.proofs.ChainLaws.{listing-chain, chain-fields}
 use Rattle.frames.proofs.PartLaws.{walk-ended}
 use Rattle.checks.specs.Check.{TextPlace, nowhere, placed, Memory, start, withPool, withId, withText, poolIn, poolKept, newId, zoneIn}
 use Rattle.checks.specs.Check.{zoneKept, textIn, textKept, contentOf, job, concluded, concludes, conclusion, textGiven, versionOf}

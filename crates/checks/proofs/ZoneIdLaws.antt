@@ -15,15 +15,16 @@ use Rattle.texts.specs.Text.{readText}
 use Rattle.texts.specs.declared.Text.{Text}
 use Rattle.texts.specs.declared.Text.the-variants.{Part, Refused as Untext}
 use Rattle.pool.specs.Pool.{Pool, parsePool, stringsIn, stringsOf}
-use Rattle.pool.specs.Equal.{equal}
-use Rattle.pool.proofs.EqualLaws.{equal-refl}
+use Rattle.base.specs.Equal.{equal}
+use Rattle.base.proofs.EqualLaws.{equal-refl}
 use Rattle.zones.specs.Content.{Zone}
 use Rattle.zones.specs.Parse.{parseZone}
 use Rattle.ids.specs.Ids.{among}
 use Rattle.frames.specs.Frame.{Field}
 use Rattle.frames.specs.Machine.{Content, bad, answer, keep, verdict, onward}
 use Rattle.frames.specs.Fields.{fields, pass}
-use Rattle.frames.proofs.All.{All, all-head, all-tail, all-left, all-right}
+use Rattle.base.specs.All.{All}
+use Rattle.base.proofs.AllLaws.{all-head, all-tail, all-left, all-right}
 use Rattle.frames.proofs.ChainLaws.{Chain, listing-chain, chain-first}
 use Rattle.frames.proofs.PassLaws.{pass-first, pass-head}
 use Rattle.frames.proofs.PartLaws.{walk-ended}
@@ -172,3 +173,33 @@ one-zone f w gs g hs h is x s p q =
         let m = pass-head (job .content) start (w .memory) k (ks ++ g ∷ (hs ++ h ∷ is)) e′ in
         let t : filePool (fields f) ≡ m .0 .pool = ap filePool s ∙ sym (first-pool k (m .0) (z .0) (m .1)) in
         twice (m .0) (w .memory) ks g hs h is x (z .1) (rw (m .1) at e′) (rw t at p) (rw t at q)
+
+-- EVERY FIELD 1 OF A WELL-FORMED FILE IS A ZONE with an ID of the file's pool, wherever it stands
+kept-zone : (m m′ : Memory) (g : Field) → g .id ≡ 1 → job .content m g ≡ keep m′ → (x : List ℕ) × HasId (m .pool) x g
+unfolding contentOf zoneKept
+kept-zone m m′ g i e =
+    go (parseZone (length (m .pool)) (g .body)) refl (rw (ne-eqb (g .id) 0 (λ z. omega arith), eq-eqb (g .id) 1 i) at e)
+  where
+    go : (p : Parsed Zone) → parseZone (length (m .pool)) (g .body) ≡ p → zoneIn m p ≡ keep m′ → (x : List ℕ) × HasId (m .pool) x g
+    go (faulty n) k h = let w : _≡_ {A = ℕ} 0 1 = cc in absurd (omega arith)
+    go (got z r) k h = (getD (m .pool) (z .id) [], record { zone = z; rest = r; is-zone = i; parsed = k; bytes = refl })
+
+pub each-zone : (f : List ℕ) → WellFormed f → (gs : List Field) (g : Field) (hs : List Field) → fields f ≡ gs ++ g ∷ hs → g .id ≡ 1
+    → (x : List ℕ) × HasId (filePool (fields f)) x g
+unfolding filePool pass
+each-zone f w gs g hs s i = go gs s (walk-ended job start (w .memory) f (length f) (w .ends) .kept) (listing-chain f 255)
+  where
+    go : (gs : List Field) → fields f ≡ gs ++ g ∷ hs → pass (job .content) start (fields f) ≡ next (w .memory) → Chain f false 0 4 (fields f)
+        → (x : List ℕ) × HasId (filePool (fields f)) x g
+    go [] s e c =
+        let z = chain-first f 4 g hs (rw s at c) in
+        absurd (omega (arith, z .0))
+    go (k ∷ ks) s e c =
+        let z = chain-first f 4 k (ks ++ g ∷ hs) (rw s at c) in
+        let e′ : pass (job .content) start (k ∷ (ks ++ g ∷ hs)) ≡ next (w .memory) = rw s at e in
+        let m = pass-head (job .content) start (w .memory) k (ks ++ g ∷ hs) e′ in
+        let r = pass-first (job .content) (m .0) (w .memory) ks (g ∷ hs) (rw (m .1) at e′) in
+        let n = pass-head (job .content) (r .0) (w .memory) g hs (r .2) in
+        let o = pass-grows ks (m .0) (r .0) (all-left ks (g ∷ hs) (z .1)) (r .1) in
+        let t : filePool (fields f) ≡ r .0 .pool = ap filePool s ∙ sym (o .pool ∙ first-pool k (m .0) (z .0) (m .1)) in
+        rw t (kept-zone (r .0) (n .0) g i (n .1))

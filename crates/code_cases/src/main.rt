@@ -2,248 +2,81 @@
 use base::Read;
 use base::Wrote;
 use libc::STDIN_FILENO;
-use libc::STDOUT_FILENO;
 use signed::Number;
-ghost use mathlib.Core.Path.{_≡_};
-ghost use Prim.Native.Nat.{_+_, _≤_, _<_, min};
-ghost use lib.ListN.{length};
+ghost use Prim.Native.Nat.{_<_};
 
-// The place of the next `stop`, or the end.
-fn until(s: &[u8], from: usize, stop: u8) -> usize
-    requires { ⌜ from ≤ length (now s) ⌝ }
-    ensures { λ r. ⌜ (from ≤ r) × (r ≤ length (now (s .entry))) ⌝ }
-{
-    let mut at = from;
-    while at < s.len() {
-        if s[at] == stop {
-            return at;
-        }
-        at += 1;
-    }
-    at
+fn show_length(n: usize) {
+    cases::say(b" ");
+    cases::say_number(n as u64);
 }
 
-// The place behind a `stop`.
-fn past(s: &[u8], at: usize) -> usize
-    ensures { λ r. ⌜ r ≡ min (at + 1) (length (now (s .entry))) ⌝ }
-{
-    if at < s.len() {
-        return at + 1;
-    }
-    s.len()
-}
-
-// A decimal number.
-fn natural(s: &[u8]) -> u64 {
-    let mut v: u64 = 0;
-    let mut i = 0;
-    while i < s.len() {
-        v = with_digit(v, s[i]);
-        i += 1;
-    }
-    v
-}
-
-fn with_digit(v: u64, c: u8) -> u64 {
-    if c < b'0' {
-        return v;
-    }
-    if c > b'9' {
-        return v;
-    }
-    if v > 1844674407370955160 {
-        return v;
-    }
-    v * 10 + ((c - b'0') as u64)
-}
-
-// A decimal number, with a minus if it is negative.
-fn number(s: &[u8]) -> i64 {
-    if s.len() == 0 {
-        return 0;
-    }
-    if s[0] == b'-' {
-        return signed_number(natural(&s[1..]), true);
-    }
-    signed_number(natural(s), false)
-}
-
-fn signed_number(v: u64, is_negative: bool) -> i64 {
-    if v == 0 {
-        return 0;
-    }
-    if v > 9223372036854775808 {
-        return 0;
-    }
-    if is_negative {
-        return signed::unzigzag((v - 1) * 2 + 1);
-    }
-    if v > 9223372036854775807 {
-        return 0;
-    }
-    signed::unzigzag(v * 2)
-}
-
-fn nibble(c: u8) -> u8
-    ensures { λ r. ⌜ r < 16 ⌝ }
-{
-    if c < b'0' {
-        return 0;
-    }
-    if c <= b'9' {
-        return c - b'0';
-    }
-    if c < b'A' {
-        return 0;
-    }
-    if c <= b'F' {
-        return c - 55;
-    }
-    0
-}
-
-// Puts the bytes of hex digits to the front of `out`, and answers how many there are.
-fn bytes_of(s: &[u8], out: &mut [u8]) -> usize
-    ensures { λ r. ⌜ r ≤ length (now (out .exit)) ⌝ }
-{
-    let mut n = 0;
-    let mut i = 0;
-    while i + 1 < s.len() {
-        if n == out.len() {
-            return n;
-        }
-        out[n] = nibble(s[i]) * 16 + nibble(s[i + 1]);
-        n += 1;
-        i += 2;
-    }
-    n
-}
-
-fn print(text: &[u8]) {
-    io::write_all(STDOUT_FILENO, text);
-}
-
-fn print_natural(v: u64) {
-    io::print_decimal(STDOUT_FILENO, v);
-}
-
-fn print_signed(z: i64) {
-    if z < 0 {
-        print(b"-");
-        print_natural(((-1 - z) as u64) + 1);
-        return;
-    }
-    print_natural(z as u64);
-}
-
-fn glyph(n: u8) -> u8
-    requires { ⌜ n < 16 ⌝ }
-{
-    if n < 10 {
-        return b'0' + n;
-    }
-    n + 55
-}
-
-fn print_bytes(s: &[u8]) {
-    if s.len() == 0 {
-        print(b"-");
-    }
-    let mut i = 0;
-    while i < s.len() {
-        print_byte(s[i]);
-        i += 1;
-    }
-}
-
-fn print_byte(b: u8) {
-    let text = [glyph(b / 16), glyph(b % 16)];
-    print(&text);
-}
-
-fn print_refusal(number: u8) {
-    print_natural(number as u64);
-    print(b" 0");
-}
-
-fn print_read(r: Read) {
+fn show_read(r: Read) {
     match r {
         Read::Value(v, n) => {
-            print(b"0 ");
-            print_natural(v);
-            print(b" ");
-            print_natural(n as u64);
+            cases::say(b"0 ");
+            cases::say_number(v);
+            show_length(n);
         }
-        Read::Refused(k) => print_refusal(k),
+        Read::Refused(k) => cases::say_refusal(k, 0),
     }
 }
 
-fn print_number(r: Number) {
+fn show_signed(r: Number) {
     match r {
         Number::Value(z, n) => {
-            print(b"0 ");
-            print_signed(z);
-            print(b" ");
-            print_natural(n as u64);
+            cases::say(b"0 ");
+            cases::say_integer(z);
+            show_length(n);
         }
-        Number::Refused(k) => print_refusal(k),
+        Number::Refused(k) => cases::say_refusal(k, 0),
     }
 }
 
-fn print_wrote(r: Wrote) {
+fn show_wrote(r: Wrote) {
     match r {
-        Wrote::Length(n) => {
-            print(b"0 ");
-            print_natural(n as u64);
-        }
-        Wrote::Refused(k) => print_refusal(k),
+        Wrote::Length(n) => cases::say_refusal(0, n),
+        Wrote::Refused(k) => cases::say_refusal(k, 0),
     }
 }
 
 fn read_code(kind: u8, previous: i64, s: &[u8]) {
     if kind == b'c' {
-        print_read(counts::read_count(s));
+        show_read(counts::read_count(s));
         return;
     }
     if kind == b's' {
-        print_number(counts::read_signed_count(s));
+        show_signed(counts::read_signed_count(s));
         return;
     }
     if kind == b'o' {
-        print_number(offsets::read_offset(s));
+        show_signed(offsets::read_offset(s));
         return;
     }
-    print_number(transitions::read_transition(previous, s));
-}
-
-fn read_bytes(kind: u8, previous: i64, s: &[u8]) {
-    let mut space = io::buffer();
-    let n = bytes_of(s, &mut space);
-    read_code(kind, previous, &space[..n]);
+    show_signed(transitions::read_transition(previous, s));
 }
 
 fn write_code(kind: u8, previous: i64, s: &[u8], out: &mut [u8]) -> Wrote {
     if kind == b'c' {
-        return counts::write_count(natural(s), out);
+        return counts::write_count(cases::natural(s), out);
     }
     if kind == b's' {
-        return counts::write_signed_count(number(s), out);
+        return counts::write_signed_count(cases::integer(s), out);
     }
     if kind == b'o' {
-        return offsets::write_offset(number(s), out);
+        return offsets::write_offset(cases::integer(s), out);
     }
-    transitions::write_transition(previous, number(s), out)
+    transitions::write_transition(previous, cases::integer(s), out)
 }
 
-// Writes the number `s`, and shows the output.
+// Writes the number that s spells, and shows the output.
 fn write_shown(kind: u8, previous: i64, s: &[u8], out: &mut [u8]) {
-    print_wrote(write_code(kind, previous, s, out));
-    print(b" ");
-    print_bytes(out);
+    show_wrote(write_code(kind, previous, s, out));
+    cases::say(b" ");
+    cases::say_bytes(out);
 }
 
-// Writes the number `s` into `room` bytes of output.
-fn write_bytes(kind: u8, previous: i64, s: &[u8], room: u64) {
+// Writes the number that s spells into so many bytes of output.
+fn write_room(kind: u8, previous: i64, s: &[u8], room: u64) {
     if room > 16 {
         return;
     }
@@ -252,48 +85,53 @@ fn write_bytes(kind: u8, previous: i64, s: &[u8], room: u64) {
     write_shown(kind, previous, s, &mut out[..n]);
 }
 
-// The words behind the kind and the previous transition.
-fn operands(kind: u8, is_read: bool, previous: i64, s: &[u8]) {
+// What the line asks, in its words from the k-th on.
+fn run_words(line: &[u8], is_read: bool, kind: u8, previous: i64, k: usize)
+    requires { ⌜ k < 256 ⌝ }
+{
     if is_read {
-        read_bytes(kind, previous, s);
+        let mut code = [0u8; 64];
+        let n = hex::word(line, k, &mut code);
+        read_code(kind, previous, &code[..n]);
         return;
     }
-    let end = until(s, 0, b' ');
-    let at = past(s, end);
-    write_bytes(kind, previous, &s[..end], natural(&s[at..]));
+    write_room(
+        kind,
+        previous,
+        hex::text(line, k),
+        cases::natural(hex::text(line, k + 1)),
+    );
 }
 
-fn case(s: &[u8]) {
-    let first = until(s, 0, b' ');
-    let at = past(s, first);
-    if at == s.len() {
-        return;
+fn first(s: &[u8]) -> u8 {
+    if s.len() == 0 {
+        return 0;
     }
-    let is_read = s[0] == b'r';
-    let kind = s[at];
-    let second = until(s, at, b' ');
-    let rest = past(s, second);
+    s[0]
+}
+
+fn run_line(line: &[u8]) {
+    let is_read = first(line) == b'r';
+    let kind = first(hex::text(line, 1));
     if kind == b't' {
-        let third = until(s, rest, b' ');
-        let last = past(s, third);
-        operands(kind, is_read, number(&s[rest..third]), &s[last..]);
-        return;
+        run_words(line, is_read, kind, cases::integer(hex::text(line, 2)), 3);
+    } else {
+        run_words(line, is_read, kind, 0, 2);
     }
-    operands(kind, is_read, 0, &s[rest..]);
+    cases::say(b"\n");
 }
 
-fn run(s: &[u8]) {
-    let mut at = 0;
+fn run_all(s: &[u8]) {
+    let mut at: usize = 0;
     while at < s.len() {
-        let end = until(s, at, b'\n');
-        case(&s[at..end]);
-        print(b"\n");
-        at = past(s, end);
+        let e = hex::find(s, at, 10);
+        run_line(&s[at..e]);
+        at = e + 1;
     }
 }
 
 fn main() {
-    let mut space = io::large_buffer();
-    let n = io::read_full(STDIN_FILENO, &mut space);
-    run(&space[..n]);
+    let mut input = io::large_buffer();
+    let n = io::read_full(STDIN_FILENO, &mut input);
+    run_all(&input[..n]);
 }

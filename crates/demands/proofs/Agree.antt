@@ -3,29 +3,23 @@ use mathlib.Core.Path.{_≡_, refl, sym, ap, _∙_, subst, subst⁻¹}
 use mathlib.Core.Bool.{Bool, true, false}
 use mathlib.Core.List.{List, [], _∷_, _++_}
 use mathlib.Core.Logic.{_⊎_, inl, inr}
-use mathlib.Core.Option.{Option, none, some}
-use Prim.Native.Nat.{ℕ, _≤_, _<_}
+use Prim.Native.Nat.{ℕ}
 use native.Mathlib.Omega.{arith}
-use native.Mathlib.Nat.{le-refl}
 use lib.IntN.{ℤ}
 use lib.Dec.{eqb}
-use lib.ListN.{length, getD, take}
-use lib.Seq.{take-all}
-use borrow.Author.Tests.{eq-eqb, eqb-true, eqb-false}
-use Rattle.base.specs.Pick.{pick}
+use lib.ListN.{length, getD}
+use borrow.Author.Tests.{eqb-true, eqb-false}
 use Rattle.base.specs.Parsed.{Parsed, got, bad}
 use Rattle.signed.specs.Instant.{instantOf}
-use Rattle.pool.specs.Equal.{equal}
-use Rattle.pool.proofs.EqualLaws.{equal-true, equal-refl}
+use Rattle.base.specs.Equal.{equal}
+use Rattle.base.proofs.EqualLaws.{equal-true, equal-refl}
 use Rattle.zones.specs.Content.{Zone}
 use Rattle.zones.specs.Parse.{parseZone}
 use Rattle.frames.specs.Frame.{Field}
-use Rattle.frames.specs.Fields.{fields, firstAbove}
-use Rattle.frames.proofs.All.{All, all-none, all-also}
+use Rattle.frames.specs.Fields.{fields}
+use Rattle.base.specs.All.{All, all-none, all-also}
 use Rattle.questions.specs.Question.{numberOf, ask, askPlain}
-use Rattle.questions.specs.declared.Mark.the-variants.{More, All as Whole}
-use Rattle.questions.specs.declared.Answer.{Answer}
-use Rattle.questions.specs.declared.Answer.the-variants.{In, Refused}
+use Rattle.questions.specs.declared.Mark.the-variants.{All as Whole}
 use Rattle.checks.specs.Check.{WellFormed, filePool, HasId}
 use Rattle.demands.specs.Zones.{InRange, Asked, NoZone}
 use Rattle.demands.proofs.Exact.{zone-there, missing-number}

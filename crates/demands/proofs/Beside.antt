@@ -1,7 +1,7 @@
 -- The question beside the check: what it keeps and where it answers. Assumes nothing.
-use mathlib.Core.Path.{_≡_, refl, sym, ap, _∙_, subst}
+use mathlib.Core.Path.{_≡_, refl, sym, ap, _∙_}
 use mathlib.Core.Bool.{Bool, true, false}
-use mathlib.Core.List.{List, [], _∷_, _++_}
+use mathlib.Core.List.{List, []}
 use mathlib.Core.Logic.{_⊎_, inl, inr}
 use Prim.Native.Nat.{ℕ, _≤_, _<_}
 use native.Mathlib.Omega.{arith}
@@ -10,10 +10,9 @@ use lib.ListN.{length, getD}
 use borrow.Author.Tests.{eq-eqb, ne-eqb, eqb-true, eqb-false}
 use Rattle.base.specs.Pick.{pick}
 use Rattle.base.specs.Parsed.{Parsed, got, bad}
-use Rattle.base.proofs.Tests.{never}
 use Rattle.pool.specs.Pool.{parsePool, stringsIn, stringsOf}
-use Rattle.pool.specs.Equal.{equal}
-use Rattle.pool.proofs.EqualLaws.{equal-true, equal-refl}
+use Rattle.base.specs.Equal.{equal}
+use Rattle.base.proofs.EqualLaws.{equal-true, equal-refl}
 use Rattle.zones.specs.Content.{Zone}
 use Rattle.zones.specs.Parse.{parseZone}
 use Rattle.zones.specs.Lookup.{inBody}
@@ -21,8 +20,7 @@ use Rattle.zones.proofs.SoundLaws.{zone-sound}
 use Rattle.ids.specs.Ids.{among}
 use Rattle.frames.specs.Frame.{Field}
 use Rattle.frames.specs.Machine.{Content, bad as fault, answer, keep}
-use Rattle.questions.specs.Question.{Pool, noPool, answered, poolSays, zoneSays, says}
-use Rattle.questions.specs.declared.Found.{Found}
+use Rattle.questions.specs.Question.{Pool, answered, poolSays, zoneSays, says}
 use Rattle.checks.specs.Check.{Memory, start, poolIn, poolKept, newId, withId, zoneIn, zoneKept, contentOf, HasId}
 
 -- the check and the question remember the same pool, that of the file or none yet

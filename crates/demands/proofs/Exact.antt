@@ -2,37 +2,35 @@
 use mathlib.Core.Path.{_≡_, refl, sym, ap, _∙_, subst}
 use mathlib.Core.Bool.{Bool, true, false}
 use mathlib.Core.List.{List, [], _∷_, _++_}
-use mathlib.Core.Logic.{_⊎_, inl, inr}
+use mathlib.Core.Logic.{inr}
 use mathlib.Core.Option.{Option, none, some}
 use Prim.Native.Nat.{ℕ, _≤_, _<_}
 use native.Mathlib.Omega.{arith}
 use lib.IntN.{ℤ}
 use lib.ListN.{length, take}
-use lib.Dec.{ltb, eqb}
+use lib.Dec.{ltb}
 use borrow.Author.Tests.{ne-eqb, ltb-false}
 use Rattle.base.specs.Pick.{pick}
 use Rattle.base.specs.Run.{next}
 use Rattle.signed.specs.Instant.{instantOf}
 use Rattle.counts.specs.Groups.{readGroups}
-use Rattle.pool.specs.Pool.{stringsOf}
 use Rattle.frames.specs.Frame.{Field}
-use Rattle.frames.specs.Machine.{Out, found, refused, cut, ended, final, keep, walk}
+use Rattle.frames.specs.Machine.{walk}
 use Rattle.frames.specs.Fields.{endAt, fields, pass, outcome, upTo, firstAbove}
-use Rattle.frames.proofs.All.{All, all-none, all-also, all-head, all-tail, all-map, all-left}
-use Rattle.frames.proofs.ChainLaws.{Chain, listing-chain, chain-first, chain-split, Earlier}
-use Rattle.frames.proofs.GrowthLaws.{Exactly, exactly}
+use Rattle.base.specs.All.{All, all-none, all-also}
+use Rattle.base.proofs.AllLaws.{all-head, all-tail, all-map, all-left}
+use Rattle.frames.proofs.ChainLaws.{listing-chain, chain-first, chain-split}
+use Rattle.frames.proofs.GrowthLaws.{exactly}
 use Rattle.frames.proofs.PassLaws.{pass-first, lockstep}
 use Rattle.frames.proofs.CapLaws.{stopAt}
-use Rattle.frames.proofs.PartLaws.{Absent, absent-beside, answer-beside, walk-ended, walk-fields}
+use Rattle.frames.proofs.PartLaws.{absent-beside, answer-beside, walk-ended, walk-fields}
 use Rattle.zones.specs.Lookup.{inBody}
 use Rattle.questions.specs.Question.{numberOf, Pool, noPool, answered, question, finish, ask}
 use Rattle.questions.specs.declared.Mark.{Mark}
 use Rattle.questions.specs.declared.Mark.the-variants.{More, All as Whole}
-use Rattle.questions.specs.declared.Found.{Found}
-use Rattle.questions.specs.declared.Answer.{Answer}
-use Rattle.questions.specs.declared.Answer.the-variants.{In, Refused}
-use Rattle.checks.specs.Check.{Memory, start, job, WellFormed, filePool, HasId}
+use Rattle.checks.specs.Check.{start, job, WellFormed, filePool, HasId}
 use Rattle.demands.specs.Zones.{InRange, Asked, NoZone}
+use Rattle.demands.specs.Parts.{There, Missing}
 use Rattle.demands.proofs.Standing.{waits}
 use Rattle.demands.proofs.Beside.{Alike, Passed, keeps, answers}
 
@@ -86,13 +84,7 @@ pub begin-alike : (ts : List (List ℕ)) → Alike ts start noPool
 unfolding readGroups
 begin-alike ts = record { same = refl; which = inr refl }
 
--- "If the file has the asked zone, the part gives 'not yet' exactly when that zone's field isn't all there, and else the answer that the
--- whole file gives as all there is." A field is all there in the first k bytes where the place just past it is at most k.
-pub record There (f id : List ℕ) (z : ℤ) (g : Field) (k : ℕ) : Type 0 where
-  pub before : k < g .past → numberOf (ask (take k f) id z More) ≡ 1
-  pub from-then : g .past ≤ k → ask (take k f) id z More ≡ ask f id z Whole
-  pub answered : numberOf (ask f id z Whole) ≡ 0
-
+-- the file has the asked zone
 pub zone-there : (f id : List ℕ) (z : ℤ) (g : Field) (k : ℕ) → WellFormed f → Asked f id g → InRange z → k ≤ length f → There f id z g k
 zone-there f id z g k w a h l =
     let t : ℕ = instantOf z in
@@ -108,12 +100,7 @@ zone-there f id z g k w a h l =
       answered = rw (asks f id z Whole h, v .1);
     }
 
--- "If the file has no such zone, the part gives 'not yet' exactly when it holds no first byte of a field with an ID above 1, and else
--- 'no such zone'", at that byte's place
-pub record Missing (f id : List ℕ) (z : ℤ) (k : ℕ) : Type 0 where
-  pub before : ((q : ℕ) → firstAbove 1 (fields f) ≡ some q → k ≤ q) → numberOf (ask (take k f) id z More) ≡ 1
-  pub from-then : (q : ℕ) → firstAbove 1 (fields f) ≡ some q → q < k → ask (take k f) id z More ≡ Refused 12 q
-
+-- the file has no such zone
 pub zone-missing : (f id : List ℕ) (z : ℤ) (k : ℕ) → WellFormed f → NoZone f id → InRange z → k ≤ length f → Missing f id z k
 zone-missing f id z k w n h l =
     let t : ℕ = instantOf z in

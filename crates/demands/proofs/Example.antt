@@ -1,32 +1,31 @@
 -- A file that meets the premises: 01's "One whole file" with a field 2 behind it, its zone, and a zone that it lacks. Assumes nothing.
 use mathlib.Core.Path.{_≡_, refl}
 use mathlib.Core.List.{List, [], _∷_}
-use mathlib.Core.Bool.{Bool, true, false}
 use Prim.Native.Nat.{ℕ, _≤_}
 use native.Mathlib.Omega.{arith}
-use lib.Dec.{eqb}
-use lib.IntN.{ℤ, pos}
+use lib.IntN.{pos}
 use lib.ListN.{length, getD}
 use Rattle.base.specs.Run.{iterate}
-use Rattle.base.specs.Parsed.{Parsed, got, bad, parseByte, ended, many}
+use Rattle.base.specs.Parsed.{got, parseByte, ended, many}
 use Rattle.counts.specs.Groups.{readGroups}
 use Rattle.offsets.specs.Offset.{readSum}
 use Rattle.texts.specs.Utf8.{chars}
 use Rattle.texts.specs.Text.{sized as textSized}
 use Rattle.pool.specs.Pool.{allStrings, counted}
-use Rattle.pool.specs.Equal.{equal}
+use Rattle.base.specs.Equal.{equal}
 use Rattle.places.specs.Name.{judgeName, parseName}
 use Rattle.zones.specs.Content.{Zone, fixed}
 use Rattle.zones.specs.Parse.{zoneOf, afterFixedOffset, parseFixed, afterFlag, afterId, parseZone}
 use Rattle.ids.specs.Ids.{among}
 use Rattle.signed.specs.Instant.{biasedOf}
 use Rattle.frames.specs.Frame.{order, zeros, version, sized, field, frame, Field}
-use Rattle.frames.specs.Machine.{ended as end, act, step, walk}
-use Rattle.frames.specs.Fields.{scan, listing, fields}
-use Rattle.frames.proofs.All.{All, all-none, all-also}
-use Rattle.checks.specs.Check.{nowhere, placed, Memory, poolKept, newId, zoneKept, textKept, contentOf, WellFormed, filePool, HasId}
+use Rattle.frames.specs.Machine.{act, step, walk}
+use Rattle.frames.specs.Fields.{scan, listing}
+use Rattle.base.specs.All.{all-none, all-also}
+use Rattle.checks.specs.Check.{placed, poolKept, newId, zoneKept, textKept, contentOf, WellFormed, filePool}
 use Rattle.demands.specs.Zones.{InRange, Asked, NoZone}
-use Rattle.demands.proofs.Exact.{There, zone-there, Missing, zone-missing}
+use Rattle.demands.specs.Parts.{There, Missing}
+use Rattle.demands.proofs.Exact.{zone-there, zone-missing}
 
 -- 00 00 00 00, 00 05 01 03 55 54 43, 01 04 00 01 30 00, and 02 01 00
 abbrev pub file : List ℕ
@@ -46,14 +45,6 @@ zone = record { place = 11; id = 1; start = 13; past = 17; body = 0 ∷ 1 ∷ 48
 
 abbrev text : Field
 text = record { place = 17; id = 2; start = 19; past = 20; body = 0 ∷ [] }
-
-the-fields : fields file ≡ pool ∷ zone ∷ text ∷ []
-unfolding listing scan frame version zeros field sized order readGroups
-the-fields = refl
-
-the-zone : parseZone 1 (zone .body) ≡ got (record { id = 0; body = fixed 86400000 0 }) []
-unfolding parseZone afterId afterFlag parseFixed afterFixedOffset zoneOf parseName judgeName parseByte ended readGroups readSum
-the-zone = refl
 
 pub well-formed : WellFormed file
 unfolding walk step act iterate frame version zeros field sized order readGroups contentOf poolKept zoneKept newId textKept textSized chars counted allStrings many ended among equal parseZone afterId afterFlag parseFixed afterFixedOffset zoneOf parseName judgeName parseByte readSum listing scan

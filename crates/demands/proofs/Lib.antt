@@ -3,6 +3,12 @@ pub mod Names
 pub mod Beside
 pub mod Exact
 pub mod Agree
+pub mod Growth
+pub mod RangeLaws
 pub mod Right
 pub mod Rewriting
 pub mod Example
+pub mod Tailed
+pub mod Worked
+pub mod ContentNumbers
+pub mod Numbers

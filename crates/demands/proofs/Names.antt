@@ -6,7 +6,7 @@ use Prim.Native.Nat.{ℕ, _+_, _≤_, _<_}
 use native.Mathlib.Omega.{arith}
 use lib.IntN.{ℤ}
 use lib.Dec.{eqb}
-use lib.ListN.{length, take, drop, getD, length-append, length-drop}
+use lib.ListN.{length, drop, getD, length-append, length-drop}
 use lib.Seq.{take-append-le, drop-append-le}
 use borrow.Author.Tests.{le-leb, eqb-false}
 use Rattle.base.specs.Pick.{pick}
@@ -15,8 +15,7 @@ use Rattle.base.specs.Parsed.{Parsed, got, bad}
 use Rattle.base.specs.Moment.{Finite}
 use Rattle.signed.specs.Instant.{instantOf}
 use Rattle.pool.specs.Pool.{parsePool, stringsOf}
-use Rattle.pool.specs.Index.{spanOf}
-use Rattle.pool.specs.Equal.{equal}
+use Rattle.base.specs.Equal.{equal}
 use Rattle.pool.proofs.StringLaws.{span-inside}
 use Rattle.zones.specs.Content.{Zone}
 use Rattle.zones.specs.Parse.{parseZone}
@@ -25,16 +24,15 @@ use Rattle.zones.proofs.SoundLaws.{zone-sound}
 use Rattle.zones.proofs.RangeLaws.{body-found}
 use Rattle.frames.specs.Frame.{Field}
 use Rattle.frames.specs.Machine.{Out, found, refused, cut, ended, Content, bad as fault, answer, keep, verdict, onward, walk}
-use Rattle.frames.specs.Fields.{Ending, refusedAt, cutAt, endAt, listing, pass, outcome}
-use Rattle.frames.proofs.All.{All, all-head, all-tail}
-use Rattle.frames.proofs.ChainLaws.{FieldOf, listing-chain, chain-fields}
+use Rattle.frames.specs.Fields.{Ending, refusedAt, cutAt, endAt, listing, pass, outcome, FieldOf}
+use Rattle.base.specs.All.{All}
+use Rattle.base.proofs.AllLaws.{all-head, all-tail}
+use Rattle.frames.proofs.ChainLaws.{listing-chain, chain-fields}
 use Rattle.frames.proofs.WalkLaws.{walk-pass}
 use Rattle.questions.specs.Question.{Pool, noPool, answered, poolSays, zoneSays, says, question, finish, ask, nameOf}
 use Rattle.questions.proofs.AskLaws.{instant-finite}
-use Rattle.questions.specs.declared.Mark.{Mark}
 use Rattle.questions.specs.declared.Mark.the-variants.{More}
 use Rattle.questions.specs.declared.Found.{Found}
-use Rattle.questions.specs.declared.Answer.{Answer}
 use Rattle.questions.specs.declared.Answer.the-variants.{In, Refused}
 
 no : {A : Type 0} → _≡_ {A = ℕ} 0 1 → A

@@ -19,11 +19,11 @@ use Rattle.zones.specs.Parse.{parseZone}
 use Rattle.zones.specs.declared.Found.{Found as Interval}
 use Rattle.frames.specs.Frame.{Field}
 use Rattle.frames.specs.Fields.{Listing, fields}
-use Rattle.frames.proofs.All.{All, all-head, all-left, all-right}
+use Rattle.base.specs.All.{All}
+use Rattle.base.proofs.AllLaws.{all-head, all-left, all-right}
 use Rattle.frames.proofs.ChainLaws.{listing-chain}
-use Rattle.questions.specs.Question.{numberOf, ask, askPlain, nameOf}
+use Rattle.questions.specs.Question.{numberOf, ask, askPlain}
 use Rattle.questions.specs.declared.Mark.the-variants.{All as Whole}
-use Rattle.questions.specs.declared.Found.{Found}
 use Rattle.questions.specs.declared.Answer.{Answer}
 use Rattle.questions.specs.declared.Answer.the-variants.{In, Refused}
 use Rattle.checks.specs.Check.{WellFormed, filePool, HasId}
@@ -36,20 +36,9 @@ use Rattle.rewrite.proofs.Rewriting.{preferred-fields, rewritten-well-formed}
 use Rattle.demands.specs.Zones.{InRange, Asked, NoZone}
 use Rattle.demands.proofs.Exact.{missing-number}
 use Rattle.demands.proofs.Agree.{asked-or-none}
-use Rattle.demands.proofs.Right.{Right, right}
-
--- "The same answer: every value that it carries is equal, the name byte for byte": x of the file f, y of the file h
-pub record SameFound (f h : List ℕ) (x y : Found) : Type 0 where
-  pub wall : x .wall ≡ y .wall
-  pub savings : x .savings ≡ y .savings
-  pub start : x .start ≡ y .start
-  pub end : x .end ≡ y .end
-  pub name : nameOf f x ≡ nameOf h y
-
--- both files give that answer, or both the refusal with the same number
-pub data SameAnswer (f h : List ℕ) : Answer → Answer → Type 0 where
-  both-answer : {x y : Found} → SameFound f h x y → SameAnswer f h (In x) (In y)
-  both-refuse : {n p q : ℕ} → SameAnswer f h (Refused n p) (Refused n q)
+use Rattle.demands.specs.Right.{Right}
+use Rattle.demands.specs.Same.{SameFound, SameAnswer, both-answer, both-refuse}
+use Rattle.demands.proofs.Right.{right}
 
 pub same-number : (f h : List ℕ) (a b : Answer) → SameAnswer f h a b → numberOf a ≡ numberOf b
 same-number f h a b (both-answer s) = refl
@@ -119,7 +108,7 @@ module _ (f : List ℕ) (w : WellFormed f) (b : Bytes f) where
             ∙ sym (s .named ∙ ap (λ (ss : List (List ℕ)). getD ss (s .interval .name) []) same-pool
             ∙ ap (λ (x : Interval). getD (filePool (fields f)) (x .name) []) i);
       } in
-      rw (r .answers-with, s .answers-with) (both-answer e)
+      rw (r .plain, s .plain) (both-answer e)
 
   same-in-range : (id : List ℕ) (z : ℤ) → InRange z → ((g : Field) × Asked f id g) ⊎ NoZone f id
       → SameAnswer f (preferred f) (ask f id z Whole) (ask (preferred f) id z Whole)

@@ -1,42 +1,42 @@
 -- DEMAND 2, for readers: on a well-formed file each instant from year 1 to year 9999 falls in exactly one interval of each zone, and the
 -- offset, savings, name and bounds given are those of that interval. Assumes nothing.
 use mathlib.Core.Path.{_≡_, refl, sym, ap, _∙_, subst, subst⁻¹}
-use mathlib.Core.Bool.{Bool, true, false}
-use mathlib.Core.List.{List, [], _∷_, _++_}
-use Prim.Native.Nat.{ℕ, zero, suc, _+_, _-_, _≤_, _<_}
+use mathlib.Core.Bool.{false}
+use mathlib.Core.List.{List, [], _∷_, _++_, append-assoc}
+use Prim.Native.Nat.{ℕ, _+_, _-_, _≤_, _<_}
 use native.Mathlib.Omega.{arith}
 use lib.IntN.{ℤ}
-use lib.ListN.{length, take, drop, getD, length-take, length-drop}
-use lib.Seq.{take-take, drop-drop}
+use lib.ListN.{length, take, drop, getD}
 use borrow.Author.Tests.{le-leb}
 use Rattle.base.specs.Run.{next}
+use Rattle.base.specs.Parsed.{got}
 use Rattle.base.specs.Moment.{Finite}
-use Rattle.signed.specs.Instant.{instantOf, ticksOf}
-use Rattle.signed.specs.OffsetSum.{millisecondsOf}
+use Rattle.base.proofs.Parts.{part-of-part}
+use Rattle.signed.specs.Instant.{instantOf}
 use Rattle.pool.specs.Pool.{stringsOf}
 use Rattle.pool.specs.Index.{spanOf}
 use Rattle.pool.proofs.StringLaws.{span-inside, span-string}
 use Rattle.zones.specs.Content.{Zone}
 use Rattle.zones.specs.Lookup.{inBody}
-use Rattle.zones.specs.Intervals.{Holds, InBody}
 use Rattle.zones.specs.declared.Found.{Found as Interval}
 use Rattle.zones.proofs.SoundLaws.{zone-sound}
 use Rattle.zones.proofs.RangeLaws.{body-found}
 use Rattle.zones.proofs.PartitionLaws.{lookup-holds, lookup-only}
 use Rattle.frames.specs.Frame.{Field}
-use Rattle.frames.specs.Machine.{answer, keep, found, walk}
-use Rattle.frames.specs.Fields.{fields, pass}
-use Rattle.frames.proofs.All.{All, all-none, all-also, all-head, all-tail, all-map, all-left}
-use Rattle.frames.proofs.ChainLaws.{FieldOf, listing-chain, chain-fields, chain-split}
+use Rattle.frames.specs.Machine.{keep}
+use Rattle.frames.specs.Fields.{fields, pass, FieldOf}
+use Rattle.base.specs.All.{All, all-none, all-also}
+use Rattle.base.proofs.AllLaws.{all-head, all-tail, all-map, all-left}
+use Rattle.frames.proofs.ChainLaws.{listing-chain, chain-fields, chain-split}
 use Rattle.frames.proofs.PassLaws.{pass-first, pass-head, lockstep}
 use Rattle.frames.proofs.PartLaws.{walk-ended, walk-answer}
-use Rattle.questions.specs.Question.{Pool, noPool, answered, says, question, finish, ask, nameOf}
+use Rattle.questions.specs.Question.{Pool, noPool, answered, says, question, finish, nameOf}
 use Rattle.questions.specs.declared.Mark.the-variants.{All as Whole}
-use Rattle.questions.specs.declared.Found.{Found}
-use Rattle.questions.specs.declared.Answer.the-variants.{In}
 use Rattle.questions.proofs.AskLaws.{instant-finite}
 use Rattle.checks.specs.Check.{Memory, start, job, contentOf, WellFormed, filePool, HasId}
-use Rattle.demands.specs.Zones.{InRange, Asked}
+use Rattle.checks.proofs.ZoneIdLaws.{one-zone, each-zone}
+use Rattle.demands.specs.Zones.{InRange, ZoneIn, Asked}
+use Rattle.demands.specs.Right.{Right, Answered}
 use Rattle.demands.proofs.Beside.{Alike, Passed, keeps, answers, zone-pool}
 use Rattle.demands.proofs.Names.{by-kept}
 use Rattle.demands.proofs.Exact.{asks, passed, begin-alike}
@@ -67,25 +67,6 @@ known : (f : List ℕ) (ts : List (List ℕ)) (id : List ℕ) (gs : List Field) 
 known f ts id [] a b = all-none
 known f ts id (g ∷ gs) a b = all-also (record { passes = all-head a; is-field = all-head b }) (known f ts id gs (all-tail a) (all-tail b))
 
--- a part of a part
-take-none : (n : ℕ) → _≡_ {A = List ℕ} (take n []) []
-take-none zero = refl
-take-none (suc n) = refl
-
-drop-take : (i m : ℕ) (l : List ℕ) → i ≤ m → drop i (take m l) ≡ take (m - i) (drop i l)
-drop-take zero m l h = let e : m ≡ m - 0 = omega arith in ap (λ (j : ℕ). take j l) e
-drop-take (suc i) zero l h = absurd (omega arith)
-drop-take (suc i) (suc m) [] h = sym (take-none (suc m - suc i))
-drop-take (suc i) (suc m) (b ∷ l) h =
-    let e : m - i ≡ suc m - suc i = omega arith in
-    drop-take i m l (omega arith) ∙ ap (λ (j : ℕ). take j (drop i l)) e
-
-inner : (f : List ℕ) (start len at n : ℕ) → at + n ≤ len → take n (drop at (take len (drop start f))) ≡ take n (drop (start + at) f)
-inner f start len at n h =
-    ap (take n) (drop-take at len (drop start f) (omega arith))
-    ∙ take-take n (len - at) (drop at (drop start f)) (omega arith)
-    ∙ rw drop-drop
-
 -- the name of an answer is the string of the file's pool
 name-is : (f : List ℕ) (y : Pool) (i : Interval) → Located f y → i .name < length (stringsOf (y .body))
     → nameOf f (answered y i) ≡ getD (stringsOf (y .body)) (i .name) []
@@ -94,24 +75,11 @@ name-is f y i l h =
     let k = i .name in
     let s = span-inside d k h in
     rw (le-leb (y .start + spanOf d k .at + spanOf d k .len) (length f) (omega (arith, s, l .within)))
-    (sym (inner f (y .start) (length d) (spanOf d k .at) (spanOf d k .len) s)
+    (sym (part-of-part f (y .start) (length d) (spanOf d k .at) (spanOf d k .len) s)
     ∙ ap (λ (b : List ℕ). take (spanOf d k .len) (drop (spanOf d k .at) b)) (sym (l .part))
     ∙ span-string d k h)
 
--- what is right of an answer of the zone w of f at z
-pub record Right (f id : List ℕ) (z : ℤ) (w : Zone) : Type 0 where
-  pub interval : Interval
-  pub given : Found
-  pub answers-with : ask f id z Whole ≡ In given
-  pub of-zone : InBody (w .body) interval
-  pub holds : Holds interval (instantOf z)
-  pub only : (x : Interval) → InBody (w .body) x → Holds x (instantOf z) → x ≡ interval
-  pub wall-is : given .wall ≡ millisecondsOf (interval .wall)
-  pub savings-is : given .savings ≡ millisecondsOf (interval .savings)
-  pub start-is : given .start ≡ ticksOf (interval .start)
-  pub end-is : given .end ≡ ticksOf (interval .end)
-  pub named : nameOf f given ≡ getD (filePool (fields f)) (interval .name) []
-
+-- of the asked zone
 pub right : (f id : List ℕ) (z : ℤ) (g : Field) → WellFormed f → (a : Asked f id g) → InRange z → Right f id z (a .has .zone)
 right f id z g w a h =
     let t : ℕ = instantOf z in
@@ -136,9 +104,11 @@ right f id z g w a h =
     let l = lookup-holds (length ts) t (zone .body) ok fin in
     let same : stringsOf (y .body) ≡ ts = sym (u .2 .alike .same) ∙ zone-pool ts id t (q .0) (p .0) y (u .2 .alike) g (a .has) (p .1) in
     record {
-      interval = i;
+      number-is = rw (asks f id z Whole h, o);
       given = answered y i;
-      answers-with = asks f id z Whole h ∙ ap (finish Whole) o;
+      plain = asks f id z Whole h ∙ ap (finish Whole) o;
+      marked = λ mark. asks f id z mark h ∙ ap (finish mark) o;
+      interval = i;
       of-zone = l .0;
       holds = l .1;
       only = λ x e k. lookup-only (length ts) t (zone .body) x ok fin e k;
@@ -148,4 +118,36 @@ right f id z g w a h =
       end-is = refl;
       named = name-is f y i (u .2 .located) (subst⁻¹ (λ (ss : List (List ℕ)). i .name < length ss) same (body-found (length ts) t (zone .body) ok fin .name-ok))
           ∙ ap (λ (ss : List (List ℕ)). getD ss (i .name) []) same;
+    }
+
+-- A zone of a well-formed file is the asked one where its ID bytes are asked: no other field has them.
+unshared : (f : List ℕ) → WellFormed f → (x : List ℕ) (g : Field) (behind : List Field) → HasId (filePool (fields f)) x g → (pre gs : List Field)
+    → fields f ≡ pre ++ (gs ++ g ∷ behind) → All (λ h. HasId (filePool (fields f)) x h → ⊥) gs
+unshared f w x g behind k pre [] e = all-none
+unshared f w x g behind k pre (h ∷ gs) e =
+    all-also (λ m. one-zone f w pre h gs g behind x e m k)
+    (unshared f w x g behind k (pre ++ h ∷ []) gs (e ∙ sym (append-assoc pre (h ∷ []) (gs ++ g ∷ behind))))
+
+pub zone-asked : (f : List ℕ) → WellFormed f → (g : Field) → ZoneIn f g → (x : List ℕ) → HasId (filePool (fields f)) x g → Asked f x g
+zone-asked f w g i x k =
+    record {
+      before = i .before;
+      behind = i .behind;
+      splits = i .splits;
+      has = k;
+      first = unshared f w x g (i .behind) k [] (i .before) (i .splits);
+    }
+
+-- DEMAND 2, FOR READERS: every well-formed file, every zone of it, every instant from year 1 to year 9999
+pub demand-2 : (f : List ℕ) → WellFormed f → (g : Field) → ZoneIn f g → Answered f g
+unfolding zone-asked
+demand-2 f w g i =
+    let ts : List (List ℕ) = filePool (fields f) in
+    let k = each-zone f w (i .before) g (i .behind) (i .splits) (i .is-zone) .1 in
+    let e = k .parsed ∙ ap (got (k .zone)) (zone-sound (length ts) (g .body) (k .zone) (k .rest) (k .parsed) .1) in
+    let own : HasId ts (getD ts (k .zone .id) []) g = record { zone = k .zone; rest = []; is-zone = i .is-zone; parsed = e; bytes = refl } in
+    record {
+      zone = k .zone;
+      parsed = e;
+      right = λ z h. right f (getD ts (k .zone .id) []) z g w (zone-asked f w g i (getD ts (k .zone .id) []) own) h;
     }

@@ -1,5 +1,5 @@
 -- DEMAND 3, standing answers: "More bytes never change what we have said." Assumes nothing.
-use mathlib.Core.Path.{_≡_, refl, sym, ap, _∙_}
+use mathlib.Core.Path.{_≡_, refl}
 use mathlib.Core.Bool.{Bool, true, false}
 use mathlib.Core.List.{List, _++_}
 use Prim.Native.Nat.{ℕ}
@@ -10,12 +10,11 @@ use Rattle.base.proofs.Tests.{never}
 use Rattle.signed.specs.Instant.{instantOf}
 use Rattle.frames.specs.Machine.{Out, found, refused, cut, ended, final, walk}
 use Rattle.frames.proofs.GrowthLaws.{walk-stable}
-use Rattle.questions.specs.Question.{numberOf, Pool, noPool, question, waiting, finish, ask}
+use Rattle.questions.specs.Question.{numberOf, Pool, noPool, question, finish, ask}
 use Rattle.questions.specs.declared.Mark.{Mark}
-use Rattle.questions.specs.declared.Mark.the-variants.{More, All}
+use Rattle.questions.specs.declared.Mark.the-variants.{More}
 use Rattle.questions.specs.declared.Found.{Found}
-use Rattle.questions.specs.declared.Answer.{Answer}
-use Rattle.questions.specs.declared.Answer.the-variants.{In, Refused}
+use Rattle.questions.specs.declared.Answer.the-variants.{Refused}
 
 -- what is not "not yet" is settled
 settled : (o : Out Pool Found) → (numberOf (finish More o) ≡ 1 → ⊥) → final o ≡ true

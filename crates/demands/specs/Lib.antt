@@ -1,1 +1,6 @@
 pub mod Zones
+pub mod Right
+pub mod Parts
+pub mod Cases
+pub mod Numbers
+pub mod Same

@@ -1,17 +1,24 @@
--- The words of demand 3, on a file's fields and not by way of a question. Assumes nothing: these are definitions.
+-- The words of demands 2 and 3, on a file's fields and not by way of a question. Assumes nothing: these are definitions.
 use Prim.Native.Nat.{ℕ}
 use mathlib.Core.Path.{_≡_}
-use mathlib.Core.List.{List, [], _∷_, _++_}
+use mathlib.Core.List.{List, _∷_, _++_}
 use lib.IntN.{ℤ}
 use Rattle.signed.specs.Instant.{instantOf}
 use Rattle.frames.specs.Frame.{Field}
 use Rattle.frames.specs.Fields.{fields}
-use Rattle.frames.proofs.All.{All}
+use Rattle.base.specs.All.{All}
 use Rattle.checks.specs.Check.{filePool, HasId}
 
--- an instant from year 1 to year 9999
+-- an instant from year 1 to year 9999 (in-range and range-in in proofs/RangeLaws.antt: these are its first and its last tick)
 abbrev pub InRange : ℤ → Type 0
 InRange z = instantOf z ≡ 0 → ⊥
+
+-- "each zone": a field of ID 1, wherever it stands
+pub record ZoneIn (f : List ℕ) (g : Field) : Type 0 where
+  pub before : List Field
+  pub behind : List Field
+  pub splits : fields f ≡ before ++ g ∷ behind
+  pub is-zone : g .id ≡ 1
 
 -- "The asked zone is the field of ID 1 whose zone ID has exactly the asked bytes": g is that field of f
 pub record Asked (f id : List ℕ) (g : Field) : Type 0 where

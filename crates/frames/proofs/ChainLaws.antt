@@ -6,26 +6,14 @@ use Prim.Native.Nat.{ℕ, zero, suc, _+_, _≤_, _<_}
 use native.Mathlib.Omega.{arith}
 use lib.ListN.{length, getD, take, drop, length-drop}
 use lib.Seq.{drop-cons, drop-drop, length-take-le}
-use Rattle.base.specs.declared.Read.the-variants.{Value}
-use Rattle.counts.specs.Count.{readCount}
-use Rattle.frames.specs.Frame.{largest, order, frame, Field}
+use Rattle.frames.specs.Frame.{order, frame, Field}
 use Rattle.frames.specs.Machine.{fieldAt}
-use Rattle.frames.specs.Fields.{listed, scan, listing}
+use Rattle.frames.specs.Fields.{listed, scan, listing, FieldOf}
 use Rattle.frames.specs.declared.Frame.{Frame}
 use Rattle.frames.specs.declared.Frame.the-variants.{End, Cut, Refused, Version, Whole}
-use Rattle.frames.proofs.All.{All, all-none, all-also, all-map, all-head, all-right}
+use Rattle.base.specs.All.{All, all-none, all-also}
+use Rattle.base.proofs.AllLaws.{all-map, all-head, all-right}
 use Rattle.frames.proofs.HeadLaws.{Headed, whole-headed, version-place, Follows, order-follows, order-first}
-
--- "ID byte, size as a count, data": g is a field of the file f
-pub record FieldOf (f : List ℕ) (g : Field) : Type 0 where
-  pub id-byte : getD f (g .place) 0 ≡ g .id
-  pub used : ℕ
-  pub size : readCount (drop (g .place + 1) f) ≡ Value (length (g .body)) used
-  pub starts : g .start ≡ g .place + 1 + used
-  pub bytes : g .body ≡ take (length (g .body)) (drop (g .start) f)
-  pub ends : g .past ≡ g .start + length (g .body)
-  pub within : g .past ≤ length f
-  pub limit : g .past ≤ largest
 
 headed-field : (f : List ℕ) (last at : ℕ) (seen : Bool) (prev i h n : ℕ) → Headed last at seen prev (drop at f) i h n
     → FieldOf f (fieldAt at (drop at f) i h n)

@@ -13,7 +13,8 @@ use Rattle.frames.specs.Machine.{fieldAt}
 use Rattle.frames.specs.Fields.{Ending, refusedAt, cutAt, endAt, Listing, noField, before, listed, scan, listing}
 use Rattle.frames.specs.declared.Frame.{Frame}
 use Rattle.frames.specs.declared.Frame.the-variants.{End, Cut, Refused, Version, Whole}
-use Rattle.frames.proofs.All.{All, all-none, all-also, all-map}
+use Rattle.base.specs.All.{All, all-none, all-also}
+use Rattle.base.proofs.AllLaws.{all-map}
 use Rattle.frames.proofs.FrameLaws.{Long, Adds, frame-adds, frame-long}
 
 -- a field that lies between the places a and b

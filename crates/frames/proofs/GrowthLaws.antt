@@ -12,7 +12,8 @@ use Rattle.base.proofs.Tests.{never}
 use Rattle.frames.specs.Frame.{Field}
 use Rattle.frames.specs.Machine.{Out, found, refused, final, Content, Job, onward, walk}
 use Rattle.frames.specs.Fields.{Ending, refusedAt, cutAt, endAt, Listing, listing, pass, outcome, over}
-use Rattle.frames.proofs.All.{All, all-map}
+use Rattle.base.specs.All.{All}
+use Rattle.base.proofs.AllLaws.{all-map}
 use Rattle.frames.proofs.FieldLaws.{Spans, StopsTo, listing-spans, settled, Grows, listing-grows}
 use Rattle.frames.proofs.PassLaws.{pass-append, pass-found, pass-refused, pass-final}
 use Rattle.frames.proofs.WalkLaws.{walk-pass}

@@ -1,7 +1,6 @@
 pub mod FrameLaws
 pub mod HeadLaws
 pub mod ReadLaws
-pub mod All
 pub mod FieldLaws
 pub mod WalkLaws
 pub mod PassLaws

@@ -15,7 +15,8 @@ use Rattle.base.proofs.Tests.{never}
 use Rattle.frames.specs.Frame.{Field}
 use Rattle.frames.specs.Machine.{Out, found, refused, ended, final, answer, keep, Job, walk}
 use Rattle.frames.specs.Fields.{Ending, refusedAt, cutAt, endAt, listing, fields, pass, outcome, upTo, firstAbove}
-use Rattle.frames.proofs.All.{All, all-map, all-head, all-tail}
+use Rattle.base.specs.All.{All}
+use Rattle.base.proofs.AllLaws.{all-map, all-head, all-tail}
 use Rattle.frames.proofs.FieldLaws.{StopsTo, LateTo, listing-spans, listing-grows}
 use Rattle.frames.proofs.PassLaws.{pass-first, pass-head, pass-answer, pass-final, lockstep}
 use Rattle.frames.proofs.WalkLaws.{walk-pass}

@@ -8,7 +8,8 @@ use Rattle.base.specs.Run.{Step, stop, next}
 use Rattle.frames.specs.Frame.{Field}
 use Rattle.frames.specs.Machine.{Out, found, refused, final, Content, bad, answer, keep, verdict, onward}
 use Rattle.frames.specs.Fields.{pass}
-use Rattle.frames.proofs.All.{All, all-head, all-tail, all-right}
+use Rattle.base.specs.All.{All}
+use Rattle.base.proofs.AllLaws.{all-head, all-tail, all-right}
 
 module _ {M A : Type 0} (g : Field) where
   verdict-found : (x : Content M A) (v : A) (p : ℕ) → verdict g x ≡ stop (found v p) → p ≡ g .past

@@ -1,13 +1,16 @@
 -- The fields of a file as a list, apart from any job, and a job as a fold over it. Assumes nothing: these are definitions.
-use Prim.Native.Nat.{ℕ, zero, suc, _+_}
+use Prim.Native.Nat.{ℕ, zero, suc, _+_, _≤_}
+use mathlib.Core.Path.{_≡_}
 use mathlib.Core.Bool.{Bool, true, false}
 use mathlib.Core.List.{List, [], _∷_}
 use mathlib.Core.Option.{Option, none, some}
-use lib.ListN.{length, drop}
+use lib.ListN.{length, getD, take, drop}
 use lib.Dec.{ltb}
 use Rattle.base.specs.Pick.{pick}
 use Rattle.base.specs.Run.{Step, next, follow}
-use Rattle.frames.specs.Frame.{frame, Field}
+use Rattle.base.specs.declared.Read.the-variants.{Value}
+use Rattle.counts.specs.Count.{readCount}
+use Rattle.frames.specs.Frame.{largest, frame, Field}
 use Rattle.frames.specs.Machine.{Out, refused, cut, ended, Content, fieldAt, verdict, onward}
 use Rattle.frames.specs.declared.Frame.{Frame}
 use Rattle.frames.specs.declared.Frame.the-variants.{End, Cut, Refused, Version, Whole}
@@ -52,6 +55,17 @@ listing last bs = scan (suc (length bs)) last 0 false 0 bs
 -- the fields of a file, every ID allowed
 abbrev pub fields : List ℕ → List Field
 fields bs = listing 255 bs .fields
+
+-- "ID byte, size as a count, data": g is a field of the file f
+pub record FieldOf (f : List ℕ) (g : Field) : Type 0 where
+  pub id-byte : getD f (g .place) 0 ≡ g .id
+  pub used : ℕ
+  pub size : readCount (drop (g .place + 1) f) ≡ Value (length (g .body)) used
+  pub starts : g .start ≡ g .place + 1 + used
+  pub bytes : g .body ≡ take (length (g .body)) (drop (g .start) f)
+  pub ends : g .past ≡ g .start + length (g .body)
+  pub within : g .past ≤ length f
+  pub limit : g .past ≤ largest
 
 -- a job over fields in order: what it remembers behind them, or what it stops with
 unfoldable pub pass : {M A : Type 0} → (M → Field → Content M A) → M → List Field → Step M (Out M A)

@@ -63,10 +63,8 @@ fn decode(text: &[u8], out: &mut [u8]) -> usize
     n
 }
 
-// Puts the bytes that the k-th word of line spells, from 0, at the start of out, and gives their number. A word that is not there, or is `-`, spells none.
-pub fn word(line: &[u8], k: usize, out: &mut [u8]) -> usize
-    ensures { λ r. ⌜ Counts r (now (out .exit)) ⌝ }
-{
+// The k-th word of line, from 0, as a part of it; none where it is not there.
+pub fn text<'a>(line: &'a [u8], k: usize) -> &'a [u8] {
     let mut at: usize = 0;
     let mut i: usize = 0;
     while i < k {
@@ -75,7 +73,15 @@ pub fn word(line: &[u8], k: usize, out: &mut [u8]) -> usize
         i += 1;
     }
     let e = find(line, at, 32);
-    decode(&line[at..e], out)
+    &line[at..e]
+}
+
+// Puts the bytes that the k-th word of line spells at the start of out, and gives their number. A word that is not there, or is `-`,
+// spells none.
+pub fn word(line: &[u8], k: usize, out: &mut [u8]) -> usize
+    ensures { λ r. ⌜ Counts r (now (out .exit)) ⌝ }
+{
+    decode(text(line, k), out)
 }
 
 // Writes two digits for each byte of s.

@@ -5,8 +5,8 @@ use mathlib.Core.Bool.{Bool, true, false}
 use Prim.Native.Nat.{ℕ}
 use Rattle.base.specs.Pick.{pick}
 use Rattle.base.proofs.Tests.{never}
-use Rattle.pool.specs.Equal.{equal}
-use Rattle.pool.proofs.EqualLaws.{equal-true, equal-refl}
+use Rattle.base.specs.Equal.{equal}
+use Rattle.base.proofs.EqualLaws.{equal-true, equal-refl}
 use Rattle.ids.specs.Ids.{among, In, here, there}
 
 pub among-true : (x : List ℕ) (ys : List (List ℕ)) → among x ys ≡ true → In x ys

@@ -1,6 +1,6 @@
 -- Laws of the links. Assumes nothing.
 use mathlib.Core.Path.{_≡_, refl, sym, _∙_}
-use mathlib.Core.List.{List, [], _∷_}
+use mathlib.Core.List.{List, []}
 use mathlib.Core.Bool.{Bool, true, false}
 use Prim.Native.Nat.{ℕ, zero, suc, _+_, _-_, _≤_, _<_}
 use native.Mathlib.Omega.{arith}
@@ -11,7 +11,7 @@ use lib.Dec.{eqb, ltb}
 use borrow.Author.Tests.{eq-eqb, ne-eqb, eqb-true, eqb-false, lt-ltb, le-ltb}
 use Rattle.base.specs.Pick.{pick}
 use Rattle.base.proofs.Tests.{never}
-use Rattle.pool.specs.Equal.{equal}
+use Rattle.base.specs.Equal.{equal}
 use Rattle.ids.specs.Memory.{missing, Linked}
 
 pick-same : {A : Type 0} (b : Bool) (a : A) → pick b a a ≡ a

@@ -11,8 +11,8 @@ use lib.Dec.{eqb}
 use borrow.Author.Tests.{eqb-true, eqb-false}
 use Rattle.base.specs.Pick.{pick}
 use Rattle.base.proofs.Tests.{never}
-use Rattle.pool.specs.Equal.{equal}
-use Rattle.pool.proofs.EqualLaws.{equal-true}
+use Rattle.base.specs.Equal.{equal}
+use Rattle.base.proofs.EqualLaws.{equal-true}
 use Rattle.ids.specs.Ids.{among}
 use Rattle.ids.specs.Memory.{held, hashFrom, hash, missing, second, Linked, Keeps, Taken}
 use Rattle.ids.proofs.FlagLaws.{held-set, held-one, held-none, unlinked}

@@ -4,7 +4,7 @@ use Prim.Native.Nat.{ℕ}
 use mathlib.Core.List.{List, [], _∷_}
 use mathlib.Core.Bool.{Bool, true, false}
 use Rattle.base.specs.Pick.{pick}
-use Rattle.pool.specs.Equal.{equal}
+use Rattle.base.specs.Equal.{equal}
 
 unfoldable pub among : List ℕ → List (List ℕ) → Bool
 among x [] = false

@@ -6,7 +6,7 @@ use mathlib.Core.Bool.{Bool, true, false}
 use lib.ListN.{length, getD}
 use lib.Dec.{eqb, ltb}
 use Rattle.base.specs.Pick.{pick}
-use Rattle.pool.specs.Equal.{equal}
+use Rattle.base.specs.Equal.{equal}
 use Rattle.ids.specs.Ids.{among}
 
 -- one of the strings ts, which are those from number j on, has a link and is x

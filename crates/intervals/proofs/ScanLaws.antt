@@ -1,13 +1,11 @@
 -- What a scan of the intervals keeps, and what that says of the interval that holds the instant. Assumes nothing.
 use mathlib.Core.Path.{_≡_, refl, sym, ap, _∙_}
-use mathlib.Core.Bool.{Bool, true, false}
 use mathlib.Core.List.{List, [], _∷_, _++_}
 use Prim.Native.Nat.{ℕ, _-_, _≤_, _<_}
 use lib.Dec.{ltb}
 use lib.ListN.{length, drop}
 use borrow.Author.Tests.{lt-ltb, le-ltb}
-use Rattle.base.specs.Pick.{pick}
-use Rattle.base.specs.Parsed.{Parsed, got, bad, bind, many, behind}
+use Rattle.base.specs.Parsed.{Parsed, got, many, behind}
 use Rattle.base.specs.Moment.{endOfTime}
 use Rattle.base.proofs.Tests.{pick-holds}
 use Rattle.base.proofs.ManyLaws.{Going, going-start, going-bad, going-next, going-done}

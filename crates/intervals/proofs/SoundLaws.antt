@@ -1,17 +1,17 @@
 -- What intervals that were read say is in its ranges. Assumes nothing.
-use mathlib.Core.Path.{_≡_, refl, sym, _∙_, subst}
-use mathlib.Core.Bool.{Bool, true, false}
+use mathlib.Core.Path.{_≡_, refl, subst}
+use mathlib.Core.Bool.{true}
 use mathlib.Core.List.{List, [], _∷_}
-use mathlib.Core.Logic.{_⊎_, inl, inr}
-use Prim.Native.Nat.{ℕ, zero, suc, _≤_, _<_}
+use mathlib.Core.Logic.{inl, inr}
+use Prim.Native.Nat.{ℕ, zero, suc, _<_}
 use native.Mathlib.Omega.{arith}
-use lib.Dec.{ltb, eqb}
+use lib.Dec.{ltb}
 use borrow.Author.Tests.{ltb-true, eqb-true, eq-eqb, ne-eqb}
-use Rattle.base.specs.Pick.{pick, both}
-use Rattle.base.specs.Parsed.{Parsed, got, bad, bind, parse, prepend, many}
+use Rattle.base.specs.Pick.{both}
+use Rattle.base.specs.Parsed.{got, bind, parse, prepend, many}
 use Rattle.base.specs.Moment.{Finite, startOfTime, endOfTime}
 use Rattle.base.proofs.Tests.{both-left, both-right}
-use Rattle.base.proofs.ParseLaws.{bad-got, bind-good, pick-good}
+use Rattle.base.proofs.ParseLaws.{bind-good, pick-good}
 use Rattle.base.proofs.MomentLaws.{Moment}
 use Rattle.offsets.specs.Offset.{readSum}
 use Rattle.transitions.specs.Transition.{readMoment}
@@ -19,7 +19,7 @@ use Rattle.places.specs.Name.{parseName}
 use Rattle.places.proofs.ValueLaws.{moment-is, name-ok, sum-high}
 use Rattle.intervals.specs.declared.Interval.{Interval}
 use Rattle.intervals.specs.Interval.{intervalOf, afterWall, afterName, parseDetails, rises, afterStart, parseInterval, startOf}
-use Rattle.intervals.specs.Sound.{Ranged, LaterOk, Later, ListOk}
+use Rattle.intervals.specs.Sound.{Ranged, Later, ListOk}
 
 pub record IntervalOk (pool prev : ℕ) (i : Interval) : Type 0 where
   pub start-ok : rises prev (i .start) ≡ true

@@ -5,7 +5,8 @@ use Prim.Native.Nat.{ℕ}
 use lib.IntN.{pos, negsuc}
 use Rattle.bytes.specs.Bytes.{indexOf, indexAfter}
 use Rattle.lines.specs.Decimal.{decimalIn, decimal, signed}
-use Rattle.lines.specs.Question.{ticksOf, same, marked, behindDigits, digits, ticks, parseLine}
+use Rattle.base.specs.Equal.{equal}
+use Rattle.lines.specs.Question.{ticksOf, marked, behindDigits, digits, ticks, parseLine}
 use Rattle.lines.specs.Reply.{answerLine, refusalLine}
 use Rattle.lines.specs.Splitting.{lastLine, linesFrom, linesOf, blockLines, linesInBlocks}
 use Rattle.lines.specs.declared.Kind.the-variants.{Plain, Part, All}
@@ -13,19 +14,19 @@ use Rattle.lines.specs.declared.Line.the-variants.{Ask, Unclear}
 
 -- `UTC 0`, `GMT 0 part`, ` -0 all` with its empty ID, and `UTC 0 ` with a space behind
 plain : parseLine (85 ∷ 84 ∷ 67 ∷ 32 ∷ 48 ∷ []) ≡ Ask 3 (pos 0) Plain
-unfolding parseLine ticks digits behindDigits marked ticksOf same indexOf indexAfter
+unfolding parseLine ticks digits behindDigits marked ticksOf equal indexOf indexAfter
 plain = refl
 
 part : parseLine (71 ∷ 77 ∷ 84 ∷ 32 ∷ 48 ∷ 32 ∷ 112 ∷ 97 ∷ 114 ∷ 116 ∷ []) ≡ Ask 3 (pos 0) Part
-unfolding parseLine ticks digits behindDigits marked ticksOf same indexOf indexAfter
+unfolding parseLine ticks digits behindDigits marked ticksOf equal indexOf indexAfter
 part = refl
 
 all-of-it : parseLine (32 ∷ 45 ∷ 48 ∷ 32 ∷ 97 ∷ 108 ∷ 108 ∷ []) ≡ Ask 0 (pos 0) All
-unfolding parseLine ticks digits behindDigits marked ticksOf same indexOf indexAfter
+unfolding parseLine ticks digits behindDigits marked ticksOf equal indexOf indexAfter
 all-of-it = refl
 
 space-behind : parseLine (85 ∷ 84 ∷ 67 ∷ 32 ∷ 48 ∷ 32 ∷ []) ≡ Unclear
-unfolding parseLine ticks digits behindDigits marked ticksOf same indexOf indexAfter
+unfolding parseLine ticks digits behindDigits marked ticksOf equal indexOf indexAfter
 space-behind = refl
 
 -- nineteen nines are past 64 bits, twenty zeros aren't understood
@@ -33,11 +34,11 @@ nine : List ℕ → List ℕ
 nine s = 57 ∷ 57 ∷ 57 ∷ 57 ∷ 57 ∷ 57 ∷ 57 ∷ 57 ∷ 57 ∷ s
 
 past : parseLine (65 ∷ 32 ∷ 45 ∷ nine (nine (57 ∷ []))) ≡ Ask 1 (pos 9223372036854775807) Plain
-unfolding parseLine ticks digits behindDigits marked ticksOf same indexOf indexAfter nine
+unfolding parseLine ticks digits behindDigits marked ticksOf equal indexOf indexAfter nine
 past = refl
 
 twenty : parseLine (65 ∷ 32 ∷ nine (nine (48 ∷ 48 ∷ []))) ≡ Unclear
-unfolding parseLine ticks digits behindDigits marked ticksOf same indexOf indexAfter nine
+unfolding parseLine ticks digits behindDigits marked ticksOf equal indexOf indexAfter nine
 twenty = refl
 
 -- `0 0 0 UTC`, `12 17`, and an offset of -75 seconds without a name

@@ -13,12 +13,13 @@ use lib.Seq.{drop-cons, take-length, drop-length}
 use mir.Syntax.{w64}
 use mir.Val.{toZ, ofZ, SFits}
 use mir.Facts.{toZ-ofZ, toZ-pos}
-use borrow.Author.Tests.{lt-ltb, le-ltb, le-leb, lt-leb, eq-eqb, ne-eqb, eqb-true}
+use borrow.Author.Tests.{lt-ltb, le-ltb, le-leb, lt-leb, eq-eqb, ne-eqb}
 use Rattle.bytes.specs.Bytes.{indexOf, indexAfter, slice}
+use Rattle.base.specs.Equal.{equal}
 use Rattle.base.specs.Pick.{both}
-use Rattle.base.proofs.Tests.{never, pick-holds, both-left, both-right}
+use Rattle.base.proofs.Tests.{pick-holds}
 use Rattle.lines.specs.Decimal.{digit}
-use Rattle.lines.specs.Question.{pastRange, ticksOf, same, marked, behindDigits, digits, ticks, parseLine}
+use Rattle.lines.specs.Question.{pastRange, ticksOf, marked, behindDigits, digits, ticks, parseLine}
 use Rattle.lines.specs.declared.Kind.{Kind}
 use Rattle.lines.specs.declared.Kind.the-variants.{Plain, Part, All}
 use Rattle.lines.specs.declared.Line.{Line}
@@ -72,57 +73,33 @@ module _ (v : ℕ) (h : 2 ^ 63 ≤ v) where
 
 -- ---- the mark
 
-same-refl : (s : List ℕ) → same s s ≡ true
-unfolding same
-same-refl [] = refl
-same-refl (a ∷ s) = rw (eq-eqb a a refl) (same-refl s)
-
-same-eq : (s t : List ℕ) → same s t ≡ true → s ≡ t
-unfolding same
-same-eq [] [] e = refl
-same-eq [] (b ∷ t) e = never e refl
-same-eq (a ∷ s) [] e = never e refl
-same-eq (a ∷ s) (b ∷ t) e =
-    let x : a ≡ b = eqb-true a b (both-left (eqb a b) (same s t) e) in
-    let y : s ≡ t = same-eq s t (both-right (eqb a b) (same s t) e) in
-    cc
-
--- what a comparison of two slices tells
-pub same-told : (r : Bool) (s t : List ℕ) → (r ≡ true → s ≡ t) × (s ≡ t → r ≡ true) → same s t ≡ r
-same-told true s t f = rw (f .0 refl) (same-refl t)
-same-told false s t f = go (same s t) refl
-  where
-    go : (x : Bool) → same s t ≡ x → same s t ≡ false
-    go true e = never (f .1 (same-eq s t e)) refl
-    go false e = e
-
 module _ (n : ℕ) (t : ℤ) (s : List ℕ) where
   pub mark-none : length s ≡ 0 → Ask n t Plain ≡ marked n t s
-  unfolding marked same
+  unfolding marked equal
   mark-none = go s
     where
       go : (r : List ℕ) → length r ≡ 0 → Ask n t Plain ≡ marked n t r
       go [] e = refl
       go (b ∷ r) e = absurd (omega arith)
 
-  some : (length s ≡ 0 → ⊥) → same s [] ≡ false
-  unfolding same
+  some : (length s ≡ 0 → ⊥) → equal s [] ≡ false
+  unfolding equal
   some = go s
     where
-      go : (r : List ℕ) → (length r ≡ 0 → ⊥) → same r [] ≡ false
+      go : (r : List ℕ) → (length r ≡ 0 → ⊥) → equal r [] ≡ false
       go [] f = absurd (f refl)
       go (b ∷ r) f = refl
 
   module _ (f : length s ≡ 0 → ⊥) where
-    pub mark-part : same s (32 ∷ 112 ∷ 97 ∷ 114 ∷ 116 ∷ []) ≡ true → Ask n t Part ≡ marked n t s
+    pub mark-part : equal s (32 ∷ 112 ∷ 97 ∷ 114 ∷ 116 ∷ []) ≡ true → Ask n t Part ≡ marked n t s
     unfolding marked
     mark-part e = rw (some f, e)
 
-    pub mark-all : same s (32 ∷ 112 ∷ 97 ∷ 114 ∷ 116 ∷ []) ≡ false → same s (32 ∷ 97 ∷ 108 ∷ 108 ∷ []) ≡ true → Ask n t All ≡ marked n t s
+    pub mark-all : equal s (32 ∷ 112 ∷ 97 ∷ 114 ∷ 116 ∷ []) ≡ false → equal s (32 ∷ 97 ∷ 108 ∷ 108 ∷ []) ≡ true → Ask n t All ≡ marked n t s
     unfolding marked
     mark-all e g = rw (some f, e, g)
 
-    pub mark-other : same s (32 ∷ 112 ∷ 97 ∷ 114 ∷ 116 ∷ []) ≡ false → same s (32 ∷ 97 ∷ 108 ∷ 108 ∷ []) ≡ false → Unclear ≡ marked n t s
+    pub mark-other : equal s (32 ∷ 112 ∷ 97 ∷ 114 ∷ 116 ∷ []) ≡ false → equal s (32 ∷ 97 ∷ 108 ∷ 108 ∷ []) ≡ false → Unclear ≡ marked n t s
     unfolding marked
     mark-other e g = rw (some f, e, g)
 
@@ -217,9 +194,9 @@ IdIs n Unclear = Unit {0}
 marked-id : (n : ℕ) (t : ℤ) (s : List ℕ) → IdIs n (marked n t s)
 unfolding marked
 marked-id n t s =
-    pick-holds (IdIs n) (same s []) (λ e. refl)
-    (λ e. pick-holds (IdIs n) (same s (32 ∷ 112 ∷ 97 ∷ 114 ∷ 116 ∷ [])) (λ f. refl)
-    (λ f. pick-holds (IdIs n) (same s (32 ∷ 97 ∷ 108 ∷ 108 ∷ [])) (λ g. refl) (λ g. tt)))
+    pick-holds (IdIs n) (equal s []) (λ e. refl)
+    (λ e. pick-holds (IdIs n) (equal s (32 ∷ 112 ∷ 97 ∷ 114 ∷ 116 ∷ [])) (λ f. refl)
+    (λ f. pick-holds (IdIs n) (equal s (32 ∷ 97 ∷ 108 ∷ 108 ∷ [])) (λ g. refl) (λ g. tt)))
 
 behind-id : (n : ℕ) (minus : Bool) (i v : ℕ) (s : List ℕ) → IdIs n (behindDigits n minus i v s)
 unfolding behindDigits

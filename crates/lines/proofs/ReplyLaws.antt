@@ -2,19 +2,17 @@
 use mathlib.Core.Path.{_≡_, refl, ap, sym, _∙_}
 use mathlib.Core.Bool.{true, false}
 use mathlib.Core.List.{List, [], _∷_, _++_, append-assoc}
-use Prim.Native.Nat.{ℕ, suc, _+_, _-_, _/_, _%_, _^_, _≤_, _<_}
+use Prim.Native.Nat.{ℕ, suc, _+_, _-_, _/_, _%_, _≤_, _<_}
 use native.Mathlib.Nat.{add-zero, zero-add}
 use native.Mathlib.Numerals.{add-one}
 use native.Mathlib.Omega.{arith}
-use lib.Dec.{T}
-use lib.IntN.{ℤ, pos, negsuc, natAbs, _-ℤ_}
-use lib.Signed.{ltZ, nonNeg}
+use lib.IntN.{ℤ, pos, negsuc, natAbs}
+use lib.Signed.{ltZ}
 use lib.ListN.{length, take, drop, set, length-append, length-set}
 use lib.Seq.{sets, sets-eq, length-sets, drop-drop, take-length}
 use mir.Syntax.{w64}
-use mir.Val.{toZ, ofZ, Fits, SFits}
-use mir.Facts.{toZ-ofZ, toZ-pos}
-use borrow.Author.Tests.{ltb-true, le-ltb}
+use mir.Val.{SFits}
+use borrow.Author.Tests.{ltb-true}
 use borrow.Rule.Slice.PartMut.{putMid}
 use Rattle.base.specs.Writing.{bytes}
 use Rattle.base.specs.declared.Wrote.the-variants.{Length}
@@ -114,25 +112,6 @@ put-minus z d e at m n s f p = rw (signed-minus z s, ← f) (p .0 ∙ omega arit
 pub put-plus : (z : ℤ) (d e : List ℕ) (at m n : ℕ) → ltZ z (pos 0) ≡ false → m ≡ natAbs z
     → (n ≡ at + length (decimal m)) × (e ≡ sets d at (decimal m)) → (n ≡ at + length (signed z)) × (e ≡ sets d at (signed z))
 put-plus z d e at m n s f p = rw (signed-plus z s, ← f) p
-
--- a negative number, as the code takes its sign off
-pub record Negative (z : ℤ) : Type 0 where
-  pub less : ℕ
-  pub is : negsuc 0 -ℤ z ≡ pos less
-  pub size : less + 1 ≡ natAbs z
-  pub small : less < 2 ^ 63
-
-pub negative : (z : ℤ) → SFits w64 z → ltZ z (pos 0) ≡ true → Negative z
-negative (pos n) h e = absurd (omega (arith, ltb-true n 0 e))
-negative (negsuc n) h e = record { less = n; is = rw (le-ltb (suc n) 1 (omega arith)) (ap pos (omega arith)); size = omega arith; small = h .sfits }
-
--- what the machine holds after the difference
-pub less-of : (z : ℤ) → SFits w64 z → (b : Negative z) → toZ w64 (ofZ w64 (negsuc 0 -ℤ toZ w64 (ofZ w64 z))) ≡ pos (b .less)
-less-of z h b = rw (toZ-ofZ h, b .is) (toZ-pos w64 (b .small))
-
-pub not-negative : (z : ℤ) → SFits w64 z → ltZ z (pos 0) ≡ false → (T (nonNeg z)) × (Fits w64 (natAbs z))
-not-negative (pos n) h e = (tt, record { fits = omega (arith, h .sfits) })
-not-negative (negsuc n) h e = never refl e
 
 pub signed-short : (z : ℤ) → SFits w64 z → length (signed z) ≤ 21
 unfolding signed

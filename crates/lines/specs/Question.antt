@@ -9,6 +9,7 @@ use lib.IntN.{ℤ, pos, negsuc}
 use lib.ListN.{length, drop}
 use Rattle.bytes.specs.Bytes.{indexOf}
 use Rattle.base.specs.Pick.{pick, both}
+use Rattle.base.specs.Equal.{equal}
 use Rattle.lines.specs.Decimal.{digit}
 use Rattle.lines.specs.declared.Kind.the-variants.{Plain, Part, All}
 use Rattle.lines.specs.declared.Line.{Line}
@@ -24,19 +25,12 @@ ticksOf false v = pick (ltb v (2 ^ 63)) (pos v) pastRange
 ticksOf true zero = pos 0
 ticksOf true (suc v) = pick (ltb v (2 ^ 63)) (negsuc v) pastRange
 
--- the same bytes
-unfoldable pub same : List ℕ → List ℕ → Bool
-same [] [] = true
-same [] (b ∷ t) = false
-same (a ∷ s) [] = false
-same (a ∷ s) (b ∷ t) = both (eqb a b) (same s t)
-
 -- "and optionally a space and `part` or `all`", behind an ID of n bytes and the ticks t
 unfoldable pub marked : ℕ → ℤ → List ℕ → Line
 marked n t s =
-    pick (same s []) (Ask n t Plain)
-    (pick (same s (32 ∷ 112 ∷ 97 ∷ 114 ∷ 116 ∷ [])) (Ask n t Part)
-    (pick (same s (32 ∷ 97 ∷ 108 ∷ 108 ∷ [])) (Ask n t All)
+    pick (equal s []) (Ask n t Plain)
+    (pick (equal s (32 ∷ 112 ∷ 97 ∷ 114 ∷ 116 ∷ [])) (Ask n t Part)
+    (pick (equal s (32 ∷ 97 ∷ 108 ∷ 108 ∷ [])) (Ask n t All)
     Unclear))
 
 -- "1 to 19 digits": the i digits so far make v. A twentieth is no mark, so it isn't understood

@@ -177,19 +177,9 @@ fn signed_length(z: i64) -> usize
     ensures { λ r. ⌜ r ≡ length (signed z) ⌝ }
 {
     if z < 0 {
-        return 1 + decimal_length(magnitude(z));
+        return 1 + decimal_length(signed::magnitude(z));
     }
-    decimal_length(magnitude(z))
-}
-
-// The number without its sign.
-fn magnitude(z: i64) -> u64
-    ensures { λ r. ⌜ r ≡ natAbs z ⌝ }
-{
-    if z < 0 {
-        return (-1 - z) as u64 + 1;
-    }
-    z as u64
+    decimal_length(signed::magnitude(z))
 }
 
 // Puts the digits of v into out from `at` on, and gives the place behind them.
@@ -213,9 +203,9 @@ fn put_signed(z: i64, out: &mut [u8], at: usize) -> usize
 {
     if z < 0 {
         out[at] = b'-';
-        return put_decimal(magnitude(z), out, at + 1);
+        return put_decimal(signed::magnitude(z), out, at + 1);
     }
-    put_decimal(magnitude(z), out, at)
+    put_decimal(signed::magnitude(z), out, at)
 }
 
 // The same for the bytes of a slice.

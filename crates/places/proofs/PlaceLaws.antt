@@ -1,13 +1,12 @@
 -- Readers at a place: a small code there, and what a row of readers makes of what one gave. Assumes nothing.
-use mathlib.Core.Path.{_≡_, refl, sym, ap, _∙_, subst}
+use mathlib.Core.Path.{_≡_, refl, sym, _∙_, subst}
 use mathlib.Core.Bool.{Bool, true, false}
-use mathlib.Core.List.{List, [], _∷_}
+use mathlib.Core.List.{List, []}
 use Prim.Native.Nat.{ℕ, _+_, _-_, _≤_, _<_}
 use native.Mathlib.Omega.{arith}
 use native.Mathlib.Numerals.{add-one}
 use lib.ListN.{length, take, drop, getD, length-drop, drop-of-length-le}
 use lib.Seq.{drop-drop, drop-cons}
-use lib.Dec.{ltb}
 use borrow.Author.Tests.{lt-ltb, le-ltb}
 use Rattle.base.specs.Pick.{pick}
 use Rattle.base.specs.Parsed.{Parsed, got, bad, bind, behindCode, parse, parseByte, ended}
@@ -15,7 +14,7 @@ use Rattle.base.specs.declared.Read.{Read}
 use Rattle.base.specs.declared.Read.the-variants.{Value, Refused}
 use Rattle.base.proofs.Parts.{part-from}
 use Rattle.base.proofs.ParseLaws.{bad-got}
-use Rattle.places.specs.Placed.{Placed, at, no, viewPlaced, InBytes, Stands}
+use Rattle.places.specs.Placed.{Placed, at, no, Stands}
 use Rattle.places.specs.Name.{judgeName}
 
 -- a code that is read from the front of what stands from a place on

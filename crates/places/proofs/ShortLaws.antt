@@ -1,6 +1,6 @@
 -- The short ways: codes of one and two bytes at a place. Assumes nothing.
-use mathlib.Core.Path.{_≡_, refl, sym, ap, _∙_}
-use mathlib.Core.List.{List, [], _∷_}
+use mathlib.Core.Path.{_≡_, refl, sym, _∙_}
+use mathlib.Core.List.{List}
 use Prim.Native.Nat.{ℕ, suc, _+_, _*_, _%_, _≤_, _<_}
 use native.Mathlib.Omega.{arith}
 use native.Mathlib.Numerals.{add-one}
@@ -8,8 +8,6 @@ use native.Mathlib.Nat.{mod-eq-of-lt}
 use lib.ListN.{length, drop, getD, drop-of-length-le}
 use lib.Seq.{drop-drop, drop-cons}
 use borrow.Author.Tests.{lt-ltb, le-ltb, ne-eqb}
-use Rattle.base.specs.Pick.{pick}
-use Rattle.base.specs.Moment.{Finite}
 use Rattle.base.specs.Parsed.{parse}
 use Rattle.base.specs.declared.Read.{Read}
 use Rattle.base.specs.declared.Read.the-variants.{Value, Refused}
@@ -18,8 +16,8 @@ use Rattle.counts.specs.Groups.{readGroups}
 use Rattle.counts.specs.Count.{readCount}
 use Rattle.offsets.specs.Offset.{readSum}
 use Rattle.offsets.proofs.OffsetLaws.{fine-of}
-use Rattle.transitions.specs.Transition.{hour, fromCount, readMoment}
-use Rattle.places.specs.Placed.{Placed, at, no, Stands}
+use Rattle.transitions.specs.Transition.{fromCount, readMoment}
+use Rattle.places.specs.Placed.{at, no, Stands}
 use Rattle.places.specs.Short.{TwoBytes, HoursAfter}
 
 -- what reads at a place stands there

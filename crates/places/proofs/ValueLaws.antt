@@ -1,11 +1,10 @@
 -- What the codes at a place say. Assumes nothing.
 use mathlib.Core.Path.{_≡_, subst}
-use mathlib.Core.Bool.{true}
 use mathlib.Core.List.{List}
 use Prim.Native.Nat.{ℕ, _≤_, _<_}
 use lib.Dec.{ltb}
 use borrow.Author.Tests.{ltb-true}
-use Rattle.base.specs.Parsed.{got, bad, bind, parse}
+use Rattle.base.specs.Parsed.{got, parse}
 use Rattle.base.proofs.ParseLaws.{bind-good, pick-good}
 use Rattle.base.proofs.MomentLaws.{Moment}
 use Rattle.counts.specs.Count.{readCount}

@@ -3,5 +3,4 @@ pub mod CheckLaws
 pub mod StringLaws
 pub mod PoolLaws
 pub mod HolderLaws
-pub mod EqualLaws
 pub mod Vectors

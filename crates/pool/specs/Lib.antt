@@ -1,4 +1,3 @@
 pub mod Pool
 pub mod Index
 pub mod Holder
-pub mod Equal

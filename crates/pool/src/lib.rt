@@ -8,7 +8,7 @@ ghost use lib.ListN.{length, drop, getD};
 ghost use lib.Seq.{sets};
 ghost use Rattle.pool.specs.Pool.{allStrings, parsePool, checked, stringsOf};
 ghost use Rattle.pool.specs.Index.{readStarts, startsOf, Ready, spanOf};
-ghost use Rattle.pool.specs.Equal.{equal};
+ghost use Rattle.base.specs.Equal.{equal};
 ghost use Rattle.pool.specs.Holder.{textOf, Held};
 
 // What checking a pool gives.

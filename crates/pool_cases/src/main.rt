@@ -4,60 +4,26 @@
 // the ID, the field's bytes behind its first, and the first four places and the last of the index, `-` for one that is as it was.
 // The stored output comes from tests/pool_cases/make.py.
 use libc::STDIN_FILENO;
-use libc::STDOUT_FILENO;
 use pool::Checked;
 use pool::Holder;
 ghost use mathlib.Core.Path.{_≡_};
 ghost use Prim.Native.Nat.{_≤_, _<_};
 ghost use lib.ListN.{length};
-ghost use Rattle.io.specs.Counts.{Counts};
 ghost use Rattle.pool.specs.Pool.{stringsOf};
 ghost use Rattle.pool.specs.Index.{Ready};
-
-fn say(word: &[u8]) {
-    io::write_all(STDOUT_FILENO, word);
-}
-
-fn number(n: usize) {
-    io::print_decimal(STDOUT_FILENO, n as u64);
-}
-
-// The pool's data, at the start of buf.
-fn build(line: &[u8], buf: &mut [u8]) -> usize
-    ensures { λ r. ⌜ Counts r (now (buf .exit)) ⌝ }
-{
-    let mut front = [0u8; 2048];
-    let mut unit = [0u8; 2048];
-    let mut size = [0u8; 2];
-    let mut end = [0u8; 2048];
-    let f = hex::word(line, 0, &mut front);
-    let u = hex::word(line, 1, &mut unit);
-    hex::word(line, 2, &mut size);
-    let e = hex::word(line, 3, &mut end);
-    let times = wide(size[0]) * 256 + wide(size[1]);
-    let a = hex::append(buf, 0, &front[..f]);
-    let b = hex::repeat(buf, a, &unit[..u], times);
-    hex::append(buf, b, &end[..e])
-}
-
-fn wide(b: u8) -> usize
-    ensures { λ r. ⌜ r < 256 ⌝ }
-{
-    b as usize
-}
 
 fn show_string<'a>(d: &'a [u8], field: &'a [u8], starts: &[u32; 8192], k: usize, id: &[u8])
     requires { ⌜ Ready (now d) (now starts) × (k < length (stringsOf (now d))) ⌝ }
 {
     let s = pool::span_by(d, starts, k);
-    say(b" ");
-    number(s.at);
-    say(b":");
-    number(s.len);
-    say(b":");
+    cases::say(b" ");
+    cases::say_number(s.at as u64);
+    cases::say(b":");
+    cases::say_number(s.len as u64);
+    cases::say(b":");
     hex::print(pool::text_of(d, field, starts, Holder::InPool(k)));
     if pool::has_id(d, starts, k, id) {
-        say(b"*");
+        cases::say(b"*");
     }
 }
 
@@ -88,21 +54,21 @@ fn show_field<'a>(d: &'a [u8], field: &'a [u8], starts: &[u32; 8192])
     if field.len() == 0 {
         return;
     }
-    say(b" ");
+    cases::say(b" ");
     hex::print(pool::text_of(d, field, starts, Holder::InField(1, field.len() - 1)));
 }
 
 fn show_place(p: u32) {
     if p == 4294967295 {
-        say(b" -");
+        cases::say(b" -");
         return;
     }
-    say(b" ");
-    number(p as usize);
+    cases::say(b" ");
+    cases::say_number(p as u64);
 }
 
 fn show_index(starts: &[u32; 8192]) {
-    say(b" |");
+    cases::say(b" |");
     show_place(starts[0]);
     show_place(starts[1]);
     show_place(starts[2]);
@@ -115,25 +81,25 @@ fn run_pool<'a>(d: &'a [u8], field: &'a [u8], id: &[u8]) {
     let c = pool::check_pool(d, &mut starts);
     match c {
         Checked::Refused(m) => {
-            say(b"refused ");
-            number(m as usize);
+            cases::say(b"refused ");
+            cases::say_number(m as u64);
             show_index(&starts);
         }
         Checked::Strings(n) => {
-            say(b"strings ");
-            number(n);
+            cases::say(b"strings ");
+            cases::say_number(n as u64);
             show_strings(d, field, &starts, n, id);
             show_field(d, field, &starts);
             show_index(&starts);
         }
     }
-    say(b"\n");
+    cases::say(b"\n");
 }
 
 fn run_line(line: &[u8], buf: &mut [u8]) {
     let mut id = [0u8; 2048];
     let mut field = [0u8; 2048];
-    let n = build(line, buf);
+    let n = cases::build(line, 0, buf);
     let i = hex::word(line, 4, &mut id);
     let f = hex::word(line, 5, &mut field);
     run_pool(&buf[..n], &field[..f], &id[..i]);

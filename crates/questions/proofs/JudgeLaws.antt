@@ -8,7 +8,7 @@ use lib.ListN.{drop, getD}
 use Rattle.base.specs.Pick.{pick}
 use Rattle.base.specs.Parsed.{Parsed, got, bad}
 use Rattle.pool.specs.Pool.{stringsOf}
-use Rattle.pool.specs.Equal.{equal}
+use Rattle.base.specs.Equal.{equal}
 use Rattle.zones.specs.Content.{Zone}
 use Rattle.zones.specs.Parse.{parseZone}
 use Rattle.zones.specs.Lookup.{inBody, verdictOf, answerOf}

@@ -10,7 +10,7 @@ use Rattle.signed.specs.Instant.{instantOf, ticksOf}
 use Rattle.signed.specs.OffsetSum.{millisecondsOf}
 use Rattle.pool.specs.Pool.{parsePool, stringsOf}
 use Rattle.pool.specs.Index.{spanOf}
-use Rattle.pool.specs.Equal.{equal}
+use Rattle.base.specs.Equal.{equal}
 use Rattle.zones.specs.Content.{Zone}
 use Rattle.zones.specs.Parse.{parseZone}
 use Rattle.zones.specs.Lookup.{inBody}

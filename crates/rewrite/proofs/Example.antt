@@ -21,7 +21,7 @@ use Rattle.offsets.specs.Offset.{readSum}
 use Rattle.transitions.specs.Transition.{readMoment, fromCount, unitsTo, writeMoment}
 use Rattle.places.specs.Name.{judgeName, parseName}
 use Rattle.pool.specs.Pool.{allStrings, counted}
-use Rattle.pool.specs.Equal.{equal}
+use Rattle.base.specs.Equal.{equal}
 use Rattle.ids.specs.Ids.{among}
 use Rattle.intervals.specs.Interval.{parseInterval, afterStart, parseDetails, afterName, afterWall}
 use Rattle.zones.specs.Parse.{zoneOf, afterTailByte, afterEnd, afterIntervals, afterCount, parseListed, afterFlag, afterId, parseZone}

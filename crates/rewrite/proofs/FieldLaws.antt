@@ -9,8 +9,8 @@ use Rattle.base.specs.declared.Read.the-variants.{Value, Refused}
 use Rattle.base.proofs.Parts.{part-from}
 use Rattle.counts.specs.Count.{readCount, writeCount}
 use Rattle.counts.proofs.CountLaws.{counted}
+use Rattle.frames.specs.Fields.{FieldOf}
 use Rattle.frames.specs.Frame.{Field}
-use Rattle.frames.proofs.ChainLaws.{FieldOf}
 use Rattle.contents.specs.Content.{contentOf, print}
 use Rattle.contents.specs.View.{Put}
 use Rattle.contents.proofs.PutLaws.{InTwo}

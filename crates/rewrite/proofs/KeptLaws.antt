@@ -12,8 +12,8 @@ use Rattle.base.proofs.Parts.{Bytes}
 use Rattle.base.proofs.ByteLaws.{no-bytes, cons-bytes, tail-bytes, drop-bytes}
 use Rattle.zones.specs.Content.{Zone}
 use Rattle.zones.specs.Parse.{parseZone}
+use Rattle.frames.specs.Fields.{FieldOf}
 use Rattle.frames.specs.Frame.{Field}
-use Rattle.frames.proofs.ChainLaws.{FieldOf}
 use Rattle.contents.specs.Content.{contentOf, print}
 use Rattle.contents.proofs.HeadLaws.{print-other}
 use Rattle.rewrite.proofs.ZoneLaws.{zone-kept}

@@ -13,11 +13,12 @@ use Rattle.base.proofs.ByteLaws.{drop-bytes}
 use Rattle.counts.specs.Count.{writeCount}
 use Rattle.counts.proofs.CountLaws.{count-written, count-form, count-mono}
 use Rattle.frames.specs.Frame.{largest, order, zeros, version, field, frame, Field}
-use Rattle.frames.specs.Fields.{endAt, noField, scan, listing, fields}
+use Rattle.frames.specs.Fields.{FieldOf, endAt, noField, scan, listing, fields}
 use Rattle.frames.specs.declared.Frame.the-variants.{End, Whole}
-use Rattle.frames.proofs.All.{All, all-head, all-tail}
+use Rattle.base.specs.All.{All}
+use Rattle.base.proofs.AllLaws.{all-head, all-tail}
 use Rattle.frames.proofs.HeadLaws.{headed-whole}
-use Rattle.frames.proofs.ChainLaws.{FieldOf, Chain, listing-chain}
+use Rattle.frames.proofs.ChainLaws.{Chain, listing-chain}
 use Rattle.rewrite.specs.Preferred.{contents, content, printField, printFields, printFile, preferred}
 use Rattle.rewrite.proofs.KeptLaws.{preferredData, FieldKept}
 

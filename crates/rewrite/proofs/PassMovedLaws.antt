@@ -21,9 +21,10 @@ use Rattle.zones.proofs.SoundLaws.{zone-sound}
 use Rattle.ids.specs.Ids.{among}
 use Rattle.frames.specs.Frame.{Field}
 use Rattle.frames.specs.Machine.{Content, bad, keep}
-use Rattle.frames.specs.Fields.{fields, pass}
-use Rattle.frames.proofs.All.{All, all-none, all-also, all-head, all-tail}
-use Rattle.frames.proofs.ChainLaws.{FieldOf, Chain, listing-chain, chain-first, chain-fields}
+use Rattle.frames.specs.Fields.{FieldOf, fields, pass}
+use Rattle.base.specs.All.{All, all-none, all-also}
+use Rattle.base.proofs.AllLaws.{all-head, all-tail}
+use Rattle.frames.proofs.ChainLaws.{Chain, listing-chain, chain-first, chain-fields}
 use Rattle.frames.proofs.PassLaws.{pass-head}
 use Rattle.frames.proofs.PartLaws.{walk-ended}
 use Rattle.checks.specs.Check.{placed, Memory, start, withPool, withId, withText, poolIn, poolKept, newId, zoneIn, zoneKept}

@@ -1,5 +1,5 @@
 -- What the check of a file has shown, and the walk over its fields. Assumes nothing.
-use mathlib.Core.Path.{_≡_, refl, sym, ap, _∙_, subst, subst⁻¹}
+use mathlib.Core.Path.{_≡_, refl, sym, ap, _∙_, subst⁻¹}
 use mathlib.Core.Bool.{Bool, true, false}
 use mathlib.Core.List.{List, [], _∷_, _++_, append-nil, append-assoc}
 use Prim.Native.Nat.{ℕ, zero, suc, _+_, _-_, _≤_, _<_}
@@ -8,12 +8,13 @@ use lib.ListN.{length, drop, length-append}
 use lib.Dec.{leb}
 use Rattle.base.proofs.Parts.{Bytes}
 use Rattle.frames.specs.Frame.{frame, Field}
-use Rattle.frames.specs.Fields.{endAt, listed, scan, listing, fields}
+use Rattle.frames.specs.Fields.{FieldOf, endAt, listed, scan, listing, fields}
 use Rattle.frames.specs.declared.Frame.{Frame}
 use Rattle.frames.specs.declared.Frame.the-variants.{End, Cut, Refused, Version, Whole}
-use Rattle.frames.proofs.All.{All, all-none, all-also, all-head, all-tail}
+use Rattle.base.specs.All.{All, all-none, all-also}
+use Rattle.base.proofs.AllLaws.{all-head, all-tail}
 use Rattle.frames.proofs.HeadLaws.{version-place}
-use Rattle.frames.proofs.ChainLaws.{FieldOf, Chain, listing-chain, chain-fields}
+use Rattle.frames.proofs.ChainLaws.{Chain, listing-chain, chain-fields}
 use Rattle.frames.proofs.PartLaws.{walk-ended}
 use Rattle.checks.specs.Check.{start, job, WellFormed, filePool, checkOf}
 use Rattle.checks.specs.declared.Verdict.{Verdict}

@@ -10,7 +10,8 @@ use Rattle.pool.specs.Pool.{stringsOf}
 use Rattle.zones.specs.Content.{Zone}
 use Rattle.zones.specs.Parse.{parseZone}
 use Rattle.frames.specs.Frame.{Field}
-use Rattle.frames.proofs.All.{All, all-none, all-also, all-head, all-tail}
+use Rattle.base.specs.All.{All, all-none, all-also}
+use Rattle.base.proofs.AllLaws.{all-head, all-tail}
 use Rattle.frames.proofs.ChainLaws.{Chain, chain-first}
 use Rattle.checks.specs.Check.{filePool, HasId}
 use Rattle.rewrite.proofs.KeptLaws.{preferredData, FieldKept}

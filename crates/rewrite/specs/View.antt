@@ -4,9 +4,8 @@ use mathlib.Core.Path.{_≡_}
 use mathlib.Core.List.{List, [], _∷_}
 use lib.ListN.{length, take, drop}
 use Rattle.frames.specs.Frame.{Field}
-use Rattle.frames.specs.Fields.{fields}
-use Rattle.frames.proofs.All.{All}
-use Rattle.frames.proofs.ChainLaws.{FieldOf}
+use Rattle.frames.specs.Fields.{FieldOf, fields}
+use Rattle.base.specs.All.{All}
 use Rattle.contents.specs.Content.{contentOf}
 use Rattle.contents.specs.View.{HasContent}
 use Rattle.rewrite.specs.Preferred.{FieldContent, preferred}

@@ -1,6 +1,7 @@
 // The edge between signed numbers, as callers use them, and the unsigned ones that all else computes with.
 ghost use mathlib.Core.Path.{_≡_};
 ghost use Prim.Native.Nat.{_<_};
+ghost use lib.IntN.{natAbs};
 ghost use Rattle.base.specs.Moment.{Finite};
 ghost use Rattle.signed.specs.Instant.{instantOf, ticksOf, momentOf, fromRaw, rawOf};
 ghost use Rattle.signed.specs.OffsetSum.{sumOf, millisecondsOf};
@@ -124,4 +125,14 @@ pub fn zigzag(v: i64) -> u64
         return ((-1 - v) as u64) * 2 + 1;
     }
     (v as u64) * 2
+}
+
+// The number without its sign.
+pub fn magnitude(z: i64) -> u64
+    ensures { λ r. ⌜ r ≡ natAbs z ⌝ }
+{
+    if z < 0 {
+        return (-1 - z) as u64 + 1;
+    }
+    z as u64
 }

@@ -4,20 +4,12 @@
 // savings, and D or S for daylight or standard time; or the number of the refusal of a number out of its range.
 ghost use mathlib.Core.Path.{_≡_};
 ghost use mathlib.Core.Bool.{true};
-ghost use Prim.Native.Nat.{_≤_, _<_};
-ghost use lib.ListN.{length};
+ghost use Prim.Native.Nat.{_<_};
 ghost use Rattle.base.specs.Moment.{Finite};
 ghost use Rattle.recurrence.specs.Fields.{FieldsOk};
-ghost use Rattle.tail_cases.specs.Places.{Passed};
-use libc::STDOUT_FILENO;
+use libc::STDIN_FILENO;
 use recurrence::Interval;
 use recurrence::Tail;
-
-struct Number {
-    value: u64,
-    // the place past the byte behind its digits
-    next: usize,
-}
 
 // The fields of a rule, as in the file.
 struct Fields {
@@ -25,7 +17,6 @@ struct Fields {
     month: u64,
     day: u64,
     time: u64,
-    next: usize,
 }
 
 struct Question {
@@ -35,8 +26,6 @@ struct Question {
     daylight: Fields,
     start: u64,
     instant: u64,
-    // the place of the next line
-    next: usize,
 }
 
 enum Reply {
@@ -44,86 +33,30 @@ enum Reply {
     Refused(u64),
 }
 
-// The number whose digits start at a place: at most nineteen of them.
-fn parse_number(s: &[u8], at: usize) -> Number
-    requires { ⌜ at ≤ length (now s) ⌝ }
-    ensures { λ r. ⌜ Passed (now (s .entry)) at (r .next) ⌝ }
-{
-    let mut value: u64 = 0;
-    let mut i = at;
-    while i < s.len() {
-        let b = s[i];
-        i += 1;
-        if b < b'0' {
-            return Number {
-                value: value,
-                next: i,
-            };
-        }
-        if b'9' < b {
-            return Number {
-                value: value,
-                next: i,
-            };
-        }
-        if 1000000000000000000 <= value {
-            return Number {
-                value: value,
-                next: i,
-            };
-        }
-        value = value * 10 + digit(b);
-    }
-    Number {
-        value: value,
-        next: i,
-    }
+fn number(line: &[u8], k: usize) -> u64 {
+    cases::natural(hex::text(line, k))
 }
 
-fn digit(b: u8) -> u64
-    requires { ⌜ (48 ≤ b) × (b ≤ 57) ⌝ }
-    ensures { λ r. ⌜ r ≤ 9 ⌝ }
+// The four fields of a rule, from the k-th word on.
+fn rule_fields(line: &[u8], k: usize) -> Fields
+    requires { ⌜ k < 256 ⌝ }
 {
-    (b - b'0') as u64
-}
-
-// The four fields of a rule.
-fn parse_fields(s: &[u8], at: usize) -> Fields
-    requires { ⌜ at ≤ length (now s) ⌝ }
-    ensures { λ r. ⌜ Passed (now (s .entry)) at (r .next) ⌝ }
-{
-    let b = parse_number(s, at);
-    let month = parse_number(s, b.next);
-    let day = parse_number(s, month.next);
-    let time = parse_number(s, day.next);
     Fields {
-        byte: b.value,
-        month: month.value,
-        day: day.value,
-        time: time.value,
-        next: time.next,
+        byte: number(line, k),
+        month: number(line, k + 1),
+        day: number(line, k + 2),
+        time: number(line, k + 3),
     }
 }
 
-// The question of the line that starts at a place.
-fn parse_line(s: &[u8], at: usize) -> Question
-    requires { ⌜ at ≤ length (now s) ⌝ }
-    ensures { λ r. ⌜ Passed (now (s .entry)) at (r .next) ⌝ }
-{
-    let offset = parse_number(s, at);
-    let savings = parse_number(s, offset.next);
-    let standard = parse_fields(s, savings.next);
-    let daylight = parse_fields(s, standard.next);
-    let start = parse_number(s, daylight.next);
-    let instant = parse_number(s, start.next);
+fn read_question(line: &[u8]) -> Question {
     Question {
-        offset: offset.value,
-        savings: savings.value,
-        standard: standard,
-        daylight: daylight,
-        start: start.value,
-        instant: instant.value,
-        next: instant.next,
+        offset: number(line, 0),
+        savings: number(line, 1),
+        standard: rule_fields(line, 2),
+        daylight: rule_fields(line, 6),
+        start: number(line, 10),
+        instant: number(line, 11),
     }
 }
 
@@ -186,40 +119,44 @@ fn answer(q: Question) -> Reply {
     Reply::In(recurrence::look_up(tail, q.instant))
 }
 
-fn print(r: Reply) {
+fn show(r: Reply) {
     match r {
         Reply::In(x) => {
-            io::print_decimal(STDOUT_FILENO, x.start);
-            io::write_all(STDOUT_FILENO, b" ");
-            io::print_decimal(STDOUT_FILENO, x.end);
-            io::write_all(STDOUT_FILENO, b" ");
-            io::print_decimal(STDOUT_FILENO, x.wall);
-            io::write_all(STDOUT_FILENO, b" ");
-            io::print_decimal(STDOUT_FILENO, x.savings);
+            cases::say_number(x.start);
+            cases::say(b" ");
+            cases::say_number(x.end);
+            cases::say(b" ");
+            cases::say_number(x.wall);
+            cases::say(b" ");
+            cases::say_number(x.savings);
             if x.daylight {
-                io::write_all(STDOUT_FILENO, b" D\n");
+                cases::say(b" D\n");
             } else {
-                io::write_all(STDOUT_FILENO, b" S\n");
+                cases::say(b" S\n");
             }
         }
         Reply::Refused(n) => {
-            io::print_decimal(STDOUT_FILENO, n);
-            io::write_all(STDOUT_FILENO, b"\n");
+            cases::say_number(n);
+            cases::say(b"\n");
         }
     }
 }
 
-fn print_all(s: &[u8]) {
-    let mut at = 0;
+fn run_line(line: &[u8]) {
+    show(answer(read_question(line)));
+}
+
+fn run_all(s: &[u8]) {
+    let mut at: usize = 0;
     while at < s.len() {
-        let q = parse_line(s, at);
-        print(answer(q));
-        at = q.next;
+        let e = hex::find(s, at, 10);
+        run_line(&s[at..e]);
+        at = e + 1;
     }
 }
 
 fn main() {
     let mut input = io::large_buffer();
-    let n = io::read_full(0, &mut input);
-    print_all(&input[..n]);
+    let n = io::read_full(STDIN_FILENO, &mut input);
+    run_all(&input[..n]);
 }

@@ -1,19 +1,16 @@
 -- What a tail that was read says is in its ranges. Assumes nothing.
-use mathlib.Core.Path.{_≡_, refl, sym, ap, _∙_, subst}
-use mathlib.Core.Bool.{Bool, true, false}
+use mathlib.Core.Path.{_≡_, refl, subst}
 use mathlib.Core.List.{List}
-use Prim.Native.Nat.{ℕ, _≤_, _<_}
+use Prim.Native.Nat.{ℕ, _≤_}
 use native.Mathlib.Omega.{arith}
-use Rattle.base.specs.Pick.{pick}
-use Rattle.base.specs.Parsed.{Parsed, got, bad, bind, parse, parseByte}
+use Rattle.base.specs.Parsed.{got, parse, parseByte}
 use Rattle.base.specs.Moment.{Finite}
-use Rattle.base.proofs.ParseLaws.{Split, bind-good, pick-good}
+use Rattle.base.proofs.ParseLaws.{bind-good, pick-good}
 use Rattle.counts.specs.Count.{readCount}
 use Rattle.offsets.specs.Offset.{readSum}
 use Rattle.recurrence.specs.declared.Rule.{Rule}
 use Rattle.recurrence.specs.Rules.{RuleOk}
-use Rattle.recurrence.specs.Fields.{byteOk, monthOk, dayOk, timeOk, FieldsOk, ruleOf, sumOk}
-use Rattle.recurrence.specs.Tails.{TailOk}
+use Rattle.recurrence.specs.Fields.{byteOk, monthOk, dayOk, timeOk, ruleOf, sumOk}
 use Rattle.recurrence.proofs.FieldLaws.{rule-ok}
 use Rattle.places.specs.Placed.{Placed, at, Stands}
 use Rattle.places.specs.Name.{readZigzag, parseName}

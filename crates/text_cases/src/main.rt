@@ -3,23 +3,14 @@
 // The stored output comes from tests/text_cases/make.py.
 use base::Wrote;
 use libc::STDIN_FILENO;
-use libc::STDOUT_FILENO;
 use texts::Text;
-
-fn say(word: &[u8]) {
-    io::write_all(STDOUT_FILENO, word);
-}
-
-fn number(n: usize) {
-    io::print_decimal(STDOUT_FILENO, n as u64);
-}
 
 fn run_utf8(s: &[u8]) {
     if texts::is_utf8(s) {
-        say(b"yes");
+        cases::say(b"yes");
         return;
     }
-    say(b"no");
+    cases::say(b"no");
 }
 
 // The place and the length, and the bytes that the text function hands out.
@@ -27,17 +18,17 @@ fn run_read(s: &[u8]) {
     let t = texts::read_text(s);
     match t {
         Text::Part(a, n) => {
-            say(b"part ");
-            number(a);
-            say(b" ");
-            number(n);
+            cases::say(b"part ");
+            cases::say_number(a as u64);
+            cases::say(b" ");
+            cases::say_number(n as u64);
         }
         Text::Refused(k) => {
-            say(b"refused ");
-            number(k as usize);
+            cases::say(b"refused ");
+            cases::say_number(k as u64);
         }
     }
-    say(b" ");
+    cases::say(b" ");
     hex::print(texts::text_bytes(s));
 }
 
@@ -46,15 +37,15 @@ fn run_write(t: &[u8], out: &mut [u8]) {
     let w = texts::write_text(t, out);
     match w {
         Wrote::Length(n) => {
-            say(b"length ");
-            number(n);
+            cases::say(b"length ");
+            cases::say_number(n as u64);
         }
         Wrote::Refused(k) => {
-            say(b"refused ");
-            number(k as usize);
+            cases::say(b"refused ");
+            cases::say_number(k as u64);
         }
     }
-    say(b" ");
+    cases::say(b" ");
     hex::print(out);
 }
 
@@ -74,7 +65,7 @@ fn run_line(line: &[u8]) {
     } else {
         run_write(&first[..n], &mut second[..m]);
     }
-    say(b"\n");
+    cases::say(b"\n");
 }
 
 fn run_all(s: &[u8]) {

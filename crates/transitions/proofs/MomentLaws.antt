@@ -1,6 +1,6 @@
 -- Laws of the transition code's reader, over moments: its ways out, what a moment that reads is, the counts that name an instant,
 -- that a moment that was written is read back, and that its written form is never longer than any other. Assumes nothing.
-use mathlib.Core.Path.{_≡_, refl, ap, sym, _∙_, subst, subst⁻¹}
+use mathlib.Core.Path.{_≡_, refl, ap, sym, _∙_, subst⁻¹}
 use mathlib.Core.List.{List, [], _∷_, _++_}
 use mathlib.Core.Bool.{Bool, true, false}
 use mathlib.Core.Logic.{_⊎_, inl, inr}

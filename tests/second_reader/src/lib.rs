@@ -1,10 +1,10 @@
 //! A second reader of NodaZoneData (`.nzd`) files.
 //!
-//! It is written from the papers alone (`01-scope.md`, `readings.md`, the published format) and shares no code,
+//! It is written from the papers alone (`01-scope.md`, the readings in `docs/DECISIONS.md`, the published format) and shares no code,
 //! table or text with the proved reader, so that its results can stand as expected results for that one.
 //! Plain over clever: everything is decoded first and judged in the order that the paper gives.
 //!
-//! The comments cite the sentences of `01-scope.md` as "01", entries of `readings.md` as "reading N".
+//! The comments cite the sentences of `01-scope.md` as "01", the points of `docs/DECISIONS.md` as "reading N".
 
 pub mod calendar;
 pub mod codes;

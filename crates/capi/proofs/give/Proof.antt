@@ -4,7 +4,6 @@ use lib.ListN.{length, length-set}
 use denote.Ref.{now}
 use mir.Syntax.{w64}
 use mir.Facts.{toZ-ofZ}
-use mathlib.Core.Path.{sym, ap, _∙_}
 use Rattle.capi.proofs.ReplyLaws.{too-short, stored, refused}
 use borrow.Author.Needs.{needs}
 use Rattle.capi.proofs.give.Statement.{statement}

@@ -1,9 +1,5 @@
-use mathlib.Core.Path.{sym}
-use mathlib.Core.Bool.{false}
 use native.Mathlib.Omega.{arith}
 use denote.Ref.{now}
-use mir.Syntax.{w64}
-use mir.Val.{toZ, ofZ}
 use mir.Facts.{toZ-ofZ}
 use Rattle.base.proofs.WriteLaws.{Writes}
 use Rattle.capi.specs.Functions.{integerForm}

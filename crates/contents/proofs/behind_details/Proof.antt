@@ -1,6 +1,6 @@
-use mathlib.Core.Path.{refl, ap, _∙_}
+use mathlib.Core.Path.{ap}
 use Rattle.places.specs.Placed.{ofRead}
-use Rattle.places.proofs.PlaceLaws.{then-in, on, off, here, stands-is}
+use Rattle.places.proofs.PlaceLaws.{then-in, on, off}
 use Rattle.contents.specs.Content.{pieceEnd, parseWall}
 use borrow.Author.Needs.{needs}
 use Rattle.contents.proofs.behind_details.Statement.{statement}

@@ -7,7 +7,7 @@ use Rattle.contents.specs.declared.PieceRead.the-variants.{Got}
 use Rattle.contents.proofs.GoingLaws.{at-start, piece-is, printed-length}
 use mathlib.Core.Path.{_≡_, refl, sym, ap, _∙_}
 use mathlib.Core.List.{List, [], _++_}
-use Prim.Native.Nat.{ℕ, _+_, _-_, _≤_, _<_}
+use Prim.Native.Nat.{ℕ, _+_, _-_, _≤_}
 use native.Mathlib.Omega.{arith}
 use lib.ListN.{length}
 use Rattle.base.specs.Moment.{endOfTime}

@@ -1,4 +1,4 @@
-use mathlib.Core.Path.{refl, ap, _∙_}
+use mathlib.Core.Path.{ap}
 use Rattle.places.specs.Placed.{ofRead}
 use Rattle.places.proofs.PlaceLaws.{then-in, on, off}
 use Rattle.contents.specs.Content.{parseHead, afterId}

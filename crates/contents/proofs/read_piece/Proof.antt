@@ -1,7 +1,6 @@
-use mathlib.Core.Path.{refl, ap, _∙_}
+use mathlib.Core.Path.{ap}
 use Rattle.places.specs.Placed.{ofRead}
 use Rattle.places.proofs.PlaceLaws.{then-in, stands-is}
-use Rattle.contents.specs.Content.{parsePiece}
 use Rattle.contents.proofs.PieceLaws.{piece-got, piece-bad, piece-cut}
 use borrow.Author.Needs.{needs}
 use Rattle.contents.proofs.read_piece.Statement.{statement}

@@ -1,6 +1,5 @@
-use mathlib.Core.Path.{ap, sym, _∙_, refl}
+use mathlib.Core.Path.{ap, sym}
 use lib.ListN.{length}
-use native.Mathlib.Omega.{arith}
 use Rattle.contents.proofs.HeadLaws.{print-other}
 use Rattle.contents.proofs.size.Statement.{statement}
 use Rattle.contents.proofs.size.Tie as tie

@@ -1,5 +1,3 @@
-use mathlib.Core.Path.{ap, sym, _∙_, refl}
-use native.Mathlib.Omega.{arith}
 use Rattle.contents.proofs.PutLaws.{copied, put-is}
 use Rattle.contents.proofs.HeadLaws.{print-other}
 use borrow.Author.Needs.{needs}

@@ -3,15 +3,13 @@ use Rattle.contents.specs.View.{PieceAt}
 use Rattle.contents.specs.declared.PieceRead.the-variants.{Got}
 use Rattle.contents.proofs.GoingLaws.{going-sum, piece-is}
 use denote.Ref.{now}
-use mathlib.Core.Path.{_≡_, refl, sym, ap, _∙_}
 use mathlib.Core.List.{List, [], _++_}
-use Prim.Native.Nat.{ℕ, _-_, _≤_, _<_}
+use Prim.Native.Nat.{ℕ, _-_}
 use native.Mathlib.Omega.{arith}
-use lib.ListN.{length}
 use Rattle.base.specs.Moment.{endOfTime}
 use Rattle.contents.specs.Content.{printPieces}
 use Rattle.contents.specs.View.{Put, piecesAt}
-use Rattle.contents.proofs.PutLaws.{InTwo, put-none, put-is, put-length, front-room, front-within, rest-room, both-sum, both-put, both-length}
+use Rattle.contents.proofs.PutLaws.{InTwo, put-none, put-is, put-length, front-within, rest-room, both-sum, both-put}
 use Rattle.contents.proofs.GoingLaws.{Going, printed, going-start, going-bad, going-next, going-done, going-two, going-moment}
 use Rattle.contents.proofs.write_pieces.Statement.{statement}
 use Rattle.contents.proofs.write_pieces.Tie as tie

@@ -1,6 +1,5 @@
 use denote.Ref.{now}
 use mathlib.Core.Path.{ap, sym}
-use mathlib.Core.List.{List}
 use native.Mathlib.Omega.{arith}
 use lib.ListN.{take}
 use Rattle.base.specs.Moment.{endOfTime}
@@ -8,7 +7,7 @@ use Rattle.places.specs.Placed.{ofRead, at, Stands}
 use Rattle.places.proofs.PlaceLaws.{stands-is}
 use Rattle.contents.specs.Content.{parseHead, printPieces, contentOf, print}
 use Rattle.contents.specs.View.{piecesAt, Put}
-use Rattle.contents.proofs.PutLaws.{InTwo, copied, front-room, front-within, rest-room, both-sum, both-put, both-length}
+use Rattle.contents.proofs.PutLaws.{InTwo, copied, front-room, front-within, rest-room, both-sum, both-put}
 use Rattle.contents.proofs.HeadLaws.{head-good, head-pieces, head-length, head-two}
 use borrow.Author.Needs.{needs}
 use Rattle.contents.proofs.write_zone.Statement.{statement}

@@ -2,7 +2,6 @@ use mathlib.Core.Path.{_≡_, refl, sym, ap, _∙_}
 use borrow.Author.Needs.{needs}
 use Prim.Native.Nat.{ℕ, _≤_, _<_, _-_}
 use native.Mathlib.Omega.{arith}
-use lib.ListN.{length, getD}
 use denote.Ref.{now}
 use Rattle.pool.specs.Pool.{stringsOf}
 use Rattle.pool.proofs.StringLaws.{below}

@@ -1,7 +1,7 @@
 use borrow.Author.Needs.{needs}
 use Rattle.places.proofs.PlaceLaws.{stands-is}
 use native.Mathlib.Omega.{arith}
-use mathlib.Core.Path.{ap, _∙_}
+use mathlib.Core.Path.{ap}
 use Rattle.intervals.specs.Scan.{ofInterval}
 use Rattle.intervals.proofs.ScanLaws.{Scanning, scanning-start, scanning-in, scanning-bad, scanning-next, scanning-done}
 use Rattle.intervals.proofs.read_intervals.Statement.{statement}

@@ -1,4 +1,3 @@
-use native.Mathlib.Omega.{arith}
 use Rattle.places.proofs.ShortLaws.{hours}
 use borrow.Author.Needs.{needs}
 use Rattle.places.proofs.moment_at.Statement.{statement}

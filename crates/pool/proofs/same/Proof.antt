@@ -1,4 +1,4 @@
-use Rattle.pool.proofs.EqualLaws.{equal-is}
+use Rattle.base.proofs.EqualLaws.{equal-is}
 use borrow.Author.Needs.{needs}
 use Rattle.pool.proofs.same.Statement.{statement}
 use Rattle.pool.proofs.same.Tie as tie

@@ -1,5 +1,5 @@
 use Prim.Native.Nat.{_*_, _^_, _<_, _-_}
-use Prim.Native.Nat.{_≤_, _-_}
+use Prim.Native.Nat.{_-_}
 use native.Mathlib.Omega.{arith}
 use borrow.Author.Needs.{needs}
 use Rattle.query_cases.proofs.main.Statement.{statement}

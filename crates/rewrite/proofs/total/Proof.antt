@@ -1,11 +1,9 @@
 use denote.Ref.{now}
-use mathlib.Core.Path.{_≡_, refl, sym, ap, _∙_}
-use mathlib.Core.List.{List, [], _∷_, _++_}
-use Prim.Native.Nat.{ℕ, _+_, _-_, _≤_, _<_}
+use mathlib.Core.Path.{_≡_, refl}
+use mathlib.Core.List.{List, []}
+use Prim.Native.Nat.{ℕ, _-_}
 use native.Mathlib.Omega.{arith}
 use lib.ListN.{length, length-append}
-use Rattle.rewrite.specs.Preferred.{printField}
-use Rattle.rewrite.specs.View.{fieldWith, partOf}
 use Rattle.rewrite.proofs.ReadyLaws.{Walking, walking-start, walking-done, walking-sum, Turn, walking-turn, turn-sum, file-length}
 use Rattle.rewrite.proofs.total.Statement.{statement}
 use Rattle.rewrite.proofs.total.Tie as tie

@@ -1,5 +1,5 @@
 use Rattle.tails.proofs.TailLaws.{standard-high}
-use mathlib.Core.Path.{ap, _∙_}
+use mathlib.Core.Path.{ap}
 use Rattle.places.proofs.PlaceLaws.{then-in, on, off}
 use Rattle.tails.specs.View.{ofStandard}
 use Rattle.tails.specs.Tail.{parseTail}

@@ -1,4 +1,4 @@
-//! The examples of `readings.md`, each with the result of reading C, and examples for entries that give none.
+//! The examples of the numbered points of `docs/DECISIONS.md`, each with the result that was chosen, and examples for entries that give none.
 //! Readings 26 to 31 are in `program.rs`, 33 to 35 in `codes.rs`.
 
 use crate::common::{all, asked, hex, part, utc, zone_file, A};

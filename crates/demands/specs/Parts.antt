@@ -1,0 +1,42 @@
+-- What demand 3 says: "More bytes never change what we have said." Assumes nothing: these are definitions.
+use Prim.Native.Nat.{ℕ, _≤_, _<_}
+use mathlib.Core.Path.{_≡_}
+use mathlib.Core.List.{List, _++_}
+use mathlib.Core.Logic.{_⊎_}
+use mathlib.Core.Option.{some}
+use lib.IntN.{ℤ}
+use lib.ListN.{take}
+use Rattle.frames.specs.Frame.{Field}
+use Rattle.frames.specs.Fields.{fields, firstAbove}
+use Rattle.questions.specs.Question.{numberOf, ask, nameOf}
+use Rattle.questions.specs.declared.Mark.{Mark}
+use Rattle.questions.specs.declared.Mark.the-variants.{More, All}
+use Rattle.questions.specs.declared.Found.{Found}
+use Rattle.questions.specs.declared.Answer.the-variants.{In, Refused}
+use Rattle.demands.specs.Zones.{Asked, NoZone}
+
+-- "If that gives anything but 'not yet', then whatever bytes follow, the bytes so lengthened give the same answer or refusal, asked with
+-- more expected or as all there is." "The same answer: every value that it carries is equal, the name byte for byte."
+pub record Standing (bs more id : List ℕ) (z : ℤ) (mark : Mark) : Type 0 where
+  pub same : (numberOf (ask bs id z More) ≡ 1 → ⊥) → ask (bs ++ more) id z mark ≡ ask bs id z More
+  pub same-name : (x : Found) → ask bs id z More ≡ In x → nameOf (bs ++ more) x ≡ nameOf bs x
+
+-- "If the file has the asked zone, the part gives 'not yet' exactly when that zone's field isn't all there, and else the answer that the
+-- whole file gives as all there is." A field is all there in the first k bytes where the place just past it is at most k.
+pub record There (f id : List ℕ) (z : ℤ) (g : Field) (k : ℕ) : Type 0 where
+  pub before : k < g .past → numberOf (ask (take k f) id z More) ≡ 1
+  pub from-then : g .past ≤ k → ask (take k f) id z More ≡ ask f id z All
+  pub answered : numberOf (ask f id z All) ≡ 0
+
+-- "If the file has no such zone, the part gives 'not yet' exactly when it holds no first byte of a field with an ID above 1, and else
+-- 'no such zone'", at that byte's place
+pub record Missing (f id : List ℕ) (z : ℤ) (k : ℕ) : Type 0 where
+  pub before : ((q : ℕ) → firstAbove 1 (fields f) ≡ some q → k ≤ q) → numberOf (ask (take k f) id z More) ≡ 1
+  pub from-then : (q : ℕ) → firstAbove 1 (fields f) ≡ some q → q < k → ask (take k f) id z More ≡ Refused 12 q
+
+-- "Take any well-formed file, any first part of it from nothing to the whole, any zone name and an instant in range, and ask the part with
+-- more expected": of the first k bytes of f
+pub record PartOf (f id : List ℕ) (z : ℤ) (k : ℕ) : Type 0 where
+  pub has-or-lacks : ((g : Field) × Asked f id g) ⊎ NoZone f id
+  pub has : (g : Field) → Asked f id g → There f id z g k
+  pub lacks : NoZone f id → Missing f id z k

@@ -1,0 +1,48 @@
+-- What demand 2 says to a reader: "On a well-formed file each instant from year 1 to year 9999 falls in exactly one interval of each zone,
+-- and the offset, savings, name and bounds given are those of the published format and its yearly rules." The intervals of a zone are a
+-- definition on its content (`InBody`), not by way of the lookup. Assumes nothing: these are definitions.
+use Prim.Native.Nat.{ℕ}
+use mathlib.Core.Path.{_≡_}
+use mathlib.Core.List.{List, []}
+use lib.IntN.{ℤ}
+use lib.ListN.{length, getD}
+use Rattle.base.specs.Parsed.{got}
+use Rattle.signed.specs.Instant.{instantOf, ticksOf}
+use Rattle.signed.specs.OffsetSum.{millisecondsOf}
+use Rattle.zones.specs.Content.{Zone}
+use Rattle.zones.specs.Parse.{parseZone}
+use Rattle.zones.specs.Intervals.{Holds, InBody}
+use Rattle.zones.specs.declared.Found.{Found as Interval}
+use Rattle.frames.specs.Frame.{Field}
+use Rattle.frames.specs.Fields.{fields}
+use Rattle.questions.specs.Question.{numberOf, ask, askPlain, nameOf}
+use Rattle.questions.specs.declared.Mark.{Mark}
+use Rattle.questions.specs.declared.Found.{Found}
+use Rattle.questions.specs.declared.Answer.the-variants.{In}
+use Rattle.checks.specs.Check.{filePool}
+use Rattle.demands.specs.Zones.{InRange}
+
+-- what is right of the answer at z of the file f to the ID bytes id, which are those of its zone w: of the plain question, and of the
+-- marked one whatever the mark
+pub record Right (f id : List ℕ) (z : ℤ) (w : Zone) : Type 0 where
+  pub number-is : numberOf (askPlain f id z) ≡ 0
+  pub given : Found
+  pub plain : askPlain f id z ≡ In given
+  pub marked : (mark : Mark) → ask f id z mark ≡ In given
+  -- it is of one interval of the zone, which holds the instant, and no other does
+  pub interval : Interval
+  pub of-zone : InBody (w .body) interval
+  pub holds : Holds interval (instantOf z)
+  pub only : (x : Interval) → InBody (w .body) x → Holds x (instantOf z) → x ≡ interval
+  -- and has its values
+  pub wall-is : given .wall ≡ millisecondsOf (interval .wall)
+  pub savings-is : given .savings ≡ millisecondsOf (interval .savings)
+  pub start-is : given .start ≡ ticksOf (interval .start)
+  pub end-is : given .end ≡ ticksOf (interval .end)
+  pub named : nameOf f given ≡ getD (filePool (fields f)) (interval .name) []
+
+-- the field g of f, in full, is a zone, and asked by its own ID bytes the file answers right at every instant in range
+pub record Answered (f : List ℕ) (g : Field) : Type 0 where
+  pub zone : Zone
+  pub parsed : parseZone (length (filePool (fields f))) (g .body) ≡ got zone []
+  pub right : (z : ℤ) → InRange z → Right f (getD (filePool (fields f)) (zone .id) []) z zone

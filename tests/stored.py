@@ -1,0 +1,55 @@
+"""What the scripts that make stored cases share: writing a program's cases, a count and a text as bytes, and asking the second reader."""
+import os
+import subprocess
+import sys
+import tempfile
+
+TOP = os.path.dirname(os.path.dirname(os.path.abspath(__file__)))
+
+
+def write_cases(program, cases):
+    """Writes the input lines and the expected output of a program: pairs of a line and what is written for it."""
+    lines = "".join(line + "\n" for line, _ in cases)
+    assert len(lines) <= 65536, "the program's input has %d bytes" % len(lines)
+    for name, text_ in ("stdin", lines), ("stdout", "".join(said + "\n" for _, said in cases)):
+        with open(os.path.join(TOP, "crates", program, name), "w") as f:
+            f.write(text_)
+    print("%d cases" % len(cases))
+
+
+def count(n):
+    """The shortest form of a count: seven bits a byte, low first, the top bit set on all but the last."""
+    out = []
+    while n > 127:
+        out.append(128 + n % 128)
+        n //= 128
+    return bytes(out + [n])
+
+
+def text(s):
+    """Length and bytes."""
+    b = s if isinstance(s, bytes) else s.encode("utf-8")
+    return count(len(b)) + b
+
+
+class Second:
+    """The second reader: the program that the command line names, or else the one that is built."""
+
+    def __init__(self):
+        self.program = sys.argv[1] if len(sys.argv) > 1 else self.built()
+        self.folder = tempfile.TemporaryDirectory()
+        self.file = os.path.join(self.folder.name, "zones.nzd")
+
+    @staticmethod
+    def built():
+        target = os.path.join(TOP, "target", "second_reader")
+        subprocess.run(["cargo", "build", "--offline", "--locked", "--release", "--quiet"], cwd=os.path.join(TOP, "tests", "second_reader"),
+                       env=dict(os.environ, CARGO_TARGET_DIR=target), check=True)
+        return os.path.join(target, "release", "second_reader")
+
+    def says(self, *words):
+        """What it writes, without the line feed."""
+        done = subprocess.run([self.program, *words], capture_output=True)
+        assert done.returncode in (0, 1), (words, done.stderr)
+        assert done.stdout.endswith(b"\n")
+        return done.stdout[:-1]

@@ -244,8 +244,8 @@ for hours, sign in ((128, 1), (128, -1), (2097151, 1), (2097151, -1)):
         alone(OLD, OLD + hours * HOUR + sign * MINUTE, T)
 alone(BASE + 1, BASE + 128 * HOUR, M, T)
 # no hours behind a mark: the edges of minutes
-for minutes, *wanted in ((MIN_MINUTES - 1, T), (MIN_MINUTES, M, T), (MIN_MINUTES + 1, M, T), (2 ** 28 - 1, M, T), (2 ** 28, M, T), (MAX_MINUTES - 1, M, T), (MAX_MINUTES, M, T),
-                         (MAX_MINUTES + 1, T), (60 * 128, T), (0, T), (-1, T)):
+for minutes, *wanted in ((MIN_MINUTES - 1, T), (MIN_MINUTES, M, T), (MIN_MINUTES + 1, M, T), (2 ** 28 - 1, M, T), (2 ** 28, M, T), (MAX_MINUTES - 1, M, T),
+                         (MAX_MINUTES, M, T), (MAX_MINUTES + 1, T), (60 * 128, T), (0, T), (-1, T)):
     alone(START, by_minutes(minutes), *wanted)
     if minutes in (MIN_MINUTES, MAX_MINUTES):
         alone(START, by_minutes(minutes) + 1, T)
@@ -272,7 +272,8 @@ for row in itertools.product((M, T), (H, M, T), (H, M, T), (H, M, T)):
 for row in ((T, T, T), (M, T, M), (T, M, M), (M, M, M)):
     good((AB, zone(0, [(START, "mark")] + list(zip((BASE, BASE + 127 * HOUR, BASE + 254 * HOUR), row)) + [(END, "mark")])))
 # hours, minutes and ticks by turns in the preferred file
-STEPS = [BASE, BASE + 128 * HOUR, BASE + 129 * HOUR, BASE + 129 * HOUR + 1, BASE + 1129 * HOUR + 1, BASE + 1200 * HOUR, LATE, LATE + HOUR, LATE + 129 * HOUR, LATE + 257 * HOUR, LAST]
+STEPS = [BASE, BASE + 128 * HOUR, BASE + 129 * HOUR, BASE + 129 * HOUR + 1, BASE + 1129 * HOUR + 1, BASE + 1200 * HOUR,
+         LATE, LATE + HOUR, LATE + 129 * HOUR, LATE + 257 * HOUR, LAST]
 MIXED = [(START, "mark")]
 for t in STEPS:
     MIXED.append((t, T))
@@ -291,12 +292,12 @@ for tail in ("30" "00" "1c030132" "01" "1c0a0132" "2f", "a15135" "01" "3e031034"
              "30" "01" "00010230" "01" "00010230" "30"):
     for form in (H, M, T):
         good((AB, zone(0, LONG[:3] + [(LONG[3][0], form)], tail=hex_(tail), names=(1, 0))))
-# names and IDs of two bytes that look like hours, in a pool of 8,192 strings
+# names and IDs of two bytes, which could be hours
 ZEROS = b"\x00"
 for strings, last in ((130, 129), (8192, 8191)):
     big = plain(0, count(strings) + ZEROS * strings)
-    for tail in (False, True):
-        good((big, zone(last, LONG + [] if tail else LONG + [(END, "mark")], names=(128, last, 127))), unit=ZEROS)
+    good((big, zone(last, LONG, names=(128, last, 127))), unit=ZEROS)
+    good((big, zone(last, LONG + [(END, "mark")], names=(128, last, 127))), unit=ZEROS)
     good((big, fixed(last, 0, 128)), unit=ZEROS)
 
 SHAPE = zone(0, LONG)[1]                # a zone in ticks: elsewhere it is copied
@@ -307,7 +308,8 @@ for data in (b"\x05" + b"2025b", b"\x00", b"\x03\xe2\x82\xac", b"\x09" + b"\x02"
     good((AB, zone(0, LONG), plain(2, data)))
 good((AB, zone(0, LONG), plain(255, SHAPE)))
 good((AB, plain(2, b"\x01x"), plain(3, SHAPE), plain(4, SHAPE)))
-ALL = [plain(2, b"\x01x")] + [plain(id_, ODD[id_ - 3]) for id_ in range(3, 10)] + [plain(9, b"9"), plain(254, b""), plain(255, SHAPE), plain(255, b""), plain(255, b"\x01")]
+ALL = [plain(2, b"\x01x")] + [plain(id_, ODD[id_ - 3]) for id_ in range(3, 10)]
+ALL += [plain(9, b"9"), plain(254, b""), plain(255, SHAPE), plain(255, b""), plain(255, b"\x01")]
 good((AB, zone(0, LONG), *ALL))
 good((AB, fixed(0), *ALL))
 good((pool(), *ALL))
@@ -329,17 +331,18 @@ for k in range(5):
 # ---- sizes that shrink across a count's length, and near it
 
 
-def sized(size, shrinks):
-    """A zone with preferred data of that size, whose source is longer by one of the ways below for each interval from the third on."""
+def sized(size, shrinks, id_=0):
+    """A zone with preferred data of that size. In its source the third interval and those behind it are longer by the numbers of shrinks."""
+    # the bytes that a transition loses: the hours that it stands for, and its form in the source
     step = {1: (16384, M), 2: (128, M), 6: (16384, T), 7: (128, T), 0: (128, H)}
     moments, walls = [(START, "mark"), (BASE, M)], [0, 0]
-    used = len(zone(0, moments + [(END, "mark")])[2])
+    used = len(zone(id_, moments + [(END, "mark")])[2])
     for shrink in shrinks + [0] * 4096:
         hours, form = step[shrink]
-        long_ = 5 + (hours == 16384) + (len(moments) == 127)
-        if used + long_ > size:
+        more = 5 + (hours == 16384) + (len(moments) == 127)    # from 128 intervals on their number has two bytes
+        if used + more > size:
             break
-        used += long_
+        used += more
         moments.append((moments[-1][0] + hours * HOUR, form))
         walls.append(0)
     # the rest of the size: longer offsets in the first intervals
@@ -347,20 +350,21 @@ def sized(size, shrinks):
         more = min(3, size - used)
         walls[k] = (0, 60000, 1000, 1)[more]
         used += more
-    made = zone(0, moments + [(END, "mark")], walls=walls)
+    made = zone(id_, moments + [(END, "mark")], walls=walls)
     assert (len(made[2]), len(made[1])) == (size, size + sum(shrinks)), (size, shrinks, len(made[2]), len(made[1]))
     return made
 
 
 UNIT = hex_("8001003030")
-for size, shrinks in ((127, [1]), (127, [2]), (127, [7]), (127, [7, 7, 7]), (126, [1]), (126, [2]), (121, [7]), (128, [1]), (128, [7]), (126, []), (127, []), (128, []), (100, [7] * 10)):
+for size, shrinks in ((127, [1]), (127, [2]), (127, [7]), (127, [7, 7, 7]), (126, [1]), (126, [2]), (121, [7]), (128, [1]), (128, [7]),
+                      (126, []), (127, []), (128, []), (100, [7] * 10)):
     good((AB, sized(size, shrinks), plain(3, b"\x01\x00")))
-for size, shrinks in ((16383, [1]), (16383, [2]), (16383, [7, 7]), (16382, [1]), (16380, [2, 2]), (16384, [1]), (16384, [6, 7]), (16383, []), (16384, []), (16300, [7] * 20)):
+for size, shrinks in ((16383, [1]), (16383, [2]), (16383, [7, 7]), (16382, [1]), (16380, [2, 2]), (16384, [1]), (16384, [6, 7]),
+                      (16383, []), (16384, []), (16300, [7] * 20)):
     both = (AB, sized(size, shrinks), plain(9, b"\x01\x00"))
     n = len(files(*both)[1])
     good(both, (n - 1, n, n + 1, n + 9) if sum(shrinks) == 1 else (n + 3,), unit=UNIT)
-# both kinds in one file
-good((AB, sized(127, [1]), (1, b"\x01" + sized(127, [2])[1][1:], b"\x01" + sized(127, [2])[2][1:]), plain(3, b"\x07" * 130)))
+good((AB, sized(127, [1]), sized(127, [2], 1), plain(3, b"\x07" * 130)))
 # the most intervals
 most = [(START, "mark"), (BASE, T)] + [(BASE + 128 * k * HOUR, T if k < 3 else H) for k in range(1, 4095)]
 good((AB, zone(0, most + [(END, "mark")])), unit=UNIT)
@@ -378,7 +382,7 @@ source, wanted = good(SHRINK)
 n = len(wanted)
 assert n + 8 < len(source)
 good(SHRINK, (0, 1, 4, 5, 9, n - 8, n - 2, n - 1, n, n + 1, n + 2, n + 8, len(source) - 1, len(source), len(source) + 1, len(source) + 40))
-PREFERRED = (AB, FOUR[:1] + (b"\x01" + FOUR[1][1:],) * 2, plain(8, b"\xaa" * 4))
+PREFERRED = (AB, zone(1, [(START, "mark"), (BASE, M), (BASE + 128 * HOUR, H), (END, "mark")]), plain(8, b"\xaa" * 4))
 n = len(files(*PREFERRED)[0])
 good(PREFERRED, (0, 1, n - 5, n - 4, n - 1, n, n + 1, n + 2, n + 30))
 good((pool(),), (0, 1, 3, 4, 6, 7, 8))
@@ -387,35 +391,33 @@ good((pool(),), (0, 1, 3, 4, 6, 7, 8))
 
 GOOD = files(AB, zone(0, LONG[:2] + [(END, "mark")]))[0]
 AT = len(GOOD)
-FIXED = hex_("0104" "01013000")
-for s, said in ((b"", "2 0"), (V[:3], "2 0"), (GOOD[:-1], "2 11"), (GOOD[:12], "2 11"), (GOOD + b"\x01", "2 %d" % AT), (GOOD + FIXED[:-1], "2 %d" % AT),
-                (GOOD + b"\x02\x01", "2 %d" % AT), (GOOD + b"\xff\x80", "2 %d" % AT),
-                (b"\x01" + GOOD[1:], "3 0"), (V[:3] + b"\x80" + GOOD[4:], "3 0"),
-                (GOOD + b"\x03" + count(4194304), "4 %d" % AT), (GOOD + hex_("0104" "01028120"), "4 %d" % AT), (GOOD + hex_("02038108ff"), "4 %d" % AT),
-                (GOOD + files(AB)[0][4:], "5 %d" % AT), (GOOD + hex_("0300" "0200"), "5 %d" % (AT + 2)), (GOOD + hex_("0700" "0700"), "5 %d" % (AT + 2)),
-                (V, "6 4"), (V + GOOD[11:], "6 4"),
-                (GOOD + b"\x03\x80\x00", "7 %d" % AT), (GOOD + hex_("0107" "01020100003030"), "9 %d" % AT), (GOOD + hex_("0104" "01016000"), "7 %d" % AT),
-                (GOOD + hex_("010a" "01020100003030" "7f0000"), "7 %d" % AT), (GOOD + hex_("010a" "01020100003030" "800100"), "7 %d" % AT),
-                (GOOD + hex_("0104" "01013002"), "8 %d" % AT), (GOOD + hex_("0104" "02013000"), "8 %d" % AT), (GOOD + hex_("0202" "01ff"), "8 %d" % AT),
-                (GOOD + hex_("0105" "0101300000"), "9 %d" % AT), (GOOD + hex_("0104" "01033000"), "9 %d" % AT), (GOOD + hex_("0200"), "9 %d" % AT),
-                (GOOD + hex_("0103" "010200"), "10 %d" % AT), (GOOD + hex_("0109" "010201" "00003030" "0000"), "10 %d" % AT),
-                (GOOD + hex_("0109" "010201" "01003030" "0100"), "10 %d" % AT), (GOOD + hex_("010d" "010202" "00003030" "00003030" "0100"), "10 %d" % AT),
-                (GOOD + FIXED[:1] + b"\x18" + hex_("010201" "00003030" "80c2d72f" "01" "3200" "1c0d0132" "00" "1c0a0132" "32"), "11 %d" % AT),
-                (GOOD + hex_("0104" "00013000"), "13 %d" % AT), (GOOD + GOOD[11:], "13 %d" % AT), (GOOD + FIXED + GOOD[11:] + b"\x03", "13 %d" % (AT + 6))):
+for s, said in ((b"", "2 0"), (V[:3], "2 0"), (GOOD[:-1], "2 11"), (GOOD[:12], "2 11"), (b"\x01" + GOOD[1:], "3 0"), (V[:3] + b"\x80" + GOOD[4:], "3 0"), (V, "6 4"),
+                (V + GOOD[11:], "6 4"), (GOOD + GOOD[11:], "13 %d" % AT), (GOOD + hex_("010401013000") + GOOD[11:] + b"\x03", "13 %d" % (AT + 6)),
+                (GOOD + hex_("03000200"), "5 %d" % (AT + 2)), (GOOD + hex_("07000700"), "5 %d" % (AT + 2))):
     refused(s, said)
+for number, h in ((2, "01"), (2, "0104" "010130"), (2, "0201"), (2, "ff80"), (4, "03" "80808002"), (4, "0104" "01028120"), (4, "0203" "8108ff"), (5, "0001" "00"),
+                  (7, "038000"), (7, "0104" "01016000"), (7, "010a" "010201" "00003030" "7f0000"), (7, "010a" "010201" "00003030" "800100"),
+                  (8, "0104" "01013002"), (8, "0104" "02013000"), (8, "0202" "01ff"),
+                  (9, "0105" "0101300000"), (9, "0104" "01033000"), (9, "0200"), (9, "0107" "010201" "00003030"),
+                  (10, "0103" "010200"), (10, "0109" "010201" "00003030" "0000"), (10, "0109" "010201" "01003030" "0100"),
+                  (10, "010d" "010202" "00003030" "00003030" "0100"),
+                  (11, "0118" "010201" "00003030" "80c2d72f" "01" "3200" "1c0d0132" "00" "1c0a0132" "32"), (13, "0104" "00013000")):
+    refused(GOOD + hex_(h), "%d %d" % (number, AT))
 # the range's ends passed: by hours, by minutes never, by ticks
-for t, code in ((LAST - 128 * HOUR + 1, count(128)), (LAST, b"\x02" + (LAST + 1).to_bytes(8, "big")), (LAST, count(MAX_HOURS)), (0, b"\x02" + (FIRST - 1).to_bytes(8, "big", signed=True)),
+for t, code in ((LAST - 128 * HOUR + 1, count(128)), (LAST, b"\x02" + (LAST + 1).to_bytes(8, "big")), (LAST, count(MAX_HOURS)),
+                (0, b"\x02" + (FIRST - 1).to_bytes(8, "big", signed=True)),
                 (0, b"\x02\x7f" + b"\xff" * 7), (0, b"\x02\x80" + bytes(7))):
     data = hex_("010202" "00003030") + forms(t, START)[T] + hex_("003030") + code + b"\x00"
     refused(GOOD + b"\x01" + count(len(data)) + data, "7 %d" % AT)
 # every cut of a file that shrinks, in just the room of the whole preferred file
-source, wanted = files((0, b"\x01\x01A", b"\x01\x01A"), zone(0, LONG[:2] + [(END, "mark")]), plain(3, b"\x01"))
+WHOLE = (pool(b"A"), zone(0, LONG[:2] + [(END, "mark")]), plain(3, b"\x01"))
+source, wanted = files(*WHOLE)
+ends = {len(files(*WHOLE[:k])[0]): k for k in range(4)}
 for k in range(len(source)):
-    said, out = second(source[:k])
-    if out is None:
-        put(source[:k], len(wanted), said, b"")
+    if k > 4 and k in ends:
+        good(WHOLE[:ends[k]], (len(wanted),))
     else:
-        put(source[:k], len(wanted), said, out)
+        refused(source[:k], "6 4" if k == 4 else "2 %d" % max(e for e in (0, *ends) if e <= k), (len(wanted),))
 
 lines = "".join(line + "\n" for line in cases)
 assert len(lines) <= 65536, "the program's input: %d" % len(lines)

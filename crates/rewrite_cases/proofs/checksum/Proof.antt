@@ -1,0 +1,29 @@
+use Prim.Native.Nat.{_≤_, _<_, _-_}
+use lib.ListN.{length}
+use borrow.Author.Needs.{needs}
+use Rattle.rewrite_cases.proofs.checksum.Statement.{statement}
+use Rattle.rewrite_cases.proofs.checksum.Tie as tie
+
+abbrev Inv-loop : tie.InvT-loop
+Inv-loop s a₀ b₀ i₀ a b i = (a < 65521) × (b < 65521) × (i ≤ length s)
+
+abbrev μ-loop : tie.MeasureT-loop
+μ-loop s a₀ b₀ i₀ a b i = length s - i
+
+pub checksum-spec : {M : Type 1} → statement M
+checksum-spec =
+    tie.close
+    (tie.spec
+    Inv-loop
+    μ-loop
+    (λ c. search needs)
+    (λ c. search needs)
+    (λ c κs. search needs)
+    (λ c. search needs)
+    (λ c. search needs)
+    (λ c. search needs)
+    (λ c. search needs)
+    (λ c. search needs)
+    (λ c. search needs)
+    (λ c. search needs)
+    (λ c. search needs))

@@ -1,0 +1,118 @@
+// Rewrites the whole files that the lines of its input spell. A line is `ROOM FILE` or `ROOM FRONT UNIT TIMES END`, where the file is
+// the front, the unit so many times, and the end. All is in hexadecimal, `-` for no bytes; the room and the times have three bytes.
+// The output has so many bytes as the room says, all AA before. For each line it writes `0` and the preferred file's length, or the
+// number and the place of a refusal; then the whole output as it is found after. An output of more than 512 bytes is written as its first
+// 256 bytes, its Adler-32 checksum and its last 32 bytes. The stored output comes from tests/rewrite_cases/make.py.
+use libc::STDIN_FILENO;
+use libc::STDOUT_FILENO;
+use rewrite::Rewritten;
+ghost use Prim.Native.Nat.{_≤_, _<_};
+ghost use lib.ListN.{length};
+ghost use Rattle.io.specs.Counts.{Counts};
+
+fn say(word: &[u8]) {
+    io::write_all(STDOUT_FILENO, word);
+}
+
+fn pair(n: u8, v: usize) {
+    io::print_decimal(STDOUT_FILENO, n as u64);
+    say(b" ");
+    io::print_decimal(STDOUT_FILENO, v as u64);
+    say(b" ");
+}
+
+fn show_result(r: Rewritten) {
+    match r {
+        Rewritten::Length(n) => pair(0, n),
+        Rewritten::Refused(n, p) => pair(n, p),
+    }
+}
+
+fn wide(b: u8) -> usize
+    ensures { λ r. ⌜ r < 256 ⌝ }
+{
+    b as usize
+}
+
+// The Adler-32 checksum of s.
+fn checksum(s: &[u8]) -> u64 {
+    let mut a: u64 = 1;
+    let mut b: u64 = 0;
+    let mut i: usize = 0;
+    while i < s.len() {
+        a = (a + wide(s[i]) as u64) % 65521;
+        b = (b + a) % 65521;
+        i += 1;
+    }
+    b * 65536 + a
+}
+
+fn show_output(out: &[u8]) {
+    let n = out.len();
+    if n == 0 {
+        say(b"-");
+        return;
+    }
+    if n <= 512 {
+        hex::print(out);
+        return;
+    }
+    let e = n - 32;
+    hex::print(&out[..256]);
+    say(b"..");
+    io::print_hex(STDOUT_FILENO, checksum(out), 8);
+    say(b"..");
+    hex::print(&out[e..]);
+}
+
+fn run_file(s: &[u8], out: &mut [u8]) {
+    show_result(rewrite::rewrite(s, out));
+    show_output(out);
+    say(b"\n");
+}
+
+// The number that the k-th word of line spells in three bytes.
+fn number(line: &[u8], k: usize) -> usize {
+    let mut size = [0u8; 3];
+    hex::word(line, k, &mut size);
+    wide(size[0]) * 65536 + wide(size[1]) * 256 + wide(size[2])
+}
+
+// The file, at the start of buf.
+fn build(line: &[u8], buf: &mut [u8]) -> usize
+    ensures { λ r. ⌜ Counts r (now (buf .exit)) ⌝ }
+{
+    let mut front = [0u8; 2048];
+    let mut unit = [0u8; 2048];
+    let mut end = [0u8; 2048];
+    let f = hex::word(line, 1, &mut front);
+    let u = hex::word(line, 2, &mut unit);
+    let e = hex::word(line, 4, &mut end);
+    let a = hex::append(buf, 0, &front[..f]);
+    let b = hex::repeat(buf, a, &unit[..u], number(line, 3));
+    hex::append(buf, b, &end[..e])
+}
+
+fn run_line(line: &[u8], buf: &mut [u8], out: &mut [u8]) {
+    let n = build(line, buf);
+    let w = hex::repeat(out, 0, b"\xAA", number(line, 0));
+    run_file(&buf[..n], &mut out[..w]);
+}
+
+fn run_all(s: &[u8], buf: &mut [u8], out: &mut [u8]) {
+    let mut at: usize = 0;
+    while at < s.len() {
+        let e = hex::find(s, at, 10);
+        run_line(&s[at..e], buf, out);
+        at = e + 1;
+    }
+}
+
+fn main() {
+    let mut input = io::large_buffer();
+    // Both lie on the stack, which has 8 MiB.
+    let mut buf = [0u8; 3145728];
+    let mut out = [0u8; 3145728];
+    let n = io::read_full(STDIN_FILENO, &mut input);
+    run_all(&input[..n], &mut buf, &mut out);
+}

@@ -1,21 +1,28 @@
 -- The loops over the transitions of a zone: where they stand, and how they go on. Assumes nothing.
-use mathlib.Core.Path.{_≡_, refl, sym, ap, _∙_}
+use mathlib.Core.Path.{_≡_, refl, sym, ap, _∙_, subst}
 use mathlib.Core.List.{List, [], _∷_, _++_, append-nil, append-assoc}
+use mathlib.Core.Logic.{_⊎_, inl, inr}
 use Prim.Native.Nat.{ℕ, zero, suc, _+_, _-_, _≤_, _<_}
 use native.Mathlib.Omega.{arith}
 use lib.ListN.{length, take, drop, length-append, length-drop}
 use lib.Seq.{length-take-le}
-use Rattle.base.specs.Parsed.{Parsed, got, bad, bind, parse, prepend}
+use Rattle.base.specs.Parsed.{Parsed, got, bad, bind, behindCode, prepend}
+use Rattle.base.specs.declared.Read.{Read}
+use Rattle.base.specs.declared.Read.the-variants.{Value, Refused as Unread}
+use Rattle.base.proofs.Parts.{Bytes}
+use Rattle.base.proofs.ByteLaws.{drop-bytes}
 use Rattle.base.specs.Moment.{endOfTime}
 use Rattle.base.proofs.MomentLaws.{Moment}
 use Rattle.base.proofs.ParseLaws.{bad-got, bind-good}
 use Rattle.transitions.specs.Transition.{readMoment, writeMoment}
+use Rattle.transitions.proofs.MomentLaws.{moment-read, Preferred, Longer, renewed}
 use Rattle.places.proofs.ValueLaws.{moment-is}
-use Rattle.contents.specs.Content.{Piece as PieceOf, afterMoment, pieceEnd, pieceOf, parsePiece, parsePieces, printPieces}
+use Rattle.contents.specs.Content.{Piece as PieceOf, parsePiece, parsePieces, printPieces}
 use Rattle.contents.specs.View.{PieceAt, HasPieces, piecesAt}
 use Rattle.contents.specs.declared.Piece.{Piece}
 use Rattle.contents.specs.declared.PieceRead.{PieceRead}
 use Rattle.contents.specs.declared.PieceRead.the-variants.{Got, Refused}
+use Rattle.contents.proofs.PieceLaws.{parse-shorter}
 use Rattle.contents.proofs.PutLaws.{InTwo}
 
 -- the bytes behind a transition, by their places
@@ -92,7 +99,7 @@ module _ (s : List ℕ) where
   pub printed-length : (n prev place : ℕ) (p : Piece) → PieceAt s n prev place (Got p)
       → length (printed s prev p) ≡ length (writeMoment prev (p .moment)) + (p .to - p .from)
   printed-length n prev place p h =
-      let o : p .from ≤ p .to = h .ordered in
+      let o : p .from ≤ p .to = h .coded .0 in
       let w : p .to ≤ length s = h .stands .within in
       let k : length (copiedOf s p) ≡ p .to - p .from = length-take-le (p .to - p .from) (drop (p .from) s) (rw length-drop (omega arith)) in
       rw (length-append, k)
@@ -102,16 +109,40 @@ module _ (s : List ℕ) where
   going-sum left place prev whole done g = rw (g .all, length-append) (omega arith)
 
   pub going-moment : (n prev place : ℕ) (p : Piece) → PieceAt s n prev place (Got p) → Moment (p .moment)
-  unfolding parsePiece afterMoment
-  going-moment n prev place p e =
-      let a = bind-good (parse (readMoment prev) (drop place s)) (afterMoment n) _ _ (e .stands .means) in
-      let b = bind-good (pieceEnd n (a .rest)) (pieceOf (a .first) (a .rest)) _ _ (a .on) in
-      let z : a .first ≡ p .moment = ap momentOf (b .on) in
-      rw (← z) (moment-is prev (drop place s) (a .first) (a .rest) (a .is))
+  going-moment n prev place p e = moment-is prev (drop place s) (p .moment) (drop (p .from) s) (e .coded .1)
+
+  pub going-forward : (n prev place : ℕ) (p : Piece) → place ≤ length s → PieceAt s n prev place (Got p) → place ≤ p .from
+  going-forward n prev place p h e =
+      let l = parse-shorter (readMoment prev) (drop place s) (p .moment) (drop (p .from) s) (e .coded .1) in
+      let k : length s - p .from ≤ length s - place = rw (length-drop, length-drop) at l in
+      let o : p .from ≤ p .to = e .coded .0 in
+      let m : p .to ≤ length s = e .stands .within in
+      omega arith
+
+  -- a code of at most three bytes is preferred
+  pub going-short : (n prev place : ℕ) (p : Piece) → Bytes s → place ≤ length s → PieceAt s n prev place (Got p) → p .from - place ≤ 3
+      → length (writeMoment prev (p .moment)) ≡ p .from - place
+  going-short n prev place p b h e l = go (readMoment prev (drop place s)) refl (e .coded .1)
     where
-      momentOf : Parsed PieceOf → ℕ
-      momentOf (got x r) = x .moment
-      momentOf (bad k) = 0
+      size : (k : ℕ) → Preferred prev (drop place s) (p .moment) k ⊎ Longer prev (p .moment) k → p .from - place ≡ k
+          → length (writeMoment prev (p .moment)) ≡ p .from - place
+      size k (inl x) i = x .size ∙ sym i
+      size k (inr x) i = absurd (omega (arith, x .long))
+
+      go : (x : Read) → x ≡ readMoment prev (drop place s) → behindCode (drop place s) x ≡ got (p .moment) (drop (p .from) s)
+          → length (writeMoment prev (p .moment)) ≡ p .from - place
+      go (Value w k) f g =
+          let i : w ≡ p .moment = cc in
+          let j : drop k (drop place s) ≡ drop (p .from) s = cc in
+          let d : length (drop k (drop place s)) ≡ length (drop (p .from) s) = ap length j in
+          let t = moment-read prev (drop place s) f in
+          let o : p .from ≤ p .to = e .coded .0 in
+          let m : p .to ≤ length s = e .stands .within in
+          let q : length s - place - k ≡ length s - p .from = rw (length-drop, length-drop, length-drop) at d in
+          let u : k ≤ length s - place = rw length-drop at (t .within) in
+          let v : Value (p .moment) k ≡ readMoment prev (drop place s) = subst (λ (y : ℕ). Value y k ≡ readMoment prev (drop place s)) i f in
+          size k (renewed prev (drop place s) (drop-bytes place s b) v) (omega arith)
+      go (Unread k) f g = bad-got g
 
   -- what is done and the piece that follows, in an output with room for the whole
   pub going-two : (left place prev : ℕ) (whole done : List ℕ) (p : Piece) (d : List ℕ) → Going s left place prev whole done → 0 < left

@@ -1,12 +1,14 @@
 -- The data of a zone in two parts: what stands before the first transition, and the transitions with what follows them.
 -- Assumes nothing.
-use mathlib.Core.Path.{_≡_, sym, ap, _∙_, subst}
+use mathlib.Core.Path.{_≡_, refl, sym, ap, _∙_, subst}
 use mathlib.Core.List.{List, [], _++_, append-nil}
 use Prim.Native.Nat.{ℕ, _+_, _-_, _≤_}
 use native.Mathlib.Omega.{arith}
 use lib.ListN.{length, take, drop, length-append, length-drop}
+use mathlib.Core.Bool.{Bool, true, false}
 use lib.Seq.{length-take-le}
-use borrow.Author.Tests.{ne-eqb}
+use lib.Dec.{eqb}
+use borrow.Author.Tests.{ne-eqb, eqb-true, eqb-false}
 use Rattle.base.specs.Parsed.{Parsed, got, bad, bind}
 use Rattle.base.specs.Moment.{endOfTime}
 use Rattle.base.proofs.ParseLaws.{bad-got, bind-good}
@@ -88,3 +90,21 @@ module _ (d : List ℕ) (h : HasContent d) where
 pub print-other : (i : ℕ) (d : List ℕ) → (i ≡ 1 → ⊥) → print (contentOf i d) ≡ d
 unfolding contentOf print printPieces
 print-other i d h = rw (ne-eqb i 1 h) (append-nil d)
+
+-- data as long as their preferred form are preferred, and data that aren't are a zone's
+module _ (i : ℕ) (d : List ℕ) (z : i ≡ 1 → HasContent d) where
+  by-id : {A : Type 0} → (i ≡ 1 → A) → ((i ≡ 1 → ⊥) → A) → A
+  by-id {A} f g = go (eqb i 1) refl
+    where
+      go : (t : Bool) → eqb i 1 ≡ t → A
+      go true e = f (eqb-true i 1 e)
+      go false e = g (eqb-false i 1 e)
+
+  pub print-same : length (print (contentOf i d)) ≡ length d → print (contentOf i d) ≡ d
+  print-same e =
+      by-id
+      (λ o. let h = z o in let c : contentOf i d ≡ h .content = ap (λ (j : ℕ). contentOf j d) o ∙ content-is d h in ap print c ∙ h .exact (ap (λ (x : Content). length (print x)) (sym c) ∙ e))
+      (λ o. print-other i d o)
+
+  pub print-zone : (length (print (contentOf i d)) ≡ length d → ⊥) → i ≡ 1
+  print-zone n = by-id (λ o. o) (λ o. absurd (n (ap length (print-other i d o))))

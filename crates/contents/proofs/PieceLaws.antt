@@ -30,7 +30,7 @@ end-details s place zero x h k = absurd (h refl)
 end-details s place (suc n) x h k = k
 
 -- a reader leaves no more than it was given
-parse-shorter : (read : List ℕ → Read) (s : List ℕ) (v : ℕ) (r : List ℕ) → parse read s ≡ got v r → length r ≤ length s
+pub parse-shorter : (read : List ℕ → Read) (s : List ℕ) (v : ℕ) (r : List ℕ) → parse read s ≡ got v r → length r ≤ length s
 parse-shorter read s v r e = go (read s) e
   where
     go : (x : Read) → behindCode s x ≡ got v r → length r ≤ length s
@@ -58,12 +58,12 @@ up-to-places s a e h k =
 module _ (s : List ℕ) (n prev place : ℕ) where
   pub piece-bad : (k : ℕ) → Stands s (parse (readMoment prev) (drop place s)) (no k) → PieceAt s n prev place (Unread k)
   unfolding parsePiece
-  piece-bad k h = record { stands = off h (afterMoment n) k refl; ordered = tt }
+  piece-bad k h = record { stands = off h (afterMoment n) k refl; coded = tt }
 
   pub piece-cut : (m a k : ℕ) → Stands s (parse (readMoment prev) (drop place s)) (at m a) → Stands s (pieceEnd n (drop a s)) (no k)
       → PieceAt s n prev place (Unread k)
   unfolding parsePiece afterMoment
-  piece-cut m a k h j = record { stands = on h (afterMoment n) m a (no k) refl (off j (pieceOf m (drop a s)) k refl); ordered = tt }
+  piece-cut m a k h j = record { stands = on h (afterMoment n) m a (no k) refl (off j (pieceOf m (drop a s)) k refl); coded = tt }
 
   pub piece-got : (m a v e : ℕ) → Stands s (parse (readMoment prev) (drop place s)) (at m a) → Stands s (pieceEnd n (drop a s)) (at v e)
       → PieceAt s n prev place (Got (record { moment = m; from = a; to = e }))
@@ -75,7 +75,7 @@ module _ (s : List ℕ) (n prev place : ℕ) where
       record {
         stands = on h (afterMoment n) m a _ refl (on j (pieceOf m (drop a s)) v e _ refl
             (record { means = ap (λ (xs : List ℕ). got (record { moment = m; copied = xs }) (drop e s)) (up-to-places s a e i k); within = k }));
-        ordered = let b : length s - e ≤ length s - a = rw (length-drop, length-drop) at o in omega arith;
+        coded = (let b : length s - e ≤ length s - a = rw (length-drop, length-drop) at o in omega arith, h .means);
       }
 
 -- how many transitions a zone has, by its flag

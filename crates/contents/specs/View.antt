@@ -3,8 +3,9 @@ use Prim.Native.Nat.{ℕ, _-_, _≤_}
 use mathlib.Core.Path.{_≡_}
 use mathlib.Core.List.{List, [], _++_}
 use lib.ListN.{length, take, drop}
-use Rattle.base.specs.Parsed.{Parsed, got, bad}
+use Rattle.base.specs.Parsed.{Parsed, got, bad, parse}
 use Rattle.base.specs.Moment.{endOfTime}
+use Rattle.transitions.specs.Transition.{readMoment}
 use Rattle.places.specs.Placed.{Placed, at, no, Stands}
 use Rattle.contents.specs.Content.{Piece as PieceOf, Content, parsePiece, parsePieces, parseContent, printPieces, print}
 use Rattle.contents.specs.declared.PieceRead.{PieceRead}
@@ -15,20 +16,22 @@ abbrev pub ofPiece : List ℕ → PieceRead → Placed PieceOf
 ofPiece s (Got p) = at (record { moment = p .moment; copied = take (p .to - p .from) (drop (p .from) s) }) (p .to)
 ofPiece s (Refused n) = no n
 
-abbrev pub Ordered : PieceRead → Type 0
-Ordered (Got p) = p .from ≤ p .to
-Ordered (Refused n) = Unit {0}
+-- its moment was read from a place of s up to its bytes
+abbrev pub Coded : List ℕ → ℕ → ℕ → PieceRead → Type 0
+Coded s prev place (Got p) = (p .from ≤ p .to) × (parse (readMoment prev) (drop place s) ≡ got (p .moment) (drop (p .from) s))
+Coded s prev place (Refused n) = Unit {0}
 
 -- the piece at a place of s, with n more behind it
 pub record PieceAt (s : List ℕ) (n prev place : ℕ) (r : PieceRead) : Type 0 where
   pub stands : Stands s (parsePiece n prev (drop place s)) (ofPiece s r)
-  pub ordered : Ordered r
+  pub coded : Coded s prev place r
 
--- d are the data of a zone, and their preferred form is no longer
+-- d are the data of a zone; their preferred form is no longer, and where it is as long it is d
 pub record HasContent (d : List ℕ) : Type 0 where
   pub content : Content
   pub is : parseContent d ≡ got content []
   pub shorter : length (print content) ≤ length d
+  pub exact : length (print content) ≡ length d → print content ≡ d
 
 -- from the place a of s on stand n pieces and nothing else, and their preferred form is no longer than s
 pub record HasPieces (s : List ℕ) (n a : ℕ) : Type 0 where

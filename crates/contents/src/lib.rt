@@ -71,6 +71,17 @@ fn read_piece(s: &[u8], at: usize, prev: u64, n: u64) -> PieceRead
     }
 }
 
+// The length of a transition's preferred form, where its code took k bytes: one of at most three is preferred.
+fn code_size(prev: u64, m: u64, k: usize) -> usize
+    requires { ⌜ (k ≤ 3 → length (writeMoment prev m) ≡ k) ⌝ }
+    ensures { λ r. ⌜ r ≡ length (writeMoment prev m) ⌝ }
+{
+    if k <= 3 {
+        return k;
+    }
+    transitions::moment_size(prev, m)
+}
+
 // The length of n pieces from a place on, in their preferred form.
 fn pieces_size(s: &[u8], at: usize, n: u64) -> usize
     requires { ⌜ HasPieces (now s) n at ⌝ }
@@ -88,7 +99,7 @@ fn pieces_size(s: &[u8], at: usize, n: u64) -> usize
                 return 0;
             }
             PieceRead::Got(p) => {
-                size += transitions::moment_size(prev, p.moment) + (p.to - p.from);
+                size += code_size(prev, p.moment, p.from - place) + (p.to - p.from);
                 place = p.to;
                 prev = p.moment;
             }
@@ -199,13 +210,13 @@ pub fn size(i: u8, d: &[u8]) -> usize
     d.len()
 }
 
-// Writes the preferred data of a field with the ID i.
-pub fn write(i: u8, d: &[u8], out: &mut [u8]) -> usize
-    requires { ⌜ (i ≡ 1 → HasContent (now d)) × (length (print (contentOf i (now d))) ≤ length (now out)) ⌝ }
+// Writes the preferred data of a field with the ID i, which are n bytes: as many as it has only where they are its own.
+pub fn write(i: u8, d: &[u8], n: usize, out: &mut [u8]) -> usize
+    requires { ⌜ (i ≡ 1 → HasContent (now d)) × (n ≡ length (print (contentOf i (now d)))) × (n ≤ length (now out)) ⌝ }
     ensures { λ r. ⌜ Put (print (contentOf i (now (d .entry)))) (now (out .entry)) r (now (out .exit)) ⌝ }
 {
-    if i == 1 {
-        return write_zone(d, out);
+    if n == d.len() {
+        return bytes::copy(d, out);
     }
-    bytes::copy(d, out)
+    write_zone(d, out)
 }

@@ -1,6 +1,7 @@
 -- Codes that were read from the front of some bytes: they read the same in front of any others. Assumes nothing.
 use mathlib.Core.Path.{_≡_, refl, ap, subst}
 use mathlib.Core.List.{List, [], _∷_, _++_}
+use mathlib.Core.Logic.{_⊎_, inl, inr}
 use Prim.Native.Nat.{ℕ, _+_, _-_, _≤_}
 use native.Mathlib.Omega.{arith}
 use lib.ListN.{length, drop, length-append, length-drop}
@@ -16,7 +17,7 @@ use Rattle.counts.proofs.CountLaws.{counted, count-form, count-written}
 use Rattle.offsets.specs.Offset.{readSum, writeSum}
 use Rattle.offsets.proofs.OffsetLaws.{sum-read, sum-form, sum-written}
 use Rattle.transitions.specs.Transition.{readMoment, writeMoment}
-use Rattle.transitions.proofs.MomentLaws.{moment-read, moment-written, never-longer}
+use Rattle.transitions.proofs.MomentLaws.{moment-read, moment-written, Preferred, Longer, renewed, never-longer}
 use Rattle.contents.specs.Content.{upTo}
 
 -- what p read from the front of s before r, as a, and that it reads the same in front of any bytes
@@ -66,15 +67,22 @@ byte-front (x ∷ s) v r b e =
       bytes = subst Bytes j (tail-bytes x s b);
     }
 
--- a transition in any form: its preferred form reads as the same moment, in front of any bytes, and is no longer
+-- a transition in any form: its preferred form reads as the same moment, in front of any bytes, is no longer, and where it is as long
+-- it is the same
 pub record Renewed (prev : ℕ) (s : List ℕ) (m : ℕ) (r : List ℕ) : Type 0 where
   pub again : (x : List ℕ) → parse (readMoment prev) (writeMoment prev m ++ x) ≡ got m x
   pub shorter : length (writeMoment prev m) + length r ≤ length s
+  pub exact : length (writeMoment prev m) + length r ≡ length s → s ≡ writeMoment prev m ++ r
   pub bytes : Bytes r
 
 pub moment-renewed : (prev : ℕ) (s : List ℕ) (m : ℕ) (r : List ℕ) → Bytes s → parse (readMoment prev) s ≡ got m r → Renewed prev s m r
 moment-renewed prev s m r b e = go (readMoment prev s) refl e
   where
+    same : (w n : ℕ) → Preferred prev s w n ⊎ Longer prev w n → n ≤ length s → length (writeMoment prev w) + (length s - n) ≡ length s
+        → s ≡ writeMoment prev w ++ drop n s
+    same w n (inl k) l e = k .form
+    same w n (inr k) l e = absurd (omega (arith, k .less))
+
     go : (x : Read) → x ≡ readMoment prev s → behindCode s x ≡ got m r → Renewed prev s m r
     go (Value w n) h k =
         let i : w ≡ m = cc in
@@ -85,6 +93,7 @@ moment-renewed prev s m r b e = go (readMoment prev s) refl e
         record {
           again = λ x. rw (moment-written prev w x (t .is), drop-append-seam (writeMoment prev w) x);
           shorter = rw length-drop (omega (arith, t .within));
+          exact = λ k. same w n (renewed prev s b h) (t .within) (rw length-drop at k);
           bytes = drop-bytes n s b;
         } in
         subst (λ (y : ℕ). Renewed prev s y r) i (subst (λ (y : List ℕ). Renewed prev s w y) j z)

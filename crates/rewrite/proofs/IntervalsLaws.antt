@@ -93,6 +93,7 @@ pub record Kept (pool n prev : ℕ) (s : List ℕ) (is : List Interval) (end : �
   pub listed : many (parseInterval pool) startOf n prev (printPieces prev pieces) ≡ got is rest
   pub ended : parse (readMoment (behind startOf prev is)) rest ≡ got end r
   pub shorter : length (printPieces prev pieces) ≤ length s
+  pub exact : length (printPieces prev pieces) ≡ length s → printPieces prev pieces ≡ s
 
 -- the end transition and all the rest
 end-kept : (pool prev : ℕ) (s : List ℕ) (end : ℕ) (r : List ℕ) → Bytes s → parse (readMoment prev) s ≡ got end r → Kept pool 0 prev s [] end r
@@ -112,6 +113,7 @@ end-kept pool prev s end r b e =
       listed = refl;
       ended = ap (parse (readMoment prev)) k ∙ t .again r;
       shorter = rw (k, length-append) (t .shorter);
+      exact = λ l. k ∙ sym (t .exact (sym (length-append (writeMoment prev end) r) ∙ ap length (sym k) ∙ l));
     }
 
 -- an interval m, whose details are followed by r, in front of what is kept of r
@@ -137,6 +139,21 @@ module _ (pool prev : ℕ) (s : List ℕ) (m : ℕ) (a : List ℕ) (i : Interval
   unfolding parseInterval afterStart
   interval-first x = rw (moment-first x, ok) (d .again x)
 
+  -- as long as its source, it is its source
+  same : (n : ℕ) (is : List Interval) (end : ℕ) (q : List ℕ) (k : Kept pool n m r is end q) → length (printed (printPieces m (k .pieces))) ≡ length s
+      → printed (printPieces m (k .pieces)) ≡ s
+  unfolding printed
+  same n is end q k j =
+      let xs : List ℕ = printPieces m (k .pieces) in
+      let y : length xs ≤ length r = k .shorter in
+      let z : length a ≡ length (d .used) + length r = ap length (d .splits) ∙ length-append (d .used) r in
+      let w : length (writeMoment prev m) + length a ≤ length s = t .shorter in
+      let v : length (writeMoment prev m) + length (d .used) + length xs ≡ length s = rw (length-append, length-append) at j in
+      append-assoc (writeMoment prev m) (d .used) xs
+      ∙ ap (λ (x : List ℕ). writeMoment prev m ++ (d .used ++ x)) (k .exact (omega arith))
+      ∙ ap (λ (x : List ℕ). writeMoment prev m ++ x) (sym (d .splits))
+      ∙ sym (t .exact (omega arith))
+
   interval-kept : (n : ℕ) (is : List Interval) (end : ℕ) (q : List ℕ) → parse (readMoment prev) s ≡ got m a → Kept pool n m r is end q
       → Kept pool (suc n) prev s (i ∷ is) end q
   unfolding many behind parsePieces printPieces p printed
@@ -156,6 +173,7 @@ module _ (pool prev : ℕ) (s : List ℕ) (m : ℕ) (a : List ℕ) (i : Interval
             let z : length a ≡ length (d .used) + length r = ap length (d .splits) ∙ length-append (d .used) r in
             let w : length (writeMoment prev m) + length a ≤ length s = t .shorter in
             simp (length-append) (omega arith);
+        exact = λ j. same n is end q k j;
       }
 
 -- EVERY LIST OF INTERVALS IS KEPT by its preferred form

@@ -72,7 +72,7 @@ zones-readable f (g ∷ gs) b r o = all-also first (zones-readable f gs b (all-t
     first i =
         let z = all-head r i in
         let k = zone-kept (length (filePool (fields f))) (g .body) (z .zone) [] (field-bytes f g b (all-head o)) (z .parsed) in
-        record { content = contentOf 1 (g .body); is = k .read; shorter = k .shorter }
+        record { content = contentOf 1 (g .body); is = k .read; shorter = k .shorter; exact = k .exact }
 
 -- A WELL-FORMED FILE IS READY to be rewritten
 pub file-ready : (f : List ℕ) → WellFormed f → Bytes f → Ready f

@@ -30,6 +30,7 @@ pub record ZoneKept (pool : ℕ) (d : List ℕ) (z : Zone) : Type 0 where
   pub read : parseContent d ≡ got (contentOf 1 d) []
   pub same : contentOf 1 (print (contentOf 1 d)) ≡ contentOf 1 d
   pub shorter : length (print (contentOf 1 d)) ≤ length d
+  pub exact : length (print (contentOf 1 d)) ≡ length d → print (contentOf 1 d) ≡ d
   pub parses : parseZone pool (print (contentOf 1 d)) ≡ got z []
 
 content-is : (d : List ℕ) (c : Content) → parseContent d ≡ got c [] → contentOf 1 d ≡ c
@@ -38,13 +39,14 @@ content-is d c e = rw e
 
 -- from the content c of d
 of-content : (pool : ℕ) (d : List ℕ) (z : Zone) (c : Content) → parseContent d ≡ got c [] → parseContent (print c) ≡ got c []
-    → length (print c) ≤ length d → parseZone pool (print c) ≡ got z [] → ZoneKept pool d z
-of-content pool d z c e f l p =
+    → length (print c) ≤ length d → (length (print c) ≡ length d → print c ≡ d) → parseZone pool (print c) ≡ got z [] → ZoneKept pool d z
+of-content pool d z c e f l x p =
     let i : contentOf 1 d ≡ c = content-is d c e in
     record {
       read = e ∙ ap (λ (x : Content). got x []) (sym i);
       same = ap (λ (x : Content). contentOf 1 (print x)) i ∙ content-is (print c) c f ∙ sym i;
       shorter = rw i l;
+      exact = rw i x;
       parses = ap (λ (x : Content). parseZone pool (print x)) i ∙ p;
     }
 
@@ -56,7 +58,7 @@ fixed-kept pool d z id r s e f p =
     let u : upTo d [] ≡ d = ap (λ (y : List ℕ). upTo y []) (sym (append-nil d)) ∙ up-to-front d [] in
     let c : parseContent d ≡ got (plain d) [] = rw (e, f) (ap (λ (y : List ℕ). got (plain y) []) u) in
     let k : print (plain d) ≡ d = append-nil d in
-    of-content pool d z (plain d) c (ap parseContent k ∙ c) (rw k (omega arith)) (ap (parseZone pool) k ∙ p)
+    of-content pool d z (plain d) c (ap parseContent k ∙ c) (rw k (omega arith)) (λ l. k) (ap (parseZone pool) k ∙ p)
 
 -- a zone whose count, intervals and end transition were read
 after-end : (pool id n : ℕ) (x : List ℕ) (is : List Interval) (q : List ℕ) (end : ℕ) (r : List ℕ) → eqb n 0 ≡ false → ltb 4096 n ≡ false
@@ -96,6 +98,9 @@ module _ (pool : ℕ) (d : List ℕ) (id : ℕ) (r s : List ℕ) (n : ℕ) (t : 
   unfolding parseZone afterId afterFlag parseListed
   head-zone x = ap (parseZone pool) (in-parts x) ∙ rw (a .again (b .used ++ (c .used ++ x)), b .again (c .used ++ x), c .again x)
 
+  same : (xs ys : List ℕ) → (length xs ≡ length ys → xs ≡ ys) → length head + length xs ≡ length head + length ys → head ++ xs ≡ head ++ ys
+  same xs ys f e = ap (λ (x : List ℕ). head ++ x) (f (omega arith))
+
   -- a list of intervals is kept, so the zone is
   listed-kept : (z : Zone) → afterCount pool id n t ≡ got z [] → ZoneKept pool d z
   unfolding afterCount afterIntervals print
@@ -112,6 +117,7 @@ module _ (pool : ℕ) (d : List ℕ) (id : ℕ) (r s : List ℕ) (n : ℕ) (t : 
       (ap parseContent head-splits ∙ head-content t (k .pieces) (k .read))
       (head-content xs (k .pieces) (k .again))
       (rw (length-append, j) (omega arith))
+      (λ e. same xs t (k .exact) (rw (length-append, j) at e) ∙ sym head-splits)
       (head-zone xs ∙ after-end pool id n xs (h .first) (k .rest) (i .first) (i .rest) (f .0) (g .0) (k .listed) (k .ended) ∙ i .on)
 
 -- THE PREFERRED DATA OF EVERY ZONE keep its content and its parse, and are no longer

@@ -77,8 +77,9 @@ fn write_field(i: u8, d: &[u8], out: &mut [u8]) -> usize
     requires { ⌜ (i ≡ 1 → HasContent (now d)) × (length (printField (fieldWith i (now d))) ≤ 4194304) × (length (printField (fieldWith i (now d))) ≤ length (now out)) ⌝ }
     ensures { λ r. ⌜ Put (printField (fieldWith i (now (d .entry)))) (now (out .entry)) r (now (out .exit)) ⌝ }
 {
-    let w = write_head(i, contents::size(i, d), out);
-    w + contents::write(i, d, &mut out[w..])
+    let n = contents::size(i, d);
+    let w = write_head(i, n, out);
+    w + contents::write(i, d, n, &mut out[w..])
 }
 
 // The length of the preferred file.

@@ -1,5 +1,5 @@
 -- Laws of the transition code's reader, over moments: its ways out, what a moment that reads is, the counts that name an instant,
--- that a moment that was written is read back, and that its written form is never longer than any other. Assumes nothing.
+-- that a moment that was written is read back, and that its written form is shorter than any other. Assumes nothing.
 use mathlib.Core.Path.{_≡_, refl, ap, sym, _∙_, subst⁻¹}
 use mathlib.Core.List.{List, [], _∷_, _++_}
 use mathlib.Core.Bool.{Bool, true, false}
@@ -9,6 +9,7 @@ use native.Mathlib.Omega.{arith}
 use native.Mathlib.Nat.{div-add-mod', mul-div-cancel, mul-mod-left}
 use lib.Dec.{ltb, leb, eqb}
 use lib.ListN.{length, take, drop, length-drop}
+use lib.Seq.{drop-drop}
 use mir.Syntax.{w64}
 use mir.Val.{toZ}
 use borrow.Author.Tests.{le-leb, lt-leb, lt-ltb, le-ltb, eq-eqb, ne-eqb, leb-true, ltb-true, ltb-false, eqb-true, eqb-false}
@@ -18,15 +19,16 @@ use Rattle.base.specs.declared.Read.{Read}
 use Rattle.base.specs.declared.Read.the-variants.{Value, Refused}
 use Rattle.base.proofs.Tests.{pick-holds, both-left, both-right}
 use Rattle.base.proofs.Parts.{Bytes, part-from}
-use Rattle.base.proofs.ByteLaws.{cons-bytes}
+use Rattle.base.proofs.ByteLaws.{cons-bytes, drop-bytes}
 use Rattle.base.proofs.MomentLaws.{Moment, finite-true, finite-yes, finite-low, finite-high}
-use Rattle.counts.specs.Groups.{readGroups}
+use Rattle.counts.specs.Groups.{readGroups, writeGroups}
 use Rattle.counts.specs.Count.{readCount, writeCount}
 use Rattle.counts.specs.Fixed.{fixedFrom, readFixed, fixedBytes}
-use Rattle.counts.proofs.CountLaws.{Counted, counted, count-written, count-form, count-mono, count-bytes}
-use Rattle.counts.proofs.FixedLaws.{length-fixed, fixed-bytes, read-fixed-written}
+use Rattle.counts.proofs.GroupWriteLaws.{write-most, write-least}
+use Rattle.counts.proofs.CountLaws.{Counted, counted, count-written, count-form, count-size, count-bytes}
+use Rattle.counts.proofs.FixedLaws.{fixed-between, fixed-form, length-fixed, fixed-bytes, read-fixed-written}
 use Rattle.signed.specs.Instant.{fromRaw, rawOf}
-use Rattle.signed.proofs.IntegerLaws.{finite-or-none, raw-fits, instant-raw}
+use Rattle.signed.proofs.IntegerLaws.{finite-or-none, raw-fits, instant-raw, raw-instant}
 use Rattle.transitions.specs.Transition.{hour, minute, year1800, inRange, hoursAfter, fromCount, fromTicks, afterCount, readMoment, unitsTo, hoursTo, minutesTo, countTo, writeMoment}
 
 -- ways out of the reader
@@ -308,56 +310,121 @@ moment-size p m h =
     let r = moment-read p (writeMoment p m ++ []) (sym (moment-written p m [] h)) in
     record { some = r .some; most = r .size }
 
--- a moment that reads has a written form that is never longer
-abbrev Longer : ℕ → Read → Type 0
-Longer p (Value m n) = length (writeMoment p m) ≤ n
-Longer p (Refused k) = Unit
+-- a moment that reads from n bytes of s: they are its written form, or that is shorter, and they are more than three
+pub record Preferred (p : ℕ) (s : List ℕ) (m n : ℕ) : Type 0 where
+  pub form : s ≡ writeMoment p m ++ drop n s
+  pub size : length (writeMoment p m) ≡ n
 
-exact : (s : List ℕ) (v n : ℕ) → Bytes s → Value v n ≡ readCount s → length (writeCount v) ≤ n
-exact s v n h e = omega (arith, count-form s h e .size)
+pub record Longer (p m n : ℕ) : Type 0 where
+  pub less : length (writeMoment p m) < n
+  pub long : 3 < n
 
--- by a count v that says it, or by a smaller one
-of-count : (p t v n : ℕ) → Finite t → (countTo p t ≡ 0 → ⊥) → countTo p t ≤ v → length (writeCount v) ≤ n → length (writeMoment p t) ≤ n
-of-count p t v n h k l m =
-    rw (write-instant p t h, ne-eqb (countTo p t) 0 k) (omega (arith, count-mono (countTo p t) v l))
+abbrev Renews : ℕ → List ℕ → Read → Type 0
+Renews p s (Value m n) = Preferred p s m n ⊎ Longer p m n
+Renews p s (Refused k) = Unit
+
+-- the count v of s, where it is the form of m
+of-count : (p : ℕ) (s : List ℕ) (m v n : ℕ) → Bytes s → Value v n ≡ readCount s → writeMoment p m ≡ writeCount v → Preferred p s m n
+of-count p s m v n h e w = let f = count-form s h e in record { form = rw w (f .form); size = rw w (sym (f .size)) }
+
+-- the form of an instant by a count
+instant-count : (p t : ℕ) → Finite t → (countTo p t ≡ 0 → ⊥) → writeMoment p t ≡ writeCount (countTo p t)
+instant-count p t h k = rw (write-instant p t h, ne-eqb (countTo p t) 0 k)
 
 hours-count : (p v : ℕ) → Finite p → 128 ≤ v → v < 2097152 → countTo p (p + v * hour) ≡ v
 hours-count p v h l m =
     let e : hoursTo p (p + v * hour) ≡ v = rw (finite-yes p h) (units-back hour 128 2097152 p (p + v * hour) v (omega arith) (record { sum = refl; low = l; below = m })) in
     rw (e, ne-eqb v 0 (omega arith))
 
+-- the lengths of counts of hours and of minutes
+count-short : (v : ℕ) → v < 2097152 → length (writeCount v) ≤ 3
+count-short v h = write-most 2 4 v h
+
+count-long : (v : ℕ) → 2097152 ≤ v → 4 ≤ length (writeCount v)
+count-long v h = write-least 3 4 v (omega arith) h
+
+-- minutes are said by their own count, or by one of hours
 minutes-count : (p v : ℕ) → 2097152 ≤ v → v ≤ 2147483647
-    → (countTo p (year1800 + v * minute) ≡ 0 → ⊥) × (countTo p (year1800 + v * minute) ≤ v)
+    → (countTo p (year1800 + v * minute) ≡ v) ⊎ ((countTo p (year1800 + v * minute) ≡ 0 → ⊥) × (countTo p (year1800 + v * minute) < 2097152))
 minutes-count p v l m = go (eqb (hoursTo p t) 0) refl
   where
     t : ℕ
     t = year1800 + v * minute
 
-    go : (x : Bool) → eqb (hoursTo p t) 0 ≡ x → (pick x (minutesTo t) (hoursTo p t) ≡ 0 → ⊥) × (pick x (minutesTo t) (hoursTo p t) ≤ v)
-    go true e =
-        let q : minutesTo t ≡ v = units-back minute 2097152 2147483648 year1800 t v (omega arith) (record { sum = refl; low = l; below = omega arith }) in
-        (λ z. omega arith, omega arith)
+    go : (x : Bool) → eqb (hoursTo p t) 0 ≡ x
+        → (pick x (minutesTo t) (hoursTo p t) ≡ v) ⊎ ((pick x (minutesTo t) (hoursTo p t) ≡ 0 → ⊥) × (pick x (minutesTo t) (hoursTo p t) < 2097152))
+    go true e = inl (units-back minute 2097152 2147483648 year1800 t v (omega arith) (record { sum = refl; low = l; below = omega arith }))
     go false e =
         let k : hoursTo p t ≡ 0 → ⊥ = eqb-false (hoursTo p t) 0 e in
-        (k, omega (arith, hours-to p t k .1 .below))
+        inr (k, hours-to p t k .1 .below)
 
-longer : (p : ℕ) (s : List ℕ) → Bytes s → Longer p (readMoment p s)
+-- ticks in n + 8 bytes are the form of their instant, or a count is shorter
+by-ticks-form : (p : ℕ) (s : List ℕ) (n : ℕ) → Bytes s → Value 2 n ≡ readCount s → 8 ≤ length (drop n s)
+    → Finite (fromRaw (fixedFrom 8 0 (drop n s))) → Renews p s (Value (fromRaw (fixedFrom 8 0 (drop n s))) (n + 8))
+unfolding writeGroups
+by-ticks-form p s n h e l g = go (eqb (countTo p t) 0) refl
+  where
+    raw : ℕ
+    raw = fixedFrom 8 0 (drop n s)
+
+    t : ℕ
+    t = fromRaw raw
+
+    one : n ≡ 1
+    one = counted s e .single (omega arith)
+
+    go : (x : Bool) → eqb (countTo p t) 0 ≡ x → Renews p s (Value t (n + 8))
+    go true z =
+        let w : writeMoment p t ≡ 2 ∷ fixedBytes 8 (rawOf t) = rw (write-instant p t g, z) in
+        let b : Bytes (drop n s) = drop-bytes n s h in
+        let r : rawOf t ≡ raw = raw-instant raw (fixed-between 8 0 (drop n s) b l .below) g in
+        let c : s ≡ writeCount 2 ++ drop n s = count-form s h e .form in
+        let f : drop n s ≡ fixedBytes 8 raw ++ drop 8 (drop n s) = fixed-form 8 0 (drop n s) b l in
+        inl (record {
+          form = c ∙ ap (λ (x : List ℕ). 2 ∷ x) f ∙ rw (w, r, drop-drop 8 n s);
+          size = rw (w, length-fixed 8 (rawOf t)) (omega (arith, one));
+        })
+    go false z =
+        let k : countTo p t ≡ 0 → ⊥ = eqb-false (countTo p t) 0 z in
+        inr (record { less = rw (instant-count p t g k) (omega (arith, count-size (countTo p t) .most, one)); long = omega (arith, one) })
+
+by-minutes-form : (p : ℕ) (s : List ℕ) (v n : ℕ) → Bytes s → Value v n ≡ readCount s → 2097152 ≤ v → Finite (year1800 + v * minute)
+    → Renews p s (Value (year1800 + v * minute) n)
+by-minutes-form p s v n h e l g = go (minutes-count p v l (counted s e .small))
+  where
+    t : ℕ
+    t = year1800 + v * minute
+
+    go : (countTo p t ≡ v) ⊎ ((countTo p t ≡ 0 → ⊥) × (countTo p t < 2097152)) → Renews p s (Value t n)
+    go (inl q) = inl (of-count p s t v n h e (instant-count p t g (λ z. omega arith) ∙ ap writeCount q))
+    go (inr q) =
+        let w : length (writeMoment p t) ≤ 3 = rw (instant-count p t g (q .0)) (count-short (countTo p t) (q .1)) in
+        let f : 3 < n = omega (arith, count-form s h e .size, count-long v l) in
+        inr (record { less = omega arith; long = f })
+
+renews : (p : ℕ) (s : List ℕ) → Bytes s → Renews p s (readMoment p s)
 unfolding writeMoment
-longer p s h = moment-holds p s (Longer p) (record {
+renews p s h = moment-holds p s (Renews p s) (record {
   refused = λ k. tt;
-  start = λ n e. exact s 0 n h e;
-  end = λ n e. exact s 1 n h e;
+  start = λ n e. inl (of-count p s startOfTime 0 n h e refl);
+  end = λ n e. inl (of-count p s endOfTime 1 n h e refl);
   hours = λ v n e l m f g.
       let q : countTo p (p + v * hour) ≡ v = hours-count p v f l m in
-      of-count p (p + v * hour) v n g (λ z. omega arith) (omega arith) (exact s v n h e);
-  minutes = λ v n e l g.
-      let q = minutes-count p v l (counted s e .small) in
-      of-count p (year1800 + v * minute) v n g (q .0) (q .1) (exact s v n h e);
-  ticks = λ n e l g. omega (arith, moment-size p (fromRaw (fixedFrom 8 0 (drop n s))) (inr (inr g)) .most, counted s e .some);
+      inl (of-count p s (p + v * hour) v n h e (instant-count p (p + v * hour) g (λ z. omega arith) ∙ ap writeCount q));
+  minutes = λ v n e l g. by-minutes-form p s v n h e l g;
+  ticks = λ n e l g. by-ticks-form p s n h e l g;
 })
 
+pub renewed : (p : ℕ) (s : List ℕ) {m n : ℕ} → Bytes s → Value m n ≡ readMoment p s → Preferred p s m n ⊎ Longer p m n
+renewed p s h e = subst⁻¹ (Renews p s) e (renews p s h)
+
+-- so it is never longer
 pub never-longer : (p : ℕ) (s : List ℕ) {m n : ℕ} → Bytes s → Value m n ≡ readMoment p s → length (writeMoment p m) ≤ n
-never-longer p s h e = subst⁻¹ (Longer p) e (longer p s h)
+never-longer p s {m} {n} h e = go (renewed p s h e)
+  where
+    go : Preferred p s m n ⊎ Longer p m n → length (writeMoment p m) ≤ n
+    go (inl k) = omega (arith, k .size)
+    go (inr k) = omega (arith, k .less)
 
 -- the written form is bytes
 pub moment-bytes : (p m : ℕ) → Bytes (writeMoment p m)

@@ -1,22 +1,25 @@
+use denote.Ref.{now}
+use mathlib.Core.Path.{_≡_, sym, _∙_}
 use Rattle.contents.proofs.PutLaws.{copied, put-is}
-use Rattle.contents.proofs.HeadLaws.{print-other}
+use Rattle.contents.proofs.HeadLaws.{print-same, print-zone}
 use borrow.Author.Needs.{needs}
 use Rattle.contents.proofs.write.Statement.{statement}
 use Rattle.contents.proofs.write.Tie as tie
 
-write-zone-requires : tie.Need-write-zone-requires
-write-zone-requires c κs = (c .before .before .before .before .pre .0 (c .before .if1 .taken), rw (c .before .if1 .taken) at (c .before .before .before .before .pre .1))
+-- data that aren't as long as their preferred form are a zone's
+zone : (c : tie.Else1) → c .before .before .before .args .i ≡ 1
+zone c = print-zone _ (now (c .before .before .before .args .d)) (c .before .before .before .pre .0) (λ e. c .if1 .left (c .before .before .before .pre .1 ∙ e))
 
 returns : tie.Need-returns
-returns c = rw (c .before .before .before .before .if1 .taken) (c .before .before .write-zone .ensures)
+returns c = put-is _ _ _ _ _ (copied _ _ _ _ (c .before .before .copy .ensures .0) (c .before .before .copy .ensures .1)) (print-same (c .before .before .before .before .before .before .before .args .i) _ (c .before .before .before .before .before .before .before .pre .0) (sym (c .before .before .before .before .before .before .before .pre .1) ∙ c .before .before .before .before .if1 .taken))
 
-copy-requires : tie.Need-copy-requires
-copy-requires c κs = rw (print-other _ _ (c .before .if1 .left)) at (c .before .before .before .before .pre .1)
+write-zone-requires : tie.Need-write-zone-requires
+write-zone-requires c κs = (c .before .before .before .before .pre .0 (zone (c .before)), rw (zone (c .before)) at (rw (c .before .before .before .before .pre .1) at (c .before .before .before .before .pre .2)))
 
 returns-2 : tie.Need-returns-2
-returns-2 c = put-is _ _ _ _ _ (copied _ _ _ _ (c .before .before .copy .ensures .0) (c .before .before .copy .ensures .1)) (print-other _ _ (c .before .before .before .before .if1 .left))
+returns-2 c = rw (zone (c .before .before .before .before)) (c .before .before .write-zone .ensures)
 
 pub write-spec : {M : Type 1} → statement M
 write-spec =
     tie.close
-    (tie.spec write-zone-requires (λ c. search needs) returns copy-requires (λ c. search needs) returns-2)
+    (tie.spec (λ c κs. search needs) (λ c. search needs) returns write-zone-requires (λ c. search needs) returns-2)

@@ -46,10 +46,10 @@ returns : tie.Need-returns Inv-loop μ-loop
 returns c = absurd (going-bad _ _ (c .before .before .before .before .loop .place) _ _ _ _ (c .before .before .before .before .loop .inv .1) (omega arith) (piece-is _ (c .before .before .read-piece .ensures) (c .enum-told .given .1)))
 
 sub-write-piece : tie.Need-sub-write-piece Inv-loop μ-loop
-sub-write-piece c = piece (c .before) .ordered
+sub-write-piece c = piece (c .before) .coded .0
 
 part-write-piece-start : tie.Need-part-write-piece-start Inv-loop μ-loop
-part-write-piece-start c = piece (c .before) .ordered
+part-write-piece-start c = piece (c .before) .coded .0
 
 part-write-piece-end : tie.Need-part-write-piece-end Inv-loop μ-loop
 part-write-piece-end c = piece (c .before) .stands .within

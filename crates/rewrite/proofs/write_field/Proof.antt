@@ -24,7 +24,7 @@ part-write-start : tie.Need-part-write-start
 part-write-start c = front-within (two (c .before .before .before .before)) (c .before .before .write-head .ensures)
 
 write-requires : tie.Need-write-requires
-write-requires c κs = (c .before .before .before .before .before .before .before .before .pre .0, rest-room (two (c .before .before .before .before .before)) (c .before .before .before .write-head .ensures))
+write-requires c κs = (c .before .before .before .before .before .before .before .before .pre .0, c .before .before .before .before .before .size .ensures, rw (c .before .before .before .before .before .size .ensures) (rest-room (two (c .before .before .before .before .before)) (c .before .before .before .write-head .ensures)))
 
 add-result : tie.Need-add-result
 add-result c = omega (arith, both-sum (two (c .before .before .before .before .before .before .before .before)) (c .before .before .before .before .before .before .write-head .ensures) (c .before .before .write .ensures), c .before .before .before .before .before .before .before .before .before .before .before .good)

@@ -3,9 +3,13 @@ use base::Read;
 use texts::Text;
 ghost use mathlib.Core.Path.{_≡_};
 ghost use mathlib.Core.List.{[]};
-ghost use Prim.Native.Nat.{_≤_, _<_};
-ghost use lib.ListN.{length, drop, getD};
+ghost use mathlib.Core.Bool.{true};
+ghost use Prim.Native.Nat.{_-_, _≤_, _<_};
+ghost use lib.ListN.{length, take, drop, getD};
 ghost use lib.Seq.{sets};
+ghost use lib.Dec.{eqb};
+ghost use Rattle.base.specs.Pick.{pick};
+ghost use Rattle.texts.specs.Ascii.{ascii};
 ghost use Rattle.pool.specs.Pool.{allStrings, parsePool, checked, stringsOf};
 ghost use Rattle.pool.specs.Index.{readStarts, startsOf, Ready, spanOf};
 ghost use Rattle.base.specs.Equal.{equal};
@@ -19,15 +23,26 @@ pub enum Checked {
     Refused(u8),
 }
 
-// The strings of d from a place on, k of them and nothing behind. starts gets the place of each.
-fn fill(d: &[u8], from: usize, k: usize, starts: &mut [u32; 8192]) -> Checked
-    requires { ⌜ (from ≤ length (now d)) × (from ≤ 5) × (k ≤ 8192) ⌝ }
+// How many of the first n elements stand from the place at on.
+fn behind(n: usize, at: usize) -> usize
+    ensures { λ r. ⌜ r ≡ n - at ⌝ }
+{
+    if at < n {
+        return n - at;
+    }
+    0
+}
+
+// The strings of d from a place on, k of them and nothing behind. starts gets the place of each. The bytes up to the place `plain` are ASCII.
+fn fill(d: &[u8], from: usize, k: usize, plain: usize, starts: &mut [u32; 8192]) -> Checked
+    requires { ⌜ (from ≤ length (now d)) × (from ≤ 5) × (k ≤ 8192) × (ascii (take (plain - from) (drop from (now d))) ≡ true) ⌝ }
     ensures { λ r. ⌜ (r ≡ checked (allStrings k (drop from (now (d .entry))))) × (now (starts .exit) ≡ sets (now (starts .entry)) 0 (readStarts k from (drop from (now (d .entry))))) ⌝ }
 {
     let mut at = from;
     let mut i: usize = 0;
     while i < k {
-        let t = texts::read_text(&d[at..]);
+        let front = behind(plain, at);
+        let t = texts::read_text_in(&d[at..], front);
         match t {
             Text::Refused(m) => {
                 return Checked::Refused(m);
@@ -57,7 +72,8 @@ pub fn check_pool(d: &[u8], starts: &mut [u32; 8192]) -> Checked
             if 8192 < k {
                 return Checked::Refused(4);
             }
-            fill(d, a, k, starts)
+            let plain = texts::ascii_front(&d[a..]);
+            fill(d, a, k, a + plain, starts)
         }
     }
 }
@@ -115,11 +131,27 @@ pub fn text_of<'a>(pool: &'a [u8], field: &'a [u8], starts: &[u32; 8192], h: Hol
     }
 }
 
-// Whether two strings have the same bytes.
+// 1 where two bytes differ, else 0.
+fn differ(a: u8, b: u8) -> u8
+    ensures { λ r. ⌜ r ≡ pick (eqb a b) 0 1 ⌝ }
+{
+    if a == b { 0 } else { 1 }
+}
+
+// Whether two strings have the same bytes. The loop has no early exit, so that it compiles to wide operations.
 pub fn same(a: &[u8], b: &[u8]) -> bool
     ensures { λ r. ⌜ r ≡ equal (now (a .entry)) (now (b .entry)) ⌝ }
 {
-    check::same(a, b)
+    if a.len() != b.len() {
+        return false;
+    }
+    let mut m: u8 = 0;
+    let mut i: usize = 0;
+    while i < a.len() {
+        m = texts::larger(m, differ(a[i], b[i]));
+        i += 1;
+    }
+    m == 0
 }
 
 // Whether the k-th string is id.

@@ -3,7 +3,8 @@ use base::Read;
 use base::Wrote;
 ghost use mathlib.Core.Path.{_≡_};
 ghost use Prim.Native.Nat.{max, _≤_};
-ghost use lib.ListN.{length};
+ghost use lib.ListN.{length, take};
+ghost use mathlib.Core.Bool.{true};
 ghost use Rattle.base.specs.Writing.{bytes, wrote, placed};
 ghost use Rattle.texts.specs.Utf8.{lead as leadOf, after as afterOf, utf8};
 ghost use Rattle.texts.specs.Ascii.{ascii};
@@ -90,7 +91,7 @@ fn scan(s: &[u8]) -> bool
     k == 0
 }
 
-fn larger(a: u8, b: u8) -> u8
+pub fn larger(a: u8, b: u8) -> u8
     ensures { λ r. ⌜ r ≡ max a b ⌝ }
 {
     if a < b { b } else { a }
@@ -107,6 +108,25 @@ fn all_ascii(s: &[u8]) -> bool
         i += 1;
     }
     m < 0x80
+}
+
+// How many bytes at the front of s are ASCII, found block by block: there may be more.
+pub fn ascii_front(s: &[u8]) -> usize
+    ensures { λ r. ⌜ (r ≤ length (now (s .entry))) × (ascii (take r (now (s .entry))) ≡ true) ⌝ }
+{
+    let mut at: usize = 0;
+    while 512 <= s.len() - at {
+        let e = at + 512;
+        if all_ascii(&s[at..e]) {
+            at = e;
+        } else {
+            return at;
+        }
+    }
+    if all_ascii(&s[at..]) {
+        return s.len();
+    }
+    at
 }
 
 // Whether s is UTF-8.
@@ -127,8 +147,9 @@ pub enum Text {
     Refused(u8),
 }
 
-// The text at the front of s.
-pub fn read_text(s: &[u8]) -> Text
+// The text at the front of s, of which the first `plain` bytes are known to be ASCII: what lies in them is not looked at again.
+pub fn read_text_in(s: &[u8], plain: usize) -> Text
+    requires { ⌜ ascii (take plain (now s)) ≡ true ⌝ }
     ensures { λ r. ⌜ r ≡ readText (now (s .entry)) ⌝ }
 {
     let g = counts::read_count(s);
@@ -143,12 +164,22 @@ pub fn read_text(s: &[u8]) -> Text
                 return Text::Refused(9);
             }
             let e = a + n;
+            if e <= plain {
+                return Text::Part(a, n);
+            }
             if is_utf8(&s[a..e]) {
                 return Text::Part(a, n);
             }
             Text::Refused(8)
         }
     }
+}
+
+// The text at the front of s.
+pub fn read_text(s: &[u8]) -> Text
+    ensures { λ r. ⌜ r ≡ readText (now (s .entry)) ⌝ }
+{
+    read_text_in(s, 0)
 }
 
 // The bytes of the text at the front of s, as a part of s: none where it is refused.

@@ -1,4 +1,4 @@
-"""What the scripts that make stored cases share: writing a program's cases, a count and a text as bytes, and asking the second reader."""
+"""What the scripts that make stored cases share: writing a program's cases, counts, texts and fields as bytes, and asking the second reader."""
 import os
 import subprocess
 import sys
@@ -30,6 +30,20 @@ def text(s):
     """Length and bytes."""
     b = s if isinstance(s, bytes) else s.encode("utf-8")
     return count(len(b)) + b
+
+
+def field(id_, data):
+    """ID, size and data."""
+    return bytes([id_]) + count(len(data)) + data
+
+
+def hex_(h):
+    return bytes.fromhex(h)
+
+
+def parts(front, unit, times, end):
+    """The words of a line that spell the front, the unit so many times, and the end."""
+    return "%s %s %06x %s" % (front.hex(), unit.hex(), times, end.hex() or "-")
 
 
 class Second:

@@ -10,7 +10,7 @@ import os
 import sys
 
 sys.path.insert(0, os.path.join(os.path.dirname(os.path.abspath(__file__)), ".."))
-from stored import Second, count, write_cases, text  # noqa: E402
+from stored import Second, count, field, hex_, parts, text, write_cases  # noqa: E402
 
 SECOND = Second()
 FILE = SECOND.file
@@ -19,20 +19,12 @@ second = SECOND.says
 
 # ---- codes, fields and zones
 
-def field(id_, data):
-    return bytes([id_]) + count(len(data)) + data
-
-
 def pool(*strings):
     return field(0, count(len(strings)) + b"".join(text(s) for s in strings))
 
 
 def fixed(id_, offset=0x30, name=0):
     return count(id_) + b"\x01" + bytes([offset]) + count(name)
-
-
-def hex_(h):
-    return bytes.fromhex(h)
 
 
 V = bytes(4)
@@ -86,9 +78,9 @@ def ask(id_, ticks):
     return b" ".join(values).decode() + " " + (name.hex() or "-")
 
 
-def case(s, id_=b"UTC", ticks=0, checked=None, asked=None, text_=None, parts=None):
+def case(s, id_=b"UTC", ticks=0, checked=None, asked=None, text_=None, spelled=None):
     """One line. checked, text_ and asked are what the check, the version text and the question give by 01-scope.md, where they are said."""
-    line = "%d %s %s" % (ticks, id_.hex() or "-", parts or s.hex() or "-")
+    line = "%d %s %s" % (ticks, id_.hex() or "-", spelled or s.hex() or "-")
     if line not in cases:
         with open(FILE, "wb") as f:
             f.write(s)
@@ -104,7 +96,7 @@ def refused(s, said, id_=b"UTC"):
 
 def long_case(front, unit, times, end, *more, **said):
     """A file that is stored as its front, a unit so many times, and its end."""
-    case(front + unit * times + end, *more, **said, parts="%s %s %06x %s" % (front.hex(), unit.hex(), times, end.hex() or "-"))
+    case(front + unit * times + end, *more, **said, spelled=parts(front, unit, times, end))
 
 
 # ---- the worked file, whole, longer and cut

@@ -8,50 +8,30 @@ The first word of the command line, if there is one, is the second reader's prog
 """
 import itertools
 import os
-import subprocess
 import sys
-import tempfile
 import zlib
 
-TOP = os.path.abspath(os.path.join(os.path.dirname(os.path.abspath(__file__)), "..", ".."))
-CRATE = os.path.join(TOP, "crates", "rewrite_cases")
+sys.path.insert(0, os.path.join(os.path.dirname(os.path.abspath(__file__)), ".."))
+from stored import Second, count, field, hex_, parts, text, write_cases  # noqa: E402
 
-
-def built():
-    target = os.path.join(TOP, "target", "second_reader")
-    subprocess.run(["cargo", "build", "--offline", "--locked", "--release", "--quiet"], cwd=os.path.join(TOP, "tests", "second_reader"),
-                   env=dict(os.environ, CARGO_TARGET_DIR=target), check=True)
-    return os.path.join(target, "release", "second_reader")
-
-
-READER = sys.argv[1] if len(sys.argv) > 1 else built()
-FOLDER = tempfile.TemporaryDirectory()
-FILE, OUT = os.path.join(FOLDER.name, "zones.nzd"), os.path.join(FOLDER.name, "out.nzd")
+SECOND = Second()
+OUT = os.path.join(SECOND.folder.name, "out.nzd")
 
 
 def second(s):
     """What the second reader gives for a rewrite: the line that it writes, and the preferred file or None."""
-    with open(FILE, "wb") as f:
+    with open(SECOND.file, "wb") as f:
         f.write(s)
-    done = subprocess.run([READER, "rewrite", FILE, OUT], capture_output=True, text=True)
-    assert done.returncode in (0, 1), done.stderr
-    if done.returncode == 1:
-        return done.stdout.strip(), None
+    said = SECOND.says("rewrite", SECOND.file, OUT).decode()
+    if not said.startswith("0 "):
+        return said, None
     with open(OUT, "rb") as f:
         out = f.read()
-    assert done.stdout == "0 %d\n" % len(out)
-    return done.stdout.strip(), out
+    assert said == "0 %d" % len(out)
+    return said, out
 
 
 # ---- codes
-
-def count(n):
-    out = []
-    while n > 127:
-        out.append(128 + n % 128)
-        n //= 128
-    return bytes(out + [n])
-
 
 def offset(ms):
     sum_ = ms + 86400000
@@ -59,10 +39,6 @@ def offset(ms):
         if sum_ % unit == 0:
             out = (sum_ // unit).to_bytes(size, "big")
             return bytes([prefix | out[0]]) + out[1:]
-
-
-def hex_(h):
-    return bytes.fromhex(h)
 
 
 V = bytes(4)
@@ -99,7 +75,7 @@ def plain(id_, data):
 
 
 def pool(*strings):
-    return plain(0, count(len(strings)) + b"".join(count(len(s)) + s for s in strings))
+    return plain(0, count(len(strings)) + b"".join(text(s) for s in strings))
 
 
 def fixed(id_, ms=0, name=0):
@@ -129,8 +105,8 @@ def files(*fields):
     """The source and the preferred file."""
     source = wanted = V
     for id_, data, better in fields:
-        source += bytes([id_]) + count(len(data)) + data
-        wanted += bytes([id_]) + count(len(better)) + better
+        source += field(id_, data)
+        wanted += field(id_, better)
     return source, wanted
 
 
@@ -157,7 +133,7 @@ def stored(s, unit):
         times += 1
     front, end = s[:at], s[at + times * len(unit):]
     assert max(len(front), len(end), len(unit)) <= 2048
-    return "%s %s %06x %s" % (front.hex(), unit.hex(), times, end.hex() or "-")
+    return parts(front, unit, times, end)
 
 
 def put(s, room, said, out, unit=None):
@@ -408,7 +384,7 @@ for t, code in ((LAST - 128 * HOUR + 1, count(128)), (LAST, b"\x02" + (LAST + 1)
                 (0, b"\x02" + (FIRST - 1).to_bytes(8, "big", signed=True)),
                 (0, b"\x02\x7f" + b"\xff" * 7), (0, b"\x02\x80" + bytes(7))):
     data = hex_("010202" "00003030") + forms(t, START)[T] + hex_("003030") + code + b"\x00"
-    refused(GOOD + b"\x01" + count(len(data)) + data, "7 %d" % AT)
+    refused(GOOD + field(1, data), "7 %d" % AT)
 # every cut of a file that shrinks, in just the room of the whole preferred file
 WHOLE = (pool(b"A"), zone(0, LONG[:2] + [(END, "mark")]), plain(3, b"\x01"))
 source, wanted = files(*WHOLE)
@@ -419,10 +395,4 @@ for k in range(len(source)):
     else:
         refused(source[:k], "6 4" if k == 4 else "2 %d" % max(e for e in (0, *ends) if e <= k), (len(wanted),))
 
-lines = "".join(line + "\n" for line in cases)
-assert len(lines) <= 65536, "the program's input: %d" % len(lines)
-with open(os.path.join(CRATE, "stdin"), "w") as f:
-    f.write(lines)
-with open(os.path.join(CRATE, "stdout"), "w") as f:
-    f.write("".join(said + "\n" for said in cases.values()))
-print("%d cases" % len(cases))
+write_cases("rewrite_cases", list(cases.items()))

@@ -6,32 +6,12 @@
 use libc::STDIN_FILENO;
 use libc::STDOUT_FILENO;
 use rewrite::Rewritten;
-ghost use Prim.Native.Nat.{_≤_, _<_};
-ghost use lib.ListN.{length};
-ghost use Rattle.io.specs.Counts.{Counts};
-
-fn say(word: &[u8]) {
-    io::write_all(STDOUT_FILENO, word);
-}
-
-fn pair(n: u8, v: usize) {
-    io::print_decimal(STDOUT_FILENO, n as u64);
-    say(b" ");
-    io::print_decimal(STDOUT_FILENO, v as u64);
-    say(b" ");
-}
 
 fn show_result(r: Rewritten) {
     match r {
-        Rewritten::Length(n) => pair(0, n),
-        Rewritten::Refused(n, p) => pair(n, p),
+        Rewritten::Length(n) => cases::say_refusal(0, n),
+        Rewritten::Refused(n, p) => cases::say_refusal(n, p),
     }
-}
-
-fn wide(b: u8) -> usize
-    ensures { λ r. ⌜ r < 256 ⌝ }
-{
-    b as usize
 }
 
 // The Adler-32 checksum of s.
@@ -40,7 +20,7 @@ fn checksum(s: &[u8]) -> u64 {
     let mut b: u64 = 0;
     let mut i: usize = 0;
     while i < s.len() {
-        a = (a + wide(s[i]) as u64) % 65521;
+        a = (a + s[i] as u64) % 65521;
         b = (b + a) % 65521;
         i += 1;
     }
@@ -49,53 +29,28 @@ fn checksum(s: &[u8]) -> u64 {
 
 fn show_output(out: &[u8]) {
     let n = out.len();
-    if n == 0 {
-        say(b"-");
-        return;
-    }
     if n <= 512 {
-        hex::print(out);
+        cases::say_bytes(out);
         return;
     }
     let e = n - 32;
     hex::print(&out[..256]);
-    say(b"..");
+    cases::say(b"..");
     io::print_hex(STDOUT_FILENO, checksum(out), 8);
-    say(b"..");
+    cases::say(b"..");
     hex::print(&out[e..]);
 }
 
 fn run_file(s: &[u8], out: &mut [u8]) {
     show_result(rewrite::rewrite(s, out));
+    cases::say(b" ");
     show_output(out);
-    say(b"\n");
-}
-
-// The number that the k-th word of line spells in three bytes.
-fn number(line: &[u8], k: usize) -> usize {
-    let mut size = [0u8; 3];
-    hex::word(line, k, &mut size);
-    wide(size[0]) * 65536 + wide(size[1]) * 256 + wide(size[2])
-}
-
-// The file, at the start of buf.
-fn build(line: &[u8], buf: &mut [u8]) -> usize
-    ensures { λ r. ⌜ Counts r (now (buf .exit)) ⌝ }
-{
-    let mut front = [0u8; 2048];
-    let mut unit = [0u8; 2048];
-    let mut end = [0u8; 2048];
-    let f = hex::word(line, 1, &mut front);
-    let u = hex::word(line, 2, &mut unit);
-    let e = hex::word(line, 4, &mut end);
-    let a = hex::append(buf, 0, &front[..f]);
-    let b = hex::repeat(buf, a, &unit[..u], number(line, 3));
-    hex::append(buf, b, &end[..e])
+    cases::say(b"\n");
 }
 
 fn run_line(line: &[u8], buf: &mut [u8], out: &mut [u8]) {
-    let n = build(line, buf);
-    let w = hex::repeat(out, 0, b"\xAA", number(line, 0));
+    let n = cases::build(line, 1, buf);
+    let w = hex::repeat(out, 0, b"\xAA", cases::size(line, 0));
     run_file(&buf[..n], &mut out[..w]);
 }
 

@@ -6,15 +6,12 @@ use Rattle.rewrite_cases.proofs.show_output.Statement.{statement}
 use Rattle.rewrite_cases.proofs.show_output.Tie as tie
 
 slice-aggregate-print : tie.Need-slice-aggregate-print
-slice-aggregate-print c = sym (length-take-le 256 (c .before .before .before .before .args .out .now) (omega arith))
+slice-aggregate-print c = sym (length-take-le 256 (c .before .before .before .args .out .now) (omega arith))
 
 pub show-output-spec : {M : Type 1} → statement M
 show-output-spec =
     tie.close
     (tie.spec
-    (λ c. search needs)
-    (λ c κs. search needs)
-    (λ c. search needs)
     (λ c κs. search needs)
     (λ c. search needs)
     (λ c. search needs)

@@ -1,0 +1,12 @@
+//! Writes a zone file's preferred form: `cargo run --example rewrite -- FILE PREFERRED`.
+
+fn main() -> Result<(), Box<dyn std::error::Error>> {
+    let arguments: Vec<String> = std::env::args().skip(1).collect();
+    let [from, to] = arguments.as_slice() else { return Err("FILE PREFERRED".into()) };
+    let file = std::fs::read(from)?;
+    let mut out = vec![0; file.len()];
+    let length = nzd::rewrite(&file, &mut out)?;
+    std::fs::write(to, &out[..length])?;
+    println!("{} bytes, preferred {length}", file.len());
+    Ok(())
+}

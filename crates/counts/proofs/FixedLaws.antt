@@ -107,3 +107,19 @@ pub read-fixed-written : (n high v : ℕ) (rest : List ℕ) → readFixed n high
 read-fixed-written n high v rest =
     rw (le-leb n (length (fixedBytes n v ++ rest)) (simp (length-append, length-fixed) (omega arith)))
     (ap (λ (w : ℕ). Value w n) (fixed-written n high v rest))
+
+-- eight bytes as two numbers of four
+pub fixed-eight : (s : List ℕ) → 8 ≤ length s
+    → fixedFrom 8 0 s
+    ≡ (getD s 0 0 * 16777216 + getD s 1 0 * 65536 + getD s 2 0 * 256 + getD s 3 0) * 4294967296
+    + (getD s 4 0 * 16777216 + getD s 5 0 * 65536 + getD s 6 0 * 256 + getD s 7 0)
+unfolding fixedFrom
+fixed-eight [] h = absurd (omega arith)
+fixed-eight (a ∷ []) h = absurd (omega arith)
+fixed-eight (a ∷ b ∷ []) h = absurd (omega arith)
+fixed-eight (a ∷ b ∷ c ∷ []) h = absurd (omega arith)
+fixed-eight (a ∷ b ∷ c ∷ d ∷ []) h = absurd (omega arith)
+fixed-eight (a ∷ b ∷ c ∷ d ∷ e ∷ []) h = absurd (omega arith)
+fixed-eight (a ∷ b ∷ c ∷ d ∷ e ∷ f ∷ []) h = absurd (omega arith)
+fixed-eight (a ∷ b ∷ c ∷ d ∷ e ∷ f ∷ g ∷ []) h = absurd (omega arith)
+fixed-eight (a ∷ b ∷ c ∷ d ∷ e ∷ f ∷ g ∷ i ∷ s) h = omega arith

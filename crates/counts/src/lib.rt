@@ -152,3 +152,22 @@ pub fn read_fixed(s: &[u8], n: usize, high: u64) -> Read
     }
     Read::Value(fixed_from(s, n, high), n)
 }
+
+// The number of four bytes, high first.
+fn four(a: u8, b: u8, c: u8, d: u8) -> u64
+    ensures { λ r. ⌜ r ≡ a * 16777216 + b * 65536 + c * 256 + d ⌝ }
+{
+    a as u64 * 16777216 + b as u64 * 65536 + c as u64 * 256 + d as u64
+}
+
+// A number in eight bytes at the front of `s`, high first, without a loop: every transition in ticks has one.
+pub fn read_eight(s: &[u8]) -> Read
+    ensures { λ r. ⌜ r ≡ readFixed 8 0 (now (s .entry)) ⌝ }
+{
+    if s.len() < 8 {
+        return Read::Refused(9);
+    }
+    let high = four(s[0], s[1], s[2], s[3]);
+    let low = four(s[4], s[5], s[6], s[7]);
+    Read::Value(high * 4294967296 + low, 8)
+}

@@ -7,7 +7,7 @@ use native.Mathlib.Omega.{arith}
 use lib.Dec.{leb}
 use borrow.Author.Tests.{le-leb, lt-leb, leb-true}
 use Rattle.base.specs.Moment.{Finite, finite, firstInstant, lastInstant, startOfTime, endOfTime}
-use Rattle.base.proofs.Tests.{never, both-left, both-right}
+use Rattle.base.proofs.Tests.{both-left, both-right}
 
 -- a mark or an instant
 abbrev pub Moment : ℕ → Type 0
@@ -21,9 +21,6 @@ finite-true t e = record {
 
 pub finite-yes : (t : ℕ) → Finite t → finite t ≡ true
 finite-yes t h = rw (le-leb firstInstant t (h .low), le-leb t lastInstant (h .high))
-
-pub finite-false : (t : ℕ) → finite t ≡ false → Finite t → ⊥
-finite-false t e h = never (finite-yes t h) e
 
 pub finite-low : (t : ℕ) → t < firstInstant → finite t ≡ false
 finite-low t h = rw (lt-leb firstInstant t h)

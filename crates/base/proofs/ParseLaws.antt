@@ -10,15 +10,6 @@ use Rattle.base.specs.Parsed.{Parsed, got, bad, bind, ended}
 pub bad-got : {A G : Type 0} {k : ℕ} {a : A} {r : List ℕ} → bad k ≡ got a r → G
 bad-got e = let z : _≡_ {A = ℕ} 0 1 = cc in absurd (omega arith)
 
-pub bind-id : {A : Type 0} (p : Parsed A) → p ≡ bind p got
-bind-id (got a q) = refl
-bind-id (bad k) = refl
-
-pub bind-assoc : {A B C : Type 0} (p : Parsed A) (f : A → List ℕ → Parsed B) (g : B → List ℕ → Parsed C)
-    → bind (bind p f) g ≡ bind p (λ a r. bind (f a r) g)
-bind-assoc (got a q) f g = refl
-bind-assoc (bad k) f g = refl
-
 -- what a good row has read first
 pub record Split {A B : Type 0} (p : Parsed A) (k : A → List ℕ → Parsed B) (b : B) (q : List ℕ) : Type 0 where
   pub first : A

@@ -26,12 +26,6 @@ pub pick-holds : {A : Type 0} (P : A → Type 0) (t : Bool) {x y : A} → (t ≡
 pick-holds P true f g = f refl
 pick-holds P false f g = g refl
 
-pub pick-true : {A : Type 0} (t : Bool) (x y : A) → t ≡ true → pick t x y ≡ x
-pick-true t x y e = rw e
-
-pub pick-false : {A : Type 0} (t : Bool) (x y : A) → t ≡ false → pick t x y ≡ y
-pick-false t x y e = rw e
-
 pub both-left : (a b : Bool) → both a b ≡ true → a ≡ true
 both-left true b e = refl
 both-left false b e = e

@@ -2,19 +2,13 @@
 use mathlib.Core.Path.{_≡_}
 use mathlib.Core.List.{List, [], _∷_}
 use Prim.Native.Nat.{ℕ, _+_, _/_, _%_, _≤_, _<_}
-use native.Mathlib.Omega.{arith}
-use lib.Dec.{eqb}
 use lib.IntN.{ℤ}
 use borrow.Author.Tests.{le-leb, lt-leb, eq-eqb, ne-eqb}
 use Rattle.base.specs.Writing.{bytes}
 use Rattle.base.specs.declared.Wrote.{Wrote}
 use Rattle.base.specs.declared.Wrote.the-variants.{Refused}
-use Rattle.base.proofs.ByteLaws.{no-bytes, cons-bytes}
 use Rattle.base.proofs.WriteLaws.{Writes, not-carried}
-use Rattle.base.proofs.Tests.{pick-holds}
-use Rattle.base.proofs.Parts.{Bytes}
 use Rattle.counts.specs.Fixed.{fixedBytes}
-use Rattle.counts.proofs.FixedLaws.{fixed-bytes}
 use Rattle.signed.specs.OffsetSum.{sumOf}
 use Rattle.offsets.specs.Offset.{writeSum, sumForm, offsetForm}
 use Rattle.offsets.proofs.OffsetLaws.{not-half-hours, not-minutes}
@@ -56,11 +50,3 @@ module _ (sum : ℕ) (least : 1 ≤ sum) (most : sum ≤ 172799999) (d : List �
 -- the sum of the offset in milliseconds was written
 pub as-offset : (z : ℤ) (u : ℕ) (d : List ℕ) (r : Wrote) (e : List ℕ) → u ≡ sumOf z → Writes (sumForm u) d r e → Writes (offsetForm z) d r e
 as-offset z u d r e i w = rw i at w
-
-pub sum-bytes : (sum : ℕ) → sum ≤ 172799999 → Bytes (writeSum sum)
-unfolding writeSum
-sum-bytes sum h =
-    pick-holds Bytes (eqb (sum % 1800000) 0) (λ _. cons-bytes (sum / 1800000) [] (omega arith) no-bytes) (λ _.
-    pick-holds Bytes (eqb (sum % 60000) 0) (λ _. cons-bytes (128 + sum / 60000 / 256) (fixedBytes 1 (sum / 60000)) (omega arith) (fixed-bytes 1 (sum / 60000))) (λ _.
-    pick-holds Bytes (eqb (sum % 1000) 0) (λ _. cons-bytes (160 + sum / 1000 / 65536) (fixedBytes 2 (sum / 1000)) (omega arith) (fixed-bytes 2 (sum / 1000)))
-    (λ _. cons-bytes (192 + sum / 16777216) (fixedBytes 3 sum) (omega arith) (fixed-bytes 3 sum))))

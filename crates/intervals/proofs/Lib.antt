@@ -1,2 +1,3 @@
 pub mod ScanLaws
 pub mod SoundLaws
+pub mod ShortLaws

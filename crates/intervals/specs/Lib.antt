@@ -1,3 +1,4 @@
 pub mod Interval
 pub mod Sound
 pub mod Scan
+pub mod Short

@@ -1,13 +1,14 @@
 // The listed intervals of a zone, read one after the other; what an instant needs of them is kept on the way.
 use base::Read;
 ghost use mathlib.Core.Path.{_≡_};
-ghost use Prim.Native.Nat.{_≤_};
+ghost use Prim.Native.Nat.{_+_, _≤_};
 ghost use lib.ListN.{length, drop};
 ghost use Rattle.base.specs.Parsed.{many};
 ghost use Rattle.base.specs.Moment.{endOfTime};
 ghost use Rattle.places.specs.Placed.{Stands};
 ghost use Rattle.intervals.specs.Interval.{rises as risesOf, parseDetails, parseInterval, startOf};
 ghost use Rattle.intervals.specs.Scan.{ofInterval, ofScan, advance as advanceOf, scanOf};
+ghost use Rattle.intervals.specs.Short.{shortInterval, ShortStart};
 
 // The mark end of time, as a moment.
 const END: u64 = 3281606784000000000;
@@ -93,29 +94,51 @@ pub fn read_interval(s: &[u8], at: usize, pool: u64, prev: u64) -> IntervalRead
 fn advance(t: u64, c: Scan, i: Interval) -> Scan
     ensures { λ r. ⌜ r ≡ advanceOf t c i ⌝ }
 {
-    let held = c.held;
-    if c.end < END {
-        return Scan {
-            held: held,
-            end: c.end,
-            last: i.start,
-        };
-    }
-    if t < i.start {
-        return Scan {
-            held: held,
-            end: i.start,
-            last: i.start,
-        };
+    let mut held = c.held;
+    let mut end = c.end;
+    if END <= end {
+        if t < i.start {
+            end = i.start;
+        } else {
+            held = i;
+            end = END;
+        }
     }
     Scan {
-        held: i,
-        end: END,
+        held: held,
+        end: end,
         last: i.start,
     }
 }
 
-// n intervals from the place at on.
+// The start of an interval in five bytes, or 0 where other codes stand there.
+fn short_start(s: &[u8], at: usize, pool: u64, prev: u64) -> u64
+    requires { ⌜ at ≤ length (now s) ⌝ }
+    ensures { λ r. ⌜ ShortStart (now (s .entry)) pool at prev r ⌝ }
+{
+    let m = places::short_at(s, at, prev);
+    if m == 0 {
+        return 0;
+    }
+    if (s[at + 2] as u64) < pool {
+        return m;
+    }
+    0
+}
+
+fn short_interval(s: &[u8], at: usize, m: u64) -> Interval
+    requires { ⌜ at + 5 ≤ length (now s) ⌝ }
+    ensures { λ r. ⌜ r ≡ shortInterval (now (s .entry)) at m ⌝ }
+{
+    Interval {
+        start: m,
+        name: s[at + 2] as u64,
+        wall: s[at + 3] as u64 * 1800000,
+        savings: s[at + 4] as u64 * 1800000,
+    }
+}
+
+// n intervals from the place at on. One of five bytes, the usual one, takes no call.
 pub fn read_intervals(s: &[u8], at: usize, pool: u64, n: u64, t: u64) -> ScanRead
     requires { ⌜ at ≤ length (now s) ⌝ }
     ensures { λ r. ⌜ Stands (now (s .entry)) (scanOf t (many (parseInterval pool) startOf n endOfTime (drop at (now (s .entry))))) (ofScan r) ⌝ }
@@ -133,15 +156,23 @@ pub fn read_intervals(s: &[u8], at: usize, pool: u64, n: u64, t: u64) -> ScanRea
         last: END,
     };
     while 0 < left {
-        let item = read_interval(s, place, pool, c.last);
-        match item {
-            IntervalRead::Refused(k) => {
-                return ScanRead::Refused(k);
-            }
-            IntervalRead::Got(i, e) => {
-                left -= 1;
-                place = e;
-                c = advance(t, c, i);
+        let m = short_start(s, place, pool, c.last);
+        if m != 0 {
+            let i = short_interval(s, place, m);
+            left -= 1;
+            place += 5;
+            c = advance(t, c, i);
+        } else {
+            let item = read_interval(s, place, pool, c.last);
+            match item {
+                IntervalRead::Refused(k) => {
+                    return ScanRead::Refused(k);
+                }
+                IntervalRead::Got(i, e) => {
+                    left -= 1;
+                    place = e;
+                    c = advance(t, c, i);
+                }
             }
         }
     }

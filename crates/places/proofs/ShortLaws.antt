@@ -1,4 +1,4 @@
--- The short ways: codes of one and two bytes at a place. Assumes nothing.
+-- The short ways: codes of one and two bytes at a place, and an interval of them. Assumes nothing.
 use mathlib.Core.Path.{_≡_, refl, sym, _∙_}
 use mathlib.Core.List.{List}
 use Prim.Native.Nat.{ℕ, suc, _+_, _*_, _%_, _≤_, _<_}
@@ -18,7 +18,7 @@ use Rattle.offsets.specs.Offset.{readSum}
 use Rattle.offsets.proofs.OffsetLaws.{fine-of}
 use Rattle.transitions.specs.Transition.{fromCount, readMoment}
 use Rattle.places.specs.Placed.{at, no, Stands}
-use Rattle.places.specs.Short.{TwoBytes, HoursAfter}
+use Rattle.places.specs.Short.{TwoBytes, HoursAfter, HalfHours, ShortDetails, ShortAt}
 
 -- what reads at a place stands there
 pub reads : (read : List ℕ → Read) (s : List ℕ) (place v n : ℕ) → read (drop place s) ≡ Value v n → place + n ≤ length s
@@ -106,7 +106,36 @@ hours-read prev s place v t w h n =
     let l : 128 ≤ v = h .low n in
     rw (w .count l, ne-eqb v 2 (λ e. omega arith)) (hours-from prev v t h n)
 
--- a transition of two bytes is hours after the previous one
-pub hours : (prev : ℕ) (s : List ℕ) (place v t : ℕ) → TwoBytes s place v → HoursAfter prev v t → (t ≡ 0 → ⊥)
-    → Stands s (parse (readMoment prev) (drop place s)) (at t (place + 2))
-hours prev s place v t w h n = reads (readMoment prev) s place t 2 (hours-read prev s place v t w h (omega arith)) (w .room (h .low (omega arith)))
+-- an offset of half hours at a place
+half-hours-at : (s : List ℕ) (place : ℕ) → place < length s → HalfHours (getD s place 0)
+    → Stands s (parse readSum (drop place s)) (at (getD s place 0 * 1800000) (place + 1))
+half-hours-at s place l h = reads readSum s place _ 1 (half-hours s place l (λ e. omega (arith, h .some)) (h .most)) (omega arith)
+
+pub details-at : (s : List ℕ) (place : ℕ) → place + 3 ≤ length s → getD s place 0 ≤ 127 → HalfHours (getD s (place + 1) 0)
+    → HalfHours (getD s (place + 2) 0) → ShortDetails s place
+details-at s place l n w v =
+    let two : place + 1 + 1 ≡ place + 2 = omega arith in
+    let three : place + 2 + 1 ≡ place + 3 = omega arith in
+    record {
+      name = reads readCount s place _ 1 (one-byte s place (omega arith) (omega arith)) (omega arith);
+      wall = rw (← two) (half-hours-at s (place + 1) (omega arith) w);
+      savings = rw (← three) (half-hours-at s (place + 2) (omega arith) v);
+    }
+
+-- behind a transition of two bytes, which is hours after the previous one
+pub short-is : (s : List ℕ) (place prev v t : ℕ) → TwoBytes s place v → HoursAfter prev v t → ShortDetails s (place + 2) → ShortAt s place prev t
+short-is s place prev v t w h d =
+    record {
+      means = λ n.
+          let l : 0 < t = omega arith in
+          record {
+            previous = h .previous l;
+            rises = omega (arith, h .low l, h .sum l);
+            instant = h .instant l;
+            moment = reads (readMoment prev) s place t 2 (hours-read prev s place v t w h l) (w .room (h .low l));
+            details = d;
+          };
+    }
+
+pub not-short : (s : List ℕ) (place prev : ℕ) → ShortAt s place prev 0
+not-short s place prev = record { means = λ n. absurd (n refl) }

@@ -1,7 +1,8 @@
 // Small codes at a place of a field's data: a value and the place behind it, or a refusal's number.
 use base::Read;
+ghost use Prim.Native.Nat.{_+_, _≤_};
 ghost use mathlib.Core.Path.{_≡_};
-ghost use Prim.Native.Nat.{_≤_};
+ghost use mathlib.Core.Bool.{true};
 ghost use lib.ListN.{length, drop};
 ghost use Rattle.base.specs.Parsed.{parse, parseByte};
 ghost use Rattle.counts.specs.Count.{readCount};
@@ -9,7 +10,7 @@ ghost use Rattle.offsets.specs.Offset.{readSum};
 ghost use Rattle.transitions.specs.Transition.{readMoment};
 ghost use Rattle.places.specs.Placed.{Stands, ofRead};
 ghost use Rattle.places.specs.Name.{readZigzag, parseName};
-ghost use Rattle.places.specs.Short.{TwoBytes, HoursAfter};
+ghost use Rattle.places.specs.Short.{TwoBytes, HoursAfter, HalfHours, ShortDetails, ShortAt};
 
 const FIRST: u64 = 126227808000000000;
 
@@ -91,7 +92,7 @@ pub fn sum_at(s: &[u8], at: usize) -> Read
     any_sum_at(s, at)
 }
 
-fn any_moment_at(s: &[u8], at: usize, prev: u64) -> Read
+pub fn moment_at(s: &[u8], at: usize, prev: u64) -> Read
     requires { ⌜ at ≤ length (now s) ⌝ }
     ensures { λ r. ⌜ Stands (now (s .entry)) (parse (readMoment prev) (drop at (now (s .entry)))) (ofRead r) ⌝ }
 {
@@ -143,17 +144,44 @@ fn hours_after(prev: u64, v: u64) -> u64
     t
 }
 
-// A transition of two bytes, the usual one, takes no call.
-pub fn moment_at(s: &[u8], at: usize, prev: u64) -> Read
-    requires { ⌜ at ≤ length (now s) ⌝ }
-    ensures { λ r. ⌜ Stands (now (s .entry)) (parse (readMoment prev) (drop at (now (s .entry)))) (ofRead r) ⌝ }
+// Whether a byte is an offset of half hours.
+fn half_hours(b: u8) -> bool
+    ensures { λ r. ⌜ (r ≡ true → HalfHours b) ⌝ }
 {
-    let v = two_bytes_at(s, at);
-    let t = hours_after(prev, v);
-    if t == 0 {
-        return any_moment_at(s, at, prev);
+    if b == 0 {
+        return false;
     }
-    Read::Value(t, at + 2)
+    b < 96
+}
+
+// Whether a name, a wall offset and savings stand at a place, in a byte each.
+fn short_details(s: &[u8], at: usize) -> bool
+    requires { ⌜ at + 3 ≤ length (now s) ⌝ }
+    ensures { λ r. ⌜ (r ≡ true → ShortDetails (now (s .entry)) at) ⌝ }
+{
+    if 127 < s[at] {
+        return false;
+    }
+    if half_hours(s[at + 1]) {
+        return half_hours(s[at + 2]);
+    }
+    false
+}
+
+// The start of an interval in five bytes, the usual one: two of hours after prev, and one each of name, wall offset and savings. 0 where
+// other codes stand there.
+pub fn short_at(s: &[u8], at: usize, prev: u64) -> u64
+    requires { ⌜ at ≤ length (now s) ⌝ }
+    ensures { λ r. ⌜ ShortAt (now (s .entry)) at prev r ⌝ }
+{
+    if s.len() - at < 5 {
+        return 0;
+    }
+    if short_details(s, at + 2) {
+        let v = two_bytes_at(s, at);
+        return hours_after(prev, v);
+    }
+    0
 }
 
 // A pool number below the pool's count.

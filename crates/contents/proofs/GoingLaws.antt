@@ -22,7 +22,7 @@ use Rattle.contents.specs.View.{PieceAt, HasPieces, piecesAt}
 use Rattle.contents.specs.declared.Piece.{Piece}
 use Rattle.contents.specs.declared.PieceRead.{PieceRead}
 use Rattle.contents.specs.declared.PieceRead.the-variants.{Got, Refused}
-use Rattle.contents.proofs.PieceLaws.{parse-shorter}
+use Rattle.contents.proofs.PieceLaws.{parse-rest}
 use Rattle.contents.proofs.PutLaws.{InTwo}
 
 -- the bytes behind a transition, by their places
@@ -113,7 +113,7 @@ module _ (s : List ℕ) where
 
   pub going-forward : (n prev place : ℕ) (p : Piece) → place ≤ length s → PieceAt s n prev place (Got p) → place ≤ p .from
   going-forward n prev place p h e =
-      let l = parse-shorter (readMoment prev) (drop place s) (p .moment) (drop (p .from) s) (e .coded .1) in
+      let l = parse-rest (readMoment prev) (drop place s) (p .moment) (drop (p .from) s) (e .coded .1) .shorter in
       let k : length s - p .from ≤ length s - place = rw (length-drop, length-drop) at l in
       let o : p .from ≤ p .to = e .coded .0 in
       let m : p .to ≤ length s = e .stands .within in

@@ -2,20 +2,27 @@
 -- Assumes nothing.
 use mathlib.Core.Path.{_≡_, refl, sym, ap, _∙_, subst}
 use mathlib.Core.List.{List, [], _++_, append-nil}
-use Prim.Native.Nat.{ℕ, _+_, _-_, _≤_}
+use Prim.Native.Nat.{ℕ, suc, _+_, _*_, _-_, _≤_}
 use native.Mathlib.Omega.{arith}
 use lib.ListN.{length, take, drop, length-append, length-drop}
 use mathlib.Core.Bool.{Bool, true, false}
 use lib.Seq.{length-take-le}
 use lib.Dec.{eqb}
-use borrow.Author.Tests.{ne-eqb, eqb-true, eqb-false}
-use Rattle.base.specs.Parsed.{Parsed, got, bad, bind}
+use borrow.Author.Tests.{eq-eqb, ne-eqb, eqb-true, eqb-false}
+use Rattle.base.specs.Pick.{pick}
+use Rattle.base.specs.Parsed.{Parsed, got, bad, bind, parse, parseByte}
 use Rattle.base.specs.Moment.{endOfTime}
+use Rattle.base.proofs.Parts.{Bytes}
+use Rattle.base.proofs.ByteLaws.{drop-bytes}
 use Rattle.base.proofs.ParseLaws.{bad-got, bind-good}
+use Rattle.counts.specs.Count.{readCount, writeCount}
+use Rattle.counts.proofs.CountLaws.{count-mono}
 use Rattle.places.specs.Placed.{at, no, Stands}
-use Rattle.contents.specs.Content.{Piece, Content, upTo, plain, contentWith, afterHead, parseHead, parsePieces, parseContent, contentOf, printPieces, print}
+use Rattle.contents.specs.Content.{Piece, Content, upTo, plain, contentWith, afterHead, afterId, afterFlag, afterCount, parseHead, parsePieces, parseContent, contentOf, printPieces, print}
 use Rattle.contents.specs.View.{HasContent, HasPieces, piecesAt}
+use Rattle.contents.proofs.PieceLaws.{count-small}
 use Rattle.contents.proofs.PutLaws.{InTwo}
+use Rattle.contents.proofs.SizeLaws.{pieces-between}
 
 abbrev contentIn : Parsed Content → Content
 contentIn (got c r) = c
@@ -24,6 +31,14 @@ contentIn (bad n) = plain []
 abbrev restOf : Parsed Content → List ℕ
 restOf (got c r) = r
 restOf (bad n) = []
+
+-- m bytes are all that stand behind the first a of l
+behind-front : (a m l : ℕ) → a ≤ l → eqb m (l - a) ≡ eqb (a + m) l
+behind-front a m l h = go (eqb m (l - a)) refl
+  where
+    go : (t : Bool) → eqb m (l - a) ≡ t → t ≡ eqb (a + m) l
+    go true q = sym (eq-eqb (a + m) l (omega (arith, eqb-true m (l - a) q)))
+    go false q = let z = eqb-false m (l - a) q in sym (ne-eqb (a + m) l (λ y. z (omega arith)))
 
 -- n transitions stand from the place a on
 module _ (d : List ℕ) (h : HasContent d) where
@@ -85,6 +100,36 @@ module _ (d : List ℕ) (h : HasContent d) where
     pub head-two : (o : List ℕ) → length (print (contentOf 1 d)) ≤ length o
         → InTwo (print (contentOf 1 d)) (take a d) (printPieces endOfTime (piecesAt d n a)) o
     head-two o l = record { all = head-print; room = l }
+
+    -- whether the zone is as long as its preferred form
+    pub head-same : (b : Bool) → b ≡ eqb (length (printPieces endOfTime (piecesAt d n a))) (length d - a) → b ≡ eqb (length (print (contentOf 1 d))) (length d)
+    head-same b e = e ∙ behind-front a _ (length d) (s .within) ∙ ap (λ (m : ℕ). eqb m (length d)) (size-is _ refl)
+
+    -- where the longest and the shortest that it can be have sizes of one length, that is its size's
+    pub size-sure : Bytes d → (k : ℕ) → k ≡ length (writeCount (length d)) → length (writeCount (length d - 8 * n)) ≡ k
+        → k ≡ length (writeCount (length (print (contentOf 1 d))))
+    size-sure b k e f =
+        let o = pieces-between n endOfTime (drop a d) (found .pieces) (drop-bytes a d b) (found .are) in
+        let l : length d - a ≤ length (printPieces endOfTime (found .pieces)) + 8 * n = rw length-drop at (o .least) in
+        let m : a + length (printPieces endOfTime (found .pieces)) ≡ length (print (contentOf 1 d)) = size-is _ (rw (found .are)) in
+        let i = count-mono (length d - 8 * n) (length (print (contentOf 1 d))) (omega (arith, s .within)) in
+        let j = count-mono (length (print (contentOf 1 d))) (length d) (rw content-is (h .shorter)) in
+        omega arith
+
+-- a zone has at most 2,147,483,647 intervals, and an end
+pub head-few : (d : List ℕ) (n a : ℕ) → Stands d (parseHead d) (at n a) → n ≤ 2147483648
+unfolding parseHead afterId afterFlag afterCount
+head-few d n a s =
+    let x = bind-good (parse readCount d) afterId n (drop a d) (s .means) in
+    let y = bind-good (parseByte (x .rest)) afterFlag n (drop a d) (x .on) in
+    go (eqb (y .first) 2) (y .rest) (y .on)
+  where
+    go : (t : Bool) (r : List ℕ) → pick t (bind (parse readCount r) afterCount) (got 0 []) ≡ got n (drop a d) → n ≤ 2147483648
+    go true r e =
+        let z = bind-good (parse readCount r) afterCount n (drop a d) e in
+        let w : suc (z .first) ≡ n = cc in
+        omega (arith, count-small r (z .first) (z .rest) (z .is))
+    go false r e = let w : 0 ≡ n = cc in omega arith
 
 -- a field that is no zone is copied
 pub print-other : (i : ℕ) (d : List ℕ) → (i ≡ 1 → ⊥) → print (contentOf i d) ≡ d

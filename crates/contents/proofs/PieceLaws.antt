@@ -1,22 +1,25 @@
 -- A transition and what follows it, at a place of the data. Assumes nothing.
 use mathlib.Core.Path.{_≡_, refl, sym, ap}
 use mathlib.Core.List.{List, []}
-use Prim.Native.Nat.{ℕ, zero, suc, _+_, _-_, _≤_}
+use Prim.Native.Nat.{ℕ, zero, suc, _+_, _*_, _-_, _≤_}
 use native.Mathlib.Omega.{arith}
-use lib.ListN.{length, take, drop, length-drop, drop-of-length-le}
+use lib.ListN.{length, take, drop, getD, length-drop, drop-of-length-le}
 use borrow.Author.Tests.{ne-eqb, eq-eqb}
 use Rattle.base.specs.Parsed.{got, behindCode, parse}
 use Rattle.base.specs.declared.Read.{Read}
 use Rattle.base.specs.declared.Read.the-variants.{Value, Refused}
+use Rattle.base.proofs.Parts.{Bytes}
+use Rattle.base.proofs.ByteLaws.{no-bytes, drop-bytes}
 use Rattle.base.proofs.ParseLaws.{bad-got, bind-good}
 use Rattle.places.specs.Placed.{Placed, at, no, Stands}
+use Rattle.places.specs.Short.{ShortDetails, ShortAt}
 use Rattle.places.proofs.PlaceLaws.{placed-got, code-holds, on, off, here}
 use Rattle.counts.specs.Count.{readCount}
 use Rattle.counts.proofs.CountLaws.{counted}
 use Rattle.transitions.specs.Transition.{readMoment}
 use Rattle.offsets.specs.Offset.{readSum}
 use Rattle.contents.specs.Content.{upTo, parseWall, pieceEnd, pieceOf, afterMoment, parsePiece, afterFlag, afterCount}
-use Rattle.contents.specs.View.{PieceAt}
+use Rattle.contents.specs.View.{PieceAt, ShortPiece}
 use Rattle.contents.specs.declared.PieceRead.the-variants.{Got, Refused as Unread}
 
 -- behind the end transition stands all the rest
@@ -29,24 +32,30 @@ unfolding pieceEnd
 end-details s place zero x h k = absurd (h refl)
 end-details s place (suc n) x h k = k
 
--- a reader leaves no more than it was given
-pub parse-shorter : (read : List ℕ → Read) (s : List ℕ) (v : ℕ) (r : List ℕ) → parse read s ≡ got v r → length r ≤ length s
-parse-shorter read s v r e = go (read s) e
+-- a reader leaves no more than it was given, and bytes of bytes
+pub record Rest (s r : List ℕ) : Type 0 where
+  pub shorter : length r ≤ length s
+  pub bytes : Bytes s → Bytes r
+
+pub parse-rest : (read : List ℕ → Read) (s : List ℕ) (v : ℕ) (r : List ℕ) → parse read s ≡ got v r → Rest s r
+parse-rest read s v r e = go (read s) e
   where
-    go : (x : Read) → behindCode s x ≡ got v r → length r ≤ length s
-    go (Value w n) k = let y : drop n s ≡ r = cc in rw (← y, length-drop) (omega arith)
+    go : (x : Read) → behindCode s x ≡ got v r → Rest s r
+    go (Value w n) k =
+        let y : drop n s ≡ r = cc in
+        rw (← y) (record { shorter = rw length-drop (omega arith); bytes = λ b. drop-bytes n s b })
     go (Refused j) k = bad-got k
 
-pub end-shorter : (n : ℕ) (s : List ℕ) (v : ℕ) (r : List ℕ) → pieceEnd n s ≡ got v r → length r ≤ length s
+pub end-rest : (n : ℕ) (s : List ℕ) (v : ℕ) (r : List ℕ) → pieceEnd n s ≡ got v r → Rest s r
 unfolding pieceEnd parseWall
-end-shorter zero s v r e = let y : [] ≡ r = cc in rw (← y) (omega arith)
-end-shorter (suc n) s v r e =
+end-rest zero s v r e = let y : [] ≡ r = cc in rw (← y) (record { shorter = omega arith; bytes = λ b. no-bytes })
+end-rest (suc n) s v r e =
     let a = bind-good (parse readCount s) parseWall v r e in
     let b = bind-good (parse readSum (a .rest)) (λ w q. parse readSum q) v r (a .on) in
-    let x = parse-shorter readCount s (a .first) (a .rest) (a .is) in
-    let y = parse-shorter readSum (a .rest) (b .first) (b .rest) (b .is) in
-    let z = parse-shorter readSum (b .rest) v r (b .on) in
-    omega arith
+    let x = parse-rest readCount s (a .first) (a .rest) (a .is) in
+    let y = parse-rest readSum (a .rest) (b .first) (b .rest) (b .is) in
+    let z = parse-rest readSum (b .rest) v r (b .on) in
+    record { shorter = omega (arith, x .shorter, y .shorter, z .shorter); bytes = λ h. z .bytes (y .bytes (x .bytes h)) }
 
 -- the bytes between two places
 up-to-places : (s : List ℕ) (a e : ℕ) → a ≤ length s → e ≤ length s → upTo (drop a s) (drop e s) ≡ take (e - a) (drop a s)
@@ -69,7 +78,7 @@ module _ (s : List ℕ) (n prev place : ℕ) where
       → PieceAt s n prev place (Got (record { moment = m; from = a; to = e }))
   unfolding parsePiece afterMoment
   piece-got m a v e h j =
-      let o : length (drop e s) ≤ length (drop a s) = end-shorter n (drop a s) v (drop e s) (placed-got j v e refl) in
+      let o : length (drop e s) ≤ length (drop a s) = end-rest n (drop a s) v (drop e s) (placed-got j v e refl) .shorter in
       let i : a ≤ length s = h .within in
       let k : e ≤ length s = j .within in
       record {
@@ -77,6 +86,22 @@ module _ (s : List ℕ) (n prev place : ℕ) where
             (record { means = ap (λ (xs : List ℕ). got (record { moment = m; copied = xs }) (drop e s)) (up-to-places s a e i k); within = k }));
         coded = (let b : length s - e ≤ length s - a = rw (length-drop, length-drop) at o in omega arith, h .means);
       }
+
+-- a piece in five bytes
+module _ (s : List ℕ) (prev place m : ℕ) where
+  short-end : (n : ℕ) → (n ≡ 0 → ⊥) → ShortDetails s (place + 2) → Stands s (pieceEnd n (drop (place + 2) s)) (at (getD s (place + 2 + 2) 0 * 1800000) (place + 2 + 3))
+  unfolding pieceEnd parseWall
+  short-end n h d =
+      end-details s (place + 2) n _ h
+      (on (d .name) parseWall _ _ _ refl (on (d .wall) (λ w q. parse readSum q) _ _ _ refl (d .savings)))
+
+  pub short-some : (n : ℕ) → (n ≡ 0 → ⊥) → ShortAt s place prev m → ShortPiece s n prev place m
+  short-some n h x =
+      let five : place + 2 + 3 ≡ place + 5 = omega arith in
+      record { means = λ z. let y = x .means z in rw five at (piece-got s n prev place m (place + 2) _ _ (y .moment) (short-end n h (y .details))) }
+
+  pub short-none : (n : ℕ) → m ≡ 0 → ShortPiece s n prev place m
+  short-none n e = record { means = λ z. absurd (z e) }
 
 -- how many transitions a zone has, by its flag
 module _ (s : List ℕ) (place flag : ℕ) where

@@ -4,7 +4,7 @@ use mathlib.Core.List.{List, [], _∷_, _++_, append-assoc}
 use Prim.Native.Nat.{ℕ, _+_, _-_, _≤_, _<_}
 use native.Mathlib.Omega.{arith}
 use lib.ListN.{length, set, take, drop, length-append, length-drop}
-use lib.Seq.{take-length, take-append-seam, drop-append-seam, drop-drop}
+use lib.Seq.{take-length, take-append-seam, drop-append-seam, drop-drop, drop-at, length-take-le}
 use borrow.Rule.Slice.PartMut.{putMid}
 use Rattle.base.proofs.Parts.{part-from, put-from}
 use Rattle.contents.specs.View.{Put}
@@ -73,6 +73,44 @@ module _ {zs xs ys d : List ℕ} (k : InTwo zs xs ys d) where
 
       pub both-length : length (putMid n (length e - n) e f) ≡ length d
       both-length = put-length both-put (k .room)
+
+  -- the other way round: ys behind the room of xs, then xs
+  module _ {n : ℕ} (i : n ≡ length xs) where
+    pub back-within : n ≤ length d
+    back-within = rw i front-room
+
+    pub back-room : length ys ≤ length (take (length d - n) (drop n d))
+    back-room = let h = sum-room in rw (part-from n d, length-drop) (omega arith)
+
+    module _ {f : List ℕ} {m : ℕ} (q : Put ys (take (length d - n) (drop n d)) m f) where
+      back : putMid n (length d - n) d f ≡ take n d ++ f
+      back = put-from n d f back-within
+
+      rest : f ≡ ys ++ drop (length xs + length ys) d
+      rest = q .left ∙ rw (part-from n d, drop-drop, i)
+
+      pub back-length : length (putMid n (length d - n) d f) ≡ length d
+      back-length =
+          let h = sum-room in
+          rw (back, length-append, length-take-le n d back-within, rest, length-append, length-drop) (omega arith)
+
+      pub back-front : length xs ≤ length (putMid n (length d - n) d f)
+      back-front = rw back-length front-room
+
+      -- what stands behind the room of xs is ys and what stood there
+      behind-room : drop (length xs) (putMid n (length d - n) d f) ≡ f
+      behind-room = rw back (drop-at (take n d) f (length xs) (length-take-le n d back-within ∙ i))
+
+      module _ {e : List ℕ} {w : ℕ} (p : Put xs (putMid n (length d - n) d f) w e) where
+        pub back-sum : w + m ≤ length d
+        back-sum = rw (p .size, q .size) sum-room
+
+        pub back-put : Put zs d (w + m) e
+        back-put =
+            record {
+              size = rw (k .all, length-append, p .size, q .size);
+              left = p .left ∙ rw (behind-room, rest, k .all, append-assoc, length-append);
+            }
 
 -- one byte
 pub put-one : (b : ℕ) (d : List ℕ) → 0 < length d → Put (b ∷ []) d 1 (set d 0 b)

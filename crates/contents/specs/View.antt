@@ -1,5 +1,5 @@
 -- What the readers of pieces give, and what writers leave. Assumes nothing: these are definitions.
-use Prim.Native.Nat.{ℕ, _-_, _≤_}
+use Prim.Native.Nat.{ℕ, _+_, _-_, _≤_}
 use mathlib.Core.Path.{_≡_}
 use mathlib.Core.List.{List, [], _++_}
 use lib.ListN.{length, take, drop}
@@ -25,6 +25,10 @@ Coded s prev place (Refused n) = Unit {0}
 pub record PieceAt (s : List ℕ) (n prev place : ℕ) (r : PieceRead) : Type 0 where
   pub stands : Stands s (parsePiece n prev (drop place s)) (ofPiece s r)
   pub coded : Coded s prev place r
+
+-- m, where it is not 0, is the moment of the piece in five bytes at a place of s, with n more behind it
+pub record ShortPiece (s : List ℕ) (n prev place m : ℕ) : Type 0 where
+  pub means : (m ≡ 0 → ⊥) → PieceAt s n prev place (Got (record { moment = m; from = place + 2; to = place + 5 }))
 
 -- d are the data of a zone; their preferred form is no longer, and where it is as long it is d
 pub record HasContent (d : List ℕ) : Type 0 where

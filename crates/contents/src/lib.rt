@@ -1,17 +1,19 @@
-// A field's data in its preferred form: how long it is, and the writing of it. Every transition is written in the writer's form, all
-// else is copied.
+// A field's data in their preferred form: whether they are in it, how long it is, and the writing of it. Every transition is written in
+// the writer's form, all else is copied.
 use base::Read;
 use base::Wrote;
 ghost use mathlib.Core.Path.{_≡_};
 ghost use mathlib.Core.List.{_++_};
-ghost use Prim.Native.Nat.{_≤_};
+ghost use Prim.Native.Nat.{_*_, _-_, _≤_};
+ghost use lib.Dec.{eqb};
 ghost use lib.ListN.{length, drop};
 ghost use Rattle.base.specs.Moment.{endOfTime};
 ghost use Rattle.base.proofs.MomentLaws.{Moment};
+ghost use Rattle.counts.specs.Count.{writeCount};
 ghost use Rattle.transitions.specs.Transition.{writeMoment};
 ghost use Rattle.places.specs.Placed.{Stands, ofRead};
 ghost use Rattle.contents.specs.Content.{pieceEnd, afterFlag, parseHead, printPieces, contentOf, print};
-ghost use Rattle.contents.specs.View.{PieceAt, HasPieces, HasContent, piecesAt, Put};
+ghost use Rattle.contents.specs.View.{PieceAt, ShortPiece, HasPieces, HasContent, piecesAt, Put};
 
 // The mark end of time, as a moment.
 const END: u64 = 3281606784000000000;
@@ -71,6 +73,17 @@ fn read_piece(s: &[u8], at: usize, prev: u64, n: u64) -> PieceRead
     }
 }
 
+// The moment of a piece in five bytes, the usual one, with n more pieces behind it; 0 where other codes stand there.
+fn short_piece(s: &[u8], at: usize, prev: u64, n: u64) -> u64
+    requires { ⌜ at ≤ length (now s) ⌝ }
+    ensures { λ r. ⌜ ShortPiece (now (s .entry)) n prev at r ⌝ }
+{
+    if 0 < n {
+        return places::short_at(s, at, prev);
+    }
+    0
+}
+
 // The length of a transition's preferred form, where its code took k bytes: one of at most three is preferred.
 fn code_size(prev: u64, m: u64, k: usize) -> usize
     requires { ⌜ (k ≤ 3 → length (writeMoment prev m) ≡ k) ⌝ }
@@ -106,6 +119,40 @@ fn pieces_size(s: &[u8], at: usize, n: u64) -> usize
         }
     }
     size
+}
+
+// Whether n pieces from a place on are in their preferred form: the first that is longer tells that they aren't.
+fn pieces_preferred(s: &[u8], at: usize, n: u64) -> bool
+    requires { ⌜ HasPieces (now s) n at ⌝ }
+    ensures { λ r. ⌜ r ≡ eqb (length (printPieces endOfTime (piecesAt (now (s .entry)) n at))) (length (now (s .entry)) - at) ⌝ }
+{
+    let mut left = n;
+    let mut place = at;
+    let mut prev = END;
+    while 0 < left {
+        left -= 1;
+        let m = short_piece(s, place, prev, left);
+        if m != 0 {
+            place += 5;
+            prev = m;
+        } else {
+            let item = read_piece(s, place, prev, left);
+            match item {
+                PieceRead::Refused(_) => {
+                    return false;
+                }
+                PieceRead::Got(p) => {
+                    let k = p.from - place;
+                    if code_size(prev, p.moment, k) != k {
+                        return false;
+                    }
+                    place = p.to;
+                    prev = p.moment;
+                }
+            }
+        }
+    }
+    true
 }
 
 // Writes a transition and the bytes that follow it.
@@ -186,7 +233,7 @@ fn zone_size(s: &[u8]) -> usize
 }
 
 // Writes a zone's data in their preferred form.
-fn write_zone(s: &[u8], out: &mut [u8]) -> usize
+pub fn write_zone(s: &[u8], out: &mut [u8]) -> usize
     requires { ⌜ HasContent (now s) × (length (print (contentOf 1 (now s))) ≤ length (now out)) ⌝ }
     ensures { λ r. ⌜ Put (print (contentOf 1 (now (s .entry)))) (now (out .entry)) r (now (out .exit)) ⌝ }
 {
@@ -210,13 +257,53 @@ pub fn size(i: u8, d: &[u8]) -> usize
     d.len()
 }
 
-// Writes the preferred data of a field with the ID i, which are n bytes: as many as it has only where they are its own.
-pub fn write(i: u8, d: &[u8], n: usize, out: &mut [u8]) -> usize
-    requires { ⌜ (i ≡ 1 → HasContent (now d)) × (n ≡ length (print (contentOf i (now d)))) × (n ≤ length (now out)) ⌝ }
-    ensures { λ r. ⌜ Put (print (contentOf i (now (d .entry)))) (now (out .entry)) r (now (out .exit)) ⌝ }
+// Whether a zone's data are in their preferred form.
+fn zone_preferred(s: &[u8]) -> bool
+    requires { ⌜ HasContent (now s) ⌝ }
+    ensures { λ r. ⌜ r ≡ eqb (length (print (contentOf 1 (now (s .entry))))) (length (now (s .entry))) ⌝ }
 {
-    if n == d.len() {
-        return bytes::copy(d, out);
+    match read_head(s) {
+        Read::Refused(_) => false,
+        Read::Value(n, a) => pieces_preferred(s, a, n),
     }
-    write_zone(d, out)
+}
+
+// Whether the data of a field with the ID i are in their preferred form, which is so where that is as long.
+pub fn is_preferred(i: u8, d: &[u8]) -> bool
+    requires { ⌜ (i ≡ 1 → HasContent (now d)) ⌝ }
+    ensures { λ r. ⌜ r ≡ eqb (length (print (contentOf i (now (d .entry))))) (length (now (d .entry))) ⌝ }
+{
+    if i == 1 {
+        return zone_preferred(d);
+    }
+    true
+}
+
+// The least length that m bytes with n transitions have in their preferred form: no form saves more than eight bytes.
+fn least(m: u64, n: u64) -> u64
+    requires { ⌜ n ≤ 2147483648 ⌝ }
+    ensures { λ r. ⌜ r ≡ m - 8 * n ⌝ }
+{
+    let saved = 8 * n;
+    if m < saved {
+        return 0;
+    }
+    m - saved
+}
+
+// How many bytes the size of a zone's preferred data takes. Most often the longest and the shortest that they can be tell.
+pub fn size_length(s: &[u8]) -> usize
+    requires { ⌜ HasContent (now s) ⌝ }
+    ensures { λ r. ⌜ r ≡ length (writeCount (length (print (contentOf 1 (now (s .entry)))))) ⌝ }
+{
+    match read_head(s) {
+        Read::Refused(_) => 0,
+        Read::Value(n, _) => {
+            let most = counts::count_size(s.len() as u64);
+            if counts::count_size(least(s.len() as u64, n)) == most {
+                return most;
+            }
+            counts::count_size(zone_size(s) as u64)
+        }
+    }
 }

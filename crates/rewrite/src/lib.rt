@@ -4,7 +4,7 @@ use base::Read;
 use base::Wrote;
 use checks::Verdict;
 ghost use mathlib.Core.Path.{_≡_};
-ghost use mathlib.Core.List.{[], _∷_};
+ghost use mathlib.Core.List.{[], _∷_, _++_};
 ghost use Prim.Native.Nat.{_≤_, _<_};
 ghost use lib.ListN.{length};
 ghost use lib.Dec.{leb};
@@ -72,14 +72,35 @@ fn write_head(i: u8, n: usize, out: &mut [u8]) -> usize
     }
 }
 
+// Copies a field.
+fn copy_field(i: u8, d: &[u8], out: &mut [u8]) -> usize
+    requires { ⌜ (length (now d) ≤ 4194304) × (length (i ∷ (writeCount (length (now d)) ++ now d)) ≤ length (now out)) ⌝ }
+    ensures { λ r. ⌜ Put (i ∷ (writeCount (length (now (d .entry))) ++ now (d .entry))) (now (out .entry)) r (now (out .exit)) ⌝ }
+{
+    let w = write_head(i, d.len(), out);
+    w + bytes::copy(d, &mut out[w..])
+}
+
+// Writes a zone in its preferred form: its data behind the room for ID and size, then these, once the size is known.
+fn write_zone(d: &[u8], out: &mut [u8]) -> usize
+    requires { ⌜ HasContent (now d) × (length (printField (fieldWith 1 (now d))) ≤ 4194304) × (length (printField (fieldWith 1 (now d))) ≤ length (now out)) ⌝ }
+    ensures { λ r. ⌜ Put (printField (fieldWith 1 (now (d .entry)))) (now (out .entry)) r (now (out .exit)) ⌝ }
+{
+    let k = 1 + contents::size_length(d);
+    let n = contents::write_zone(d, &mut out[k..]);
+    let w = write_head(1, n, out);
+    w + n
+}
+
 // Writes a field in its preferred form.
 fn write_field(i: u8, d: &[u8], out: &mut [u8]) -> usize
     requires { ⌜ (i ≡ 1 → HasContent (now d)) × (length (printField (fieldWith i (now d))) ≤ 4194304) × (length (printField (fieldWith i (now d))) ≤ length (now out)) ⌝ }
     ensures { λ r. ⌜ Put (printField (fieldWith i (now (d .entry)))) (now (out .entry)) r (now (out .exit)) ⌝ }
 {
-    let n = contents::size(i, d);
-    let w = write_head(i, n, out);
-    w + contents::write(i, d, n, &mut out[w..])
+    if contents::is_preferred(i, d) {
+        return copy_field(i, d, out);
+    }
+    write_zone(d, out)
 }
 
 // The length of the preferred file.

@@ -3,34 +3,30 @@ use mathlib.Core.Path.{_≡_, refl, ap, ap₂, _∙_, subst⁻¹}
 use mathlib.Core.List.{List, [], _∷_, _++_}
 use Prim.Native.Nat.{ℕ, zero, suc, _+_, _*_, _-_, _/_, _%_, _^_, _≤_, _<_}
 use native.Mathlib.Omega.{arith}
-use native.Mathlib.Numerals.{sub-one}
-use native.Mathlib.Nat.{pow-suc, mul-le-mul-right, mul-le-mul-left, div-eq-of-lt-le}
+use native.Mathlib.Numerals.{add-one}
+use native.Mathlib.Nat.{one-le-pow, pow-suc, mul-le-mul-right, mul-le-mul-left, div-eq-of-lt-le}
 use lib.Dec.{leb, lit≤}
 use lib.Arith.{mod-mul}
-use lib.ListN.{length, getD, take, drop, length-append}
+use lib.ListN.{length, getD, drop, length-append}
+use lib.Seq.{drop-cons}
 use borrow.Author.Tests.{le-leb, leb-true}
 use Rattle.base.specs.declared.Read.{Read}
 use Rattle.base.specs.declared.Read.the-variants.{Value, Refused}
 use Rattle.base.proofs.Tests.{pick-holds}
-use Rattle.base.proofs.Parts.{Bytes, part-from}
+use Rattle.base.proofs.Parts.{Bytes}
 use Rattle.counts.specs.Fixed.{fixedFrom, readFixed, fixedBytes}
 
-pub fixed-done : (n high : ℕ) (s : List ℕ) → n ≡ 0 → high ≡ fixedFrom n high s
+-- the loop that reads them: i of n bytes are read, which give v
+pub fixed-next : (n i v : ℕ) (s : List ℕ) → i < n → n ≤ length s
+    → fixedFrom (n - (i + 1)) (v * 256 + getD s i 0) (drop (i + 1) s) ≡ fixedFrom (n - i) v (drop i s)
 unfolding fixedFrom
-fixed-done zero high s e = refl
-fixed-done (suc n) high s e = absurd (omega arith)
+fixed-next n i v s h l =
+    let e : n - i ≡ suc (n - (i + 1)) = omega arith in
+    rw (e, drop-cons s i 0 (omega arith), add-one i)
 
-pub fixed-next : (n high : ℕ) (s : List ℕ) (r : ℕ) → 0 < n → 0 < length s
-    → r ≡ fixedFrom (n - 1) (high * 256 + getD s 0 0) (take (length s - 1) (drop 1 s)) → r ≡ fixedFrom n high s
+pub fixed-done : (n i v : ℕ) (s : List ℕ) → n ≤ i → fixedFrom (n - i) v (drop i s) ≡ v
 unfolding fixedFrom
-fixed-next zero high s r hn hs e = absurd (omega arith)
-fixed-next (suc n) high [] r hn hs e = absurd (omega arith)
-fixed-next (suc n) high (b ∷ s) r hn hs e =
-    e ∙ ap₂ (λ (m : ℕ) (l : List ℕ). fixedFrom m (high * 256 + b) l) (sub-one (suc n)) (part-from 1 (b ∷ s))
-
-pub one-le : (n : ℕ) → 1 ≤ 256 ^ n
-one-le zero = lit≤ tt
-one-le (suc n) = rw pow-suc (omega (arith, one-le n))
+fixed-done n i v s h = let e : n - i ≡ 0 = omega arith in rw e
 
 -- a byte more uses up a width
 room-suc : (n high b : ℕ) → b < 256 → (high * 256 + b + 1) * 256 ^ n ≤ (high + 1) * 256 ^ suc n
@@ -38,10 +34,14 @@ room-suc n high b hb =
     let l : b ≤ 255 = omega arith in
     rw pow-suc (omega (arith, mul-le-mul-right (256 ^ n) l))
 
-pub room : (n high b m : ℕ) → 0 < n → b < 256 → (high + 1) * 256 ^ n ≤ m → ((high * 256 + b + 1) * 256 ^ (n - 1) ≤ m) × (high * 256 + b < m)
-room zero high b m hn hb h = absurd (omega arith)
-room (suc n) high b m hn hb h =
-    rw (sub-one (suc n)) (omega (arith, room-suc n high b hb), omega (arith, room-suc n high b hb, mul-le-mul-left (high * 256 + b + 1) (one-le n)))
+-- the next number fits, and leaves room for the bytes after it
+pub room : (n i v b m : ℕ) → i < n → b < 256 → (v + 1) * 256 ^ (n - i) ≤ m
+    → ((v * 256 + b + 1) * 256 ^ (n - (i + 1)) ≤ m) × (v * 256 + b < m)
+room n i v b m h hb l =
+    let e : n - i ≡ suc (n - (i + 1)) = omega arith in
+    let w = room-suc (n - (i + 1)) v b hb in
+    let k = rw e at l in
+    (omega arith, omega (arith, mul-le-mul-left (v * 256 + b + 1) (one-le-pow (n - (i + 1)) 256 (lit≤ tt))))
 
 -- the number has the bits of high above its n bytes
 pub record Between (n high v : ℕ) : Type 0 where
@@ -61,7 +61,7 @@ pub fixed-written : (n high v : ℕ) (rest : List ℕ) → fixedFrom n high (fix
 unfolding fixedFrom fixedBytes
 fixed-written zero high v rest = omega arith
 fixed-written (suc n) high v rest =
-    let m : v % (256 * 256 ^ n) ≡ (v / 256 ^ n % 256) * 256 ^ n + v % 256 ^ n = mod-mul v (lit≤ tt) (one-le n) in
+    let m : v % (256 * 256 ^ n) ≡ (v / 256 ^ n % 256) * 256 ^ n + v % 256 ^ n = mod-mul v (lit≤ tt) (one-le-pow n 256 (lit≤ tt)) in
     let p : 256 ^ suc n ≡ 256 * 256 ^ n = rw pow-suc (omega arith) in
     fixed-written n (high * 256 + v / 256 ^ n % 256) v rest ∙ rw (p, m) (omega arith)
 
@@ -107,19 +107,3 @@ pub read-fixed-written : (n high v : ℕ) (rest : List ℕ) → readFixed n high
 read-fixed-written n high v rest =
     rw (le-leb n (length (fixedBytes n v ++ rest)) (simp (length-append, length-fixed) (omega arith)))
     (ap (λ (w : ℕ). Value w n) (fixed-written n high v rest))
-
--- eight bytes as two numbers of four
-pub fixed-eight : (s : List ℕ) → 8 ≤ length s
-    → fixedFrom 8 0 s
-    ≡ (getD s 0 0 * 16777216 + getD s 1 0 * 65536 + getD s 2 0 * 256 + getD s 3 0) * 4294967296
-    + (getD s 4 0 * 16777216 + getD s 5 0 * 65536 + getD s 6 0 * 256 + getD s 7 0)
-unfolding fixedFrom
-fixed-eight [] h = absurd (omega arith)
-fixed-eight (a ∷ []) h = absurd (omega arith)
-fixed-eight (a ∷ b ∷ []) h = absurd (omega arith)
-fixed-eight (a ∷ b ∷ c ∷ []) h = absurd (omega arith)
-fixed-eight (a ∷ b ∷ c ∷ d ∷ []) h = absurd (omega arith)
-fixed-eight (a ∷ b ∷ c ∷ d ∷ e ∷ []) h = absurd (omega arith)
-fixed-eight (a ∷ b ∷ c ∷ d ∷ e ∷ f ∷ []) h = absurd (omega arith)
-fixed-eight (a ∷ b ∷ c ∷ d ∷ e ∷ f ∷ g ∷ []) h = absurd (omega arith)
-fixed-eight (a ∷ b ∷ c ∷ d ∷ e ∷ f ∷ g ∷ i ∷ s) h = omega arith

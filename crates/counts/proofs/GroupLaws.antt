@@ -1,55 +1,97 @@
 -- Laws of numbers in groups of seven bits, at every number of groups and every largest last byte: how a reading goes on,
 -- what a value that reads is, that reading and writing undo one another, and what more bytes do. Assumes nothing.
-use mathlib.Core.Path.{_≡_, refl, ap, ap₂, _∙_, subst⁻¹}
+use mathlib.Core.Path.{_≡_, refl, sym, ap, ap₂, _∙_, subst⁻¹}
 use mathlib.Core.List.{List, [], _∷_, _++_}
 use mathlib.Core.Bool.{Bool, true, false}
 use mathlib.Core.Logic.{_⊎_, inl, inr}
 use Prim.Native.Nat.{ℕ, zero, suc, _+_, _*_, _-_, _/_, _%_, _^_, _≤_, _<_}
 use native.Mathlib.Omega.{arith}
-use native.Mathlib.Numerals.{sub-one, add-one}
-use native.Mathlib.Nat.{pow-suc, mul-le-mul}
+use native.Mathlib.Numerals.{add-one}
+use native.Mathlib.Nat.{pow-suc, pow-le-pow-right, one-le-pow}
 use lib.Dec.{ltb, leb, eqb, lit≤}
-use lib.ListN.{length, getD, take, drop}
+use lib.Arith.{digits-lt}
+use lib.ListN.{length, getD, drop, drop-of-length-le}
+use lib.Seq.{drop-cons}
 use borrow.Author.Tests.{lt-ltb, le-ltb, le-leb, lt-leb, ne-eqb, ltb-true, ltb-false, leb-true, eqb-false}
-use Rattle.base.specs.Pick.{pick}
+use Rattle.base.specs.Pick.{pick, both}
 use Rattle.base.specs.declared.Read.{Read}
 use Rattle.base.specs.declared.Read.the-variants.{Value, Refused}
 use Rattle.base.proofs.Tests.{by-order, pick-holds}
-use Rattle.base.proofs.Parts.{Bytes, part-from}
-use Rattle.counts.specs.Groups.{more, readGroups, writeGroups}
+use Rattle.base.proofs.Parts.{Bytes}
+use Rattle.counts.specs.Groups.{more, before, readGroups, writeGroups}
 
--- how a reading goes on: a law for each way out of the reader
-pub read-none : (k top : ℕ) (s : List ℕ) → length s ≡ 0 → Refused 9 ≡ readGroups k top s
-unfolding readGroups
-read-none k top [] h = refl
-read-none k top (b ∷ s) h = absurd (omega arith)
+-- where the reader's loop stands: i bytes with the top bit set are read, whose groups give v, and the next group counts unit
+pub record Reading (top : ℕ) (s : List ℕ) (v unit i : ℕ) : Type 0 where
+  pub most : i ≤ 4
+  pub below : v < unit
+  pub power : unit ≡ 128 ^ i
+  pub said : before v unit i (readGroups (4 - i) top (drop i s)) ≡ readGroups 4 top s
 
-pub read-last : (k top : ℕ) (s : List ℕ) → k ≡ 0 → 0 < length s → getD s 0 0 ≤ top → Value (getD s 0 0) 1 ≡ readGroups k top s
-unfolding readGroups
-read-last k top [] e h l = absurd (omega arith)
-read-last zero top (b ∷ s) e h l = rw (le-leb b top l)
-read-last (suc k) top (b ∷ s) e h l = absurd (omega arith)
+before-none : (g : Read) → before 0 1 0 g ≡ g
+before-none (Value w n) = go (eqb w 0)
+  where
+    go : (t : Bool) → pick (both t (ltb 0 0)) (Refused 7) (Value (0 + 1 * w) (0 + n)) ≡ Value w n
+    go true = ap₂ Value (omega arith) (omega arith)
+    go false = ap₂ Value (omega arith) (omega arith)
+before-none (Refused k) = refl
 
-pub read-above : (k top : ℕ) (s : List ℕ) → k ≡ 0 → 0 < length s → top < getD s 0 0 → Refused 7 ≡ readGroups k top s
-unfolding readGroups
-read-above k top [] e h l = absurd (omega arith)
-read-above zero top (b ∷ s) e h l = rw (lt-leb b top l)
-read-above (suc k) top (b ∷ s) e h l = absurd (omega arith)
+-- a byte more
+before-more : (v unit i b : ℕ) (g : Read) → before v unit i (more b g) ≡ before (v + unit * (b % 128)) (unit * 128) (i + 1) g
+before-more v unit i b (Value w n) = go (eqb w 0) refl
+  where
+    go : (t : Bool) → eqb w 0 ≡ t
+        → before v unit i (pick t (Refused 7) (Value (b % 128 + 128 * w) (n + 1)))
+        ≡ pick (both t (ltb 0 (i + 1))) (Refused 7) (Value (v + unit * (b % 128) + unit * 128 * w) (i + 1 + n))
+    go true e = rw (lt-ltb 0 (i + 1) (omega arith))
+    go false e =
+        let p : b % 128 + 128 * w ≡ 0 → ⊥ = λ z. eqb-false w 0 e (omega arith) in
+        rw (ne-eqb (b % 128 + 128 * w) 0 p) (ap₂ Value (omega arith) (omega arith))
+before-more v unit i b (Refused k) = refl
 
-pub read-one : (k top : ℕ) (s : List ℕ) → 0 < k → 0 < length s → getD s 0 0 < 128 → Value (getD s 0 0) 1 ≡ readGroups k top s
-unfolding readGroups
-read-one k top [] e h l = absurd (omega arith)
-read-one zero top (b ∷ s) e h l = absurd (omega arith)
-read-one (suc k) top (b ∷ s) e h l = rw (lt-ltb b 128 l)
+pub reading-start : (top : ℕ) (s : List ℕ) → Reading top s 0 1 0
+reading-start top s = record { most = omega arith; below = omega arith; power = refl; said = before-none (readGroups 4 top s) }
 
--- a byte with its top bit set, before what g the rest gives
-pub read-more : (k top : ℕ) (s : List ℕ) (g : Read) → 0 < k → 0 < length s → 128 ≤ getD s 0 0
-    → g ≡ readGroups (k - 1) top (take (length s - 1) (drop 1 s)) → more (getD s 0 0) g ≡ readGroups k top s
-unfolding readGroups
-read-more k top [] g hk hs hb e = absurd (omega arith)
-read-more zero top (b ∷ s) g hk hs hb e = absurd (omega arith)
-read-more (suc k) top (b ∷ s) g hk hs hb e =
-    rw (le-ltb b 128 hb) (ap (more b) (e ∙ ap₂ (λ (j : ℕ) (l : List ℕ). readGroups j top l) (sub-one (suc k)) (part-from 1 (b ∷ s))))
+-- how a reading goes on: a law for each way on from the loop's test
+module _ (top : ℕ) (s : List ℕ) (v unit i : ℕ) (r : Reading top s v unit i) where
+  -- the sums of the next group b
+  pub reading-fits : (b : ℕ) → b < 128 → (v + unit * b < unit * 128) × (unit ≤ 268435456)
+  reading-fits b h =
+      (omega (arith, digits-lt h (r .below)), omega (arith, r .power, pow-le-pow-right {n = 128} (lit≤ tt) (r .most)))
+
+  pub reading-cut : length s ≤ i → Refused 9 ≡ readGroups 4 top s
+  unfolding readGroups
+  reading-cut h = rw (drop-of-length-le s h) at (r .said)
+
+  module _ (less : i < 4) (here : i < length s) where
+    next-byte : readGroups (4 - i) top (drop i s)
+        ≡ pick (ltb (getD s i 0) 128) (Value (getD s i 0) 1) (more (getD s i 0) (readGroups (4 - (i + 1)) top (drop (i + 1) s)))
+    unfolding readGroups
+    next-byte = let e : 4 - i ≡ suc (4 - (i + 1)) = omega arith in rw (e, drop-cons s i 0 here, add-one i)
+
+    pub reading-last : getD s i 0 < 128 → before v unit i (Value (getD s i 0) 1) ≡ readGroups 4 top s
+    reading-last h = rw (next-byte, lt-ltb (getD s i 0) 128 h) at (r .said)
+
+    pub reading-next : 128 ≤ getD s i 0 → Reading top s (v + unit * (getD s i 0 % 128)) (unit * 128) (i + 1)
+    reading-next h =
+        let m = before-more v unit i (getD s i 0) (readGroups (4 - (i + 1)) top (drop (i + 1) s)) in
+        record {
+          most = omega arith;
+          below = reading-fits (getD s i 0 % 128) (omega arith) .0;
+          power = rw (add-one i, pow-suc) (ap (λ (u : ℕ). u * 128) (r .power));
+          said = sym m ∙ (rw (next-byte, le-ltb (getD s i 0) 128 h) at (r .said));
+        }
+
+  -- behind four bytes with the top bit set
+  module _ (four : 4 ≤ i) (here : 4 < length s) where
+    fifth-byte : before v unit 4 (pick (leb (getD s 4 0) top) (Value (getD s 4 0) 1) (Refused 7)) ≡ readGroups 4 top s
+    unfolding readGroups
+    fifth-byte = let e : i ≡ 4 = omega arith in rw (e, drop-cons s 4 0 here) at (r .said)
+
+    pub reading-fifth : getD s 4 0 ≤ top → before v unit 4 (Value (getD s 4 0) 1) ≡ readGroups 4 top s
+    reading-fifth h = rw (le-leb (getD s 4 0) top h) at fifth-byte
+
+    pub reading-above : top < getD s 4 0 → Refused 7 ≡ readGroups 4 top s
+    reading-above h = rw (lt-leb (getD s 4 0) top h) at fifth-byte
 
 -- a value v that s gives in n bytes
 pub record Group (k top : ℕ) (s : List ℕ) (v n : ℕ) : Type 0 where
@@ -62,10 +104,6 @@ pub record Group (k top : ℕ) (s : List ℕ) (v n : ℕ) : Type 0 where
 abbrev IsGroup : ℕ → ℕ → List ℕ → Read → Type 0
 IsGroup k top s (Value v n) = Group k top s v n
 IsGroup k top s (Refused j) = Unit
-
-pub one-le-pow : (k : ℕ) → 1 ≤ 128 ^ k
-one-le-pow zero = lit≤ tt
-one-le-pow (suc k) = rw pow-suc (omega (arith, one-le-pow k))
 
 group-more : (k top b : ℕ) (s : List ℕ) (g : Read) → IsGroup k top s g → IsGroup (suc k) top (b ∷ s) (more b g)
 group-more k top b s (Value v n) h =
@@ -91,7 +129,7 @@ is-group zero top (b ∷ s) =
     pick-holds (IsGroup zero top (b ∷ s)) (leb b top) (λ t. last-group zero top b s (omega (arith, leb-true b top t))) (λ _. tt)
 is-group (suc k) top (b ∷ s) =
     pick-holds (IsGroup (suc k) top (b ∷ s)) (ltb b 128)
-    (λ t. last-group (suc k) top b s (rw pow-suc (omega (arith, ltb-true b 128 t, one-le-pow k))))
+    (λ t. last-group (suc k) top b s (rw pow-suc (omega (arith, ltb-true b 128 t, one-le-pow k 128 (lit≤ tt)))))
     (λ _. group-more k top b s (readGroups k top s) (is-group k top s))
 
 pub group : (k top : ℕ) (s : List ℕ) {v n : ℕ} → Value v n ≡ readGroups k top s → Group k top s v n
@@ -203,20 +241,6 @@ past e (suc k) top (b ∷ s) p = go (past e k top s) (ltb b 128) p
 
 pub past-added : (e : List ℕ) (k top : ℕ) (s : List ℕ) {v n : ℕ} → Refused 9 ≡ readGroups k top s → Value v n ≡ readGroups k top (s ++ e) → length s < n
 past-added e k top s p q = subst⁻¹ (Past s) q (past e k top s p)
-
-pow-three : (k : ℕ) → k ≤ 3 → 128 ^ k ≤ 2097152
-pow-three zero h = lit≤ tt
-pow-three (suc zero) h = lit≤ tt
-pow-three (suc (suc zero)) h = lit≤ tt
-pow-three (suc (suc (suc zero))) h = lit≤ tt
-pow-three (suc (suc (suc (suc k)))) h = absurd (omega arith)
-
--- a value of at most four groups leaves room for one group more
-pub four-groups : (k top : ℕ) (s : List ℕ) {v n : ℕ} → k ≤ 3 → top < 16 → Value v n ≡ readGroups k top s → (v < 33554432) × (n ≤ 4)
-four-groups k top s hk ht e =
-    let g = group k top s e in
-    let t : top + 1 ≤ 16 = omega arith in
-    (omega (arith, mul-le-mul t (pow-three k hk)), omega arith)
 
 -- a refusal is 7 or 9
 abbrev SevenOrNine : Read → Type 0

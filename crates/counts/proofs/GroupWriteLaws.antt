@@ -1,22 +1,21 @@
 -- Laws of the written groups: how a writing goes on, one byte at a time, and the length and the bytes of the form. Assumes nothing.
-use mathlib.Core.Path.{_≡_, subst⁻¹}
+use mathlib.Core.Path.{_≡_, refl, _∙_}
 use mathlib.Core.List.{List, [], _∷_}
 use Prim.Native.Nat.{ℕ, zero, suc, _+_, _-_, _/_, _%_, _^_, _≤_, _<_}
 use native.Mathlib.Omega.{arith}
-use native.Mathlib.Numerals.{sub-one}
-use native.Mathlib.Nat.{pow-suc}
-use lib.Dec.{ltb}
-use lib.ListN.{length, take, drop, set}
+use native.Mathlib.Numerals.{add-one, sub-one}
+use native.Mathlib.Nat.{pow-suc, one-le-pow}
+use lib.Dec.{ltb, lit≤}
+use lib.ListN.{length, set, length-set}
+use lib.Seq.{sets}
 use borrow.Author.Tests.{lt-ltb, le-ltb, ltb-true}
-use borrow.Rule.Slice.PartMut.{putMid}
 use Rattle.base.specs.Writing.{bytes}
-use Rattle.base.specs.declared.Wrote.the-variants.{Length, Refused}
+use Rattle.base.specs.declared.Wrote.the-variants.{Length}
 use Rattle.base.proofs.Tests.{by-order, pick-holds}
-use Rattle.base.proofs.Parts.{Bytes, part-from, put-from}
+use Rattle.base.proofs.Parts.{Bytes}
 use Rattle.base.proofs.ByteLaws.{no-bytes, cons-bytes}
-use Rattle.base.proofs.WriteLaws.{Writes, no-room, stored, cons-length, cons-refused}
+use Rattle.base.proofs.WriteLaws.{Writes, stored}
 use Rattle.counts.specs.Groups.{writeGroups}
-use Rattle.counts.proofs.GroupLaws.{one-le-pow}
 
 -- the form is at least one byte
 pub write-some : (k v : ℕ) → 1 ≤ length (writeGroups k v)
@@ -55,7 +54,7 @@ unfolding writeGroups
 write-least zero k v hj h = omega (arith, write-some k v)
 write-least (suc j) zero v hj h = absurd (omega arith)
 write-least (suc j) (suc k) v hj h =
-    let l : 128 ≤ v = omega (arith, rw pow-suc at h, one-le-pow j) in
+    let l : 128 ≤ v = omega (arith, rw pow-suc at h, one-le-pow j 128 (lit≤ tt)) in
     rw (le-ltb v 128 l) (omega (arith, write-least j k (v / 128) (omega arith) (omega (arith, rw pow-suc at h))))
 
 pub write-bytes : (k v : ℕ) → Bytes (writeGroups k v)
@@ -66,44 +65,48 @@ write-bytes (suc k) v =
     (λ t. cons-bytes v [] (omega (arith, ltb-true v 128 t)) no-bytes)
     (λ _. cons-bytes (128 + v % 128) (writeGroups k (v / 128)) (omega arith) (write-bytes k (v / 128)))
 
--- how a writing goes on: a law for each way out of the writer
-pub write-none : (k v : ℕ) (d : List ℕ) → length d ≡ 0 → Writes (bytes (writeGroups k v)) d (Refused 15) d
-write-none k v d h = no-room (writeGroups k v) d (omega (arith, write-some k v))
-
-only : (b : ℕ) (d : List ℕ) → 0 < length d → Writes (bytes (b ∷ [])) d (Length 1) (set d 0 b)
-only b d h = stored (b ∷ []) d (omega arith)
-
-pub write-last : (k v : ℕ) (d : List ℕ) → k ≡ 0 → 0 < length d → Writes (bytes (writeGroups k v)) d (Length 1) (set d 0 (v % 128))
+-- a form of one byte, and of more
+write-last : (k v : ℕ) → length (writeGroups k v) ≤ 1 → writeGroups k v ≡ (v % 128) ∷ []
 unfolding writeGroups
-write-last zero v d e h = only (v % 128) d h
-write-last (suc k) v d e h = absurd (omega arith)
+write-last zero v h = refl
+write-last (suc k) v h =
+    by-order v 128
+    (λ (l : v < 128). let m : v % 128 ≡ v = omega arith in rw (lt-ltb v 128 l, m))
+    (λ (l : 128 ≤ v). absurd (omega (arith, rw (le-ltb v 128 l) at h, write-some k (v / 128))))
 
-pub write-one : (k v : ℕ) (d : List ℕ) → 0 < k → v < 128 → 0 < length d → Writes (bytes (writeGroups k v)) d (Length 1) (set d 0 (v % 128))
+write-step : (k v : ℕ) → 1 < length (writeGroups k v) → writeGroups k v ≡ (128 + v % 128) ∷ writeGroups (k - 1) (v / 128)
 unfolding writeGroups
-write-one zero v d e l h = absurd (omega arith)
-write-one (suc k) v d e l h =
-    let m : v % 128 ≡ v = omega arith in
-    rw (lt-ltb v 128 l, m) (only v d h)
+write-step zero v h = absurd (omega arith)
+write-step (suc k) v h =
+    by-order v 128
+    (λ (l : v < 128). absurd (omega (arith, rw (lt-ltb v 128 l) at h)))
+    (λ (l : 128 ≤ v). rw (le-ltb v 128 l, sub-one (suc k)))
 
-write-step : (k v : ℕ) → 0 < k → 128 ≤ v → writeGroups k v ≡ (128 + v % 128) ∷ writeGroups (k - 1) (v / 128)
-unfolding writeGroups
-write-step zero v hk hv = absurd (omega arith)
-write-step (suc k) v hk hv = rw (le-ltb v 128 hv, sub-one (suc k))
+-- where the writer's loop stands: i bytes are stored, and the groups of rest are left. d₀ is the output before the loop, d now
+pub record Storing (v : ℕ) (d₀ : List ℕ) (rest i : ℕ) (d : List ℕ) : Type 0 where
+  pub size : length d ≡ length d₀
+  pub inside : i < length (writeGroups 4 v)
+  pub left : i + length (writeGroups (4 - i) rest) ≡ length (writeGroups 4 v)
+  pub kept : sets d i (writeGroups (4 - i) rest) ≡ sets d₀ 0 (writeGroups 4 v)
 
--- the call on the rest of the output has returned
-module _ (k v : ℕ) (hk : 0 < k) (hv : 128 ≤ v) where
-  pub write-more : (d last : List ℕ) (n : ℕ) → 0 < length d
-      → Writes (bytes (writeGroups (k - 1) (v / 128))) (take (length d - 1) (drop 1 d)) (Length n) last
-      → Writes (bytes (writeGroups k v)) d (Length (n + 1)) (set (putMid 1 (length d - 1) d last) 0 (128 + v % 128))
-  write-more [] last n h w = absurd (omega arith)
-  write-more (x ∷ d) last n h w =
-      subst⁻¹ (λ (l : List ℕ). Writes (bytes (writeGroups k v)) (x ∷ d) (Length (n + 1)) (set l 0 (128 + v % 128))) (put-from 1 (x ∷ d) last h)
-      (rw (write-step k v hk hv) (cons-length (128 + v % 128) x _ d last (rw (part-from 1 (x ∷ d)) at (w .1)) n (rw (part-from 1 (x ∷ d)) at (w .0))))
+pub storing-start : (v : ℕ) (d : List ℕ) → Storing v d v 0 d
+storing-start v d = record { size = refl; inside = write-some 4 v; left = omega arith; kept = refl }
 
-  pub write-refused : (d last : List ℕ) (n : ℕ) → 0 < length d
-      → Writes (bytes (writeGroups (k - 1) (v / 128))) (take (length d - 1) (drop 1 d)) (Refused n) last
-      → Writes (bytes (writeGroups k v)) d (Refused n) (putMid 1 (length d - 1) d last)
-  write-refused [] last n h w = absurd (omega arith)
-  write-refused (x ∷ d) last n h w =
-      subst⁻¹ (λ (l : List ℕ). Writes (bytes (writeGroups k v)) (x ∷ d) (Refused n) l) (put-from 1 (x ∷ d) last h)
-      (rw (write-step k v hk hv) (cons-refused (128 + v % 128) x _ d last (rw (part-from 1 (x ∷ d)) at (w .1)) n (rw (part-from 1 (x ∷ d)) at (w .0))))
+module _ (v : ℕ) (d₀ : List ℕ) (rest i : ℕ) (d : List ℕ) (s : Storing v d₀ rest i d) where
+  pub storing-next : i + 1 < length (writeGroups 4 v) → Storing v d₀ (rest / 128) (i + 1) (set d i (128 + rest % 128))
+  storing-next h =
+      let e = write-step (4 - i) rest (omega (arith, s .left)) in
+      let z : 4 - i - 1 ≡ 4 - (i + 1) = omega arith in
+      record {
+        size = length-set d i (128 + rest % 128) ∙ s .size;
+        inside = h;
+        left = omega (arith, rw (e, z) at (s .left));
+        kept = rw (add-one i) (rw (e, z, add-one i) at (s .kept));
+      }
+
+  pub storing-end : (n : ℕ) → n ≡ length (writeGroups 4 v) → n ≤ i + 1 → n ≤ length d₀
+      → Writes (bytes (writeGroups 4 v)) d₀ (Length n) (set d i (rest % 128))
+  storing-end n m h l =
+      let e = write-last (4 - i) rest (omega (arith, s .left)) in
+      let w = stored (writeGroups 4 v) d₀ (omega arith) in
+      rw m (w .0, (rw e at (s .kept)) ∙ w .1)

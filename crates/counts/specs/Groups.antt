@@ -2,7 +2,7 @@
 use Prim.Native.Nat.{ℕ, zero, suc, _+_, _*_, _/_, _%_}
 use mathlib.Core.List.{List, [], _∷_}
 use lib.Dec.{ltb, leb, eqb}
-use Rattle.base.specs.Pick.{pick}
+use Rattle.base.specs.Pick.{pick, both}
 use Rattle.base.specs.declared.Read.{Read}
 use Rattle.base.specs.declared.Read.the-variants.{Value, Refused}
 
@@ -10,6 +10,11 @@ use Rattle.base.specs.declared.Read.the-variants.{Value, Refused}
 abbrev pub more : ℕ → Read → Read
 more b (Value v n) = pick (eqb v 0) (Refused 7) (Value (b % 128 + 128 * v) (n + 1))
 more b (Refused k) = Refused k
+
+-- i bytes with the top bit set, whose groups give v, before what the bytes after them give, counted in units
+abbrev pub before : ℕ → ℕ → ℕ → Read → Read
+before v unit i (Value w n) = pick (both (eqb w 0) (ltb 0 i)) (Refused 7) (Value (v + unit * w) (i + n))
+before v unit i (Refused k) = Refused k
 
 -- "seven bits a byte, low first, top bit set on all but the last": at most k bytes with the top bit set, then a last one,
 -- which after k of them is at most top. Bytes that end early give 9, "unless .. a count's fifth byte already gives 7"

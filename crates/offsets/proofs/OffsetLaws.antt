@@ -6,7 +6,7 @@ use mathlib.Core.Bool.{Bool, true, false}
 use Prim.Native.Nat.{ℕ, zero, suc, _+_, _*_, _-_, _/_, _%_, _^_, _≤_, _<_}
 use native.Mathlib.Omega.{arith}
 use native.Mathlib.Numerals.{add-one}
-use native.Mathlib.Nat.{mul-le-mul, div-eq-of-lt-le, div-lt-iff-lt-mul, div-add-mod'}
+use native.Mathlib.Nat.{one-le-pow, mul-le-mul, div-eq-of-lt-le, div-lt-iff-lt-mul, div-add-mod'}
 use lib.Dec.{ltb, leb, eqb, lit≤}
 use lib.IntN.{ℤ}
 use lib.ListN.{length, getD, take, drop}
@@ -16,7 +16,7 @@ use Rattle.base.specs.declared.Read.the-variants.{Value, Refused}
 use Rattle.base.proofs.Tests.{pick-holds, both-left, both-right}
 use Rattle.base.proofs.Parts.{Bytes, part-from}
 use Rattle.counts.specs.Fixed.{fixedFrom, readFixed, fixedBytes}
-use Rattle.counts.proofs.FixedLaws.{one-le, fixed-between, fixed-form, length-fixed, read-fixed-written}
+use Rattle.counts.proofs.FixedLaws.{fixed-between, fixed-form, length-fixed, read-fixed-written}
 use Rattle.signed.specs.declared.Number.the-variants.{Value as Signed}
 use Rattle.signed.specs.Number.{number}
 use Rattle.signed.specs.OffsetSum.{sumOf, millisecondsOf}
@@ -247,7 +247,7 @@ half-back b rest f =
 level-back : {n p unit coarser : ℕ} → Level n p unit coarser → (v : ℕ) (rest : List ℕ) → v < 32 * 256 ^ n → Fine coarser (v * unit) → Back (v * unit) rest
 level-back {n} {p} {unit} {coarser} l v rest h f =
     let q : ℕ = v / 256 ^ n in
-    let m : q < 32 = div-lt-iff-lt-mul (one-le n) .1 h in
+    let m : q < 32 = div-lt-iff-lt-mul (one-le-pow n 256 (lit≤ tt)) .1 h in
     let a : p % 32 ≡ 0 = l .aligned in
     let e : (p + q) % 32 ≡ q = omega arith in
     let g : (p + q) % 32 * 256 ^ n + v % 256 ^ n ≡ v = rw e (div-add-mod' v (256 ^ n)) in

@@ -58,7 +58,7 @@ pub fn zigzag_at(s: &[u8], at: usize) -> Read
     requires { ⌜ at ≤ length (now s) ⌝ }
     ensures { λ r. ⌜ Stands (now (s .entry)) (parse readZigzag (drop at (now (s .entry)))) (ofRead r) ⌝ }
 {
-    match counts::read_groups(&s[at..], 4, 15) {
+    match counts::read_groups(&s[at..], 15) {
         Read::Value(v, n) => Read::Value(v, at + n),
         Read::Refused(k) => Read::Refused(k),
     }

@@ -73,7 +73,7 @@ fn from_ticks(s: &[u8], n: usize) -> Read
     requires { ⌜ n ≤ 5 ⌝ }
     ensures { λ r. ⌜ r ≡ fromTicks n (readFixed 8 0 (now (s .entry))) ⌝ }
 {
-    match counts::read_eight(s) {
+    match counts::read_fixed(s, 8, 0) {
         Read::Value(raw, m) => {
             let t = signed::from_raw(raw);
             if t == 0 {

@@ -13,7 +13,7 @@ use Rattle.transitions.proofs.from_ticks.Tie as tie
 
 -- the number of the eight bytes
 eight : (c : tie.After-raw) → Value (c .raw .given .0 .0) (c .raw .given .0 .1 .0) ≡ readFixed 8 0 (now (c .before .before .before .before .args .s))
-eight c = sym (c .raw .given .1) ∙ c .before .before .read-eight .ensures
+eight c = sym (c .raw .given .1) ∙ c .before .before .read-fixed .ensures
 
 returns : tie.Need-returns
 returns c = ticks-none (c .before .before .before .before .before .before .before .args .n + c .before .before .before .raw .given .0 .1 .0) (c .before .before .before .raw .given .0 .0) _ (c .before .from-raw .ensures) (c .if1 .taken) ∙ ap (fromTicks _) (eight (c .before .before .before))
@@ -25,7 +25,7 @@ returns-2 : tie.Need-returns-2
 returns-2 c = ticks-some _ (c .before .before .before .raw .given .0 .0) _ (c .before .from-raw .ensures) (c .if1 .left) ∙ ap (fromTicks _) (eight (c .before .before .before))
 
 returns-3 : tie.Need-returns-3
-returns-3 c = ap (fromTicks _) (sym (c .before .k .given .1) ∙ c .before .before .before .read-eight .ensures)
+returns-3 c = ap (fromTicks _) (sym (c .before .k .given .1) ∙ c .before .before .before .read-fixed .ensures)
 
 pub from-ticks-spec : {M : Type 1} → statement M
 from-ticks-spec =

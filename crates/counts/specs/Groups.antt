@@ -11,11 +11,6 @@ abbrev pub more : ℕ → Read → Read
 more b (Value v n) = pick (eqb v 0) (Refused 7) (Value (b % 128 + 128 * v) (n + 1))
 more b (Refused k) = Refused k
 
--- i bytes with the top bit set, whose groups give v, before what the bytes after them give, counted in units
-abbrev pub before : ℕ → ℕ → ℕ → Read → Read
-before v unit i (Value w n) = pick (both (eqb w 0) (ltb 0 i)) (Refused 7) (Value (v + unit * w) (i + n))
-before v unit i (Refused k) = Refused k
-
 -- "seven bits a byte, low first, top bit set on all but the last": at most k bytes with the top bit set, then a last one,
 -- which after k of them is at most top. Bytes that end early give 9, "unless .. a count's fifth byte already gives 7"
 unfoldable pub readGroups : ℕ → ℕ → List ℕ → Read
@@ -27,3 +22,8 @@ readGroups (suc k) top (b ∷ s) = pick (ltb b 128) (Value b 1) (more b (readGro
 unfoldable pub writeGroups : ℕ → ℕ → List ℕ
 writeGroups zero v = (v % 128) ∷ []
 writeGroups (suc k) v = pick (ltb v 128) (v ∷ []) ((128 + v % 128) ∷ writeGroups k (v / 128))
+
+-- in the reader's loop: i bytes with the top bit set, whose groups give v, before what the bytes after them give, counted in units
+abbrev pub before : ℕ → ℕ → ℕ → Read → Read
+before v unit i (Value w n) = pick (both (eqb w 0) (ltb 0 i)) (Refused 7) (Value (v + unit * w) (i + n))
+before v unit i (Refused k) = Refused k

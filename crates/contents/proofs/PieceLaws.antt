@@ -1,5 +1,5 @@
 -- A transition and what follows it, at a place of the data. Assumes nothing.
-use mathlib.Core.Path.{_≡_, refl, sym, ap}
+use mathlib.Core.Path.{_≡_, refl, sym, ap, _∙_}
 use mathlib.Core.List.{List, []}
 use Prim.Native.Nat.{ℕ, zero, suc, _+_, _*_, _-_, _≤_}
 use native.Mathlib.Omega.{arith}
@@ -19,8 +19,7 @@ use Rattle.counts.proofs.CountLaws.{counted}
 use Rattle.transitions.specs.Transition.{readMoment}
 use Rattle.offsets.specs.Offset.{readSum}
 use Rattle.contents.specs.Content.{upTo, parseWall, pieceEnd, pieceOf, afterMoment, parsePiece, afterFlag, afterCount}
-use Rattle.contents.specs.View.{PieceAt, ShortPiece}
-use Rattle.contents.specs.declared.PieceRead.the-variants.{Got, Refused as Unread}
+use Rattle.contents.specs.View.{PieceAt, EndAt, ShortPiece}
 
 -- behind the end transition stands all the rest
 pub end-all : (s : List ℕ) (place n : ℕ) → n ≡ 0 → Stands s (pieceEnd n (drop place s)) (at 0 (length s))
@@ -57,6 +56,14 @@ end-rest (suc n) s v r e =
     let z = parse-rest readSum (b .rest) v r (b .on) in
     record { shorter = omega (arith, x .shorter, y .shorter, z .shorter); bytes = λ h. z .bytes (y .bytes (x .bytes h)) }
 
+-- what a reader of a piece's end gives
+pub end-at : (s : List ℕ) (n place v e : ℕ) → Stands s (pieceEnd n (drop place s)) (at v e) → EndAt s n place e
+end-at s n place v e h =
+    record { within = h .within; means = λ w q k. let z : got v (drop e s) ≡ got w q = sym (h .means) ∙ k in cc }
+
+pub end-no : (s : List ℕ) (n place k : ℕ) → Stands s (pieceEnd n (drop place s)) (no k) → EndAt s n place (length s)
+end-no s n place k h = record { within = omega arith; means = λ w q j. bad-got (sym (h .means) ∙ j) }
+
 -- the bytes between two places
 up-to-places : (s : List ℕ) (a e : ℕ) → a ≤ length s → e ≤ length s → upTo (drop a s) (drop e s) ≡ take (e - a) (drop a s)
 up-to-places s a e h k =
@@ -64,41 +71,36 @@ up-to-places s a e h k =
     rw n
 
 -- the piece at a place: its moment, then what follows it
-module _ (s : List ℕ) (n prev place : ℕ) where
-  pub piece-bad : (k : ℕ) → Stands s (parse (readMoment prev) (drop place s)) (no k) → PieceAt s n prev place (Unread k)
-  unfolding parsePiece
-  piece-bad k h = record { stands = off h (afterMoment n) k refl; coded = tt }
-
-  pub piece-cut : (m a k : ℕ) → Stands s (parse (readMoment prev) (drop place s)) (at m a) → Stands s (pieceEnd n (drop a s)) (no k)
-      → PieceAt s n prev place (Unread k)
-  unfolding parsePiece afterMoment
-  piece-cut m a k h j = record { stands = on h (afterMoment n) m a (no k) refl (off j (pieceOf m (drop a s)) k refl); coded = tt }
-
-  pub piece-got : (m a v e : ℕ) → Stands s (parse (readMoment prev) (drop place s)) (at m a) → Stands s (pieceEnd n (drop a s)) (at v e)
-      → PieceAt s n prev place (Got (record { moment = m; from = a; to = e }))
-  unfolding parsePiece afterMoment
-  piece-got m a v e h j =
-      let o : length (drop e s) ≤ length (drop a s) = end-rest n (drop a s) v (drop e s) (placed-got j v e refl) .shorter in
-      let i : a ≤ length s = h .within in
-      let k : e ≤ length s = j .within in
-      record {
-        stands = on h (afterMoment n) m a _ refl (on j (pieceOf m (drop a s)) v e _ refl
-            (record { means = ap (λ (xs : List ℕ). got (record { moment = m; copied = xs }) (drop e s)) (up-to-places s a e i k); within = k }));
-        coded = (let b : length s - e ≤ length s - a = rw (length-drop, length-drop) at o in omega arith, h .means);
-      }
+pub piece-got : (s : List ℕ) (n prev place m a v e : ℕ) → Stands s (parse (readMoment prev) (drop place s)) (at m a)
+    → pieceEnd n (drop a s) ≡ got v (drop e s) → e ≤ length s → PieceAt s n prev place m a e
+unfolding parsePiece afterMoment
+piece-got s n prev place m a v e h j k =
+    let o : length s - e ≤ length s - a = rw (length-drop, length-drop) at (end-rest n (drop a s) v (drop e s) j .shorter) in
+    let i : a ≤ length s = h .within in
+    record {
+      piece = rw (h .means, j) (ap (λ (xs : List ℕ). got (record { moment = m; copied = xs }) (drop e s)) (up-to-places s a e i k));
+      code = h .means;
+      first = omega arith;
+      last = k;
+    }
 
 -- a piece in five bytes
-module _ (s : List ℕ) (prev place m : ℕ) where
-  short-end : (n : ℕ) → (n ≡ 0 → ⊥) → ShortDetails s (place + 2) → Stands s (pieceEnd n (drop (place + 2) s)) (at (getD s (place + 2 + 2) 0 * 1800000) (place + 2 + 3))
-  unfolding pieceEnd parseWall
-  short-end n h d =
-      end-details s (place + 2) n _ h
-      (on (d .name) parseWall _ _ _ refl (on (d .wall) (λ w q. parse readSum q) _ _ _ refl (d .savings)))
+pub short-end : (s : List ℕ) (n place : ℕ) → (n ≡ 0 → ⊥) → ShortDetails s place
+    → Stands s (pieceEnd n (drop place s)) (at (getD s (place + 2) 0 * 1800000) (place + 3))
+unfolding pieceEnd parseWall
+short-end s n place h d =
+    end-details s place n _ h (on (d .name) parseWall _ _ _ refl (on (d .wall) (λ w q. parse readSum q) _ _ _ refl (d .savings)))
 
+module _ (s : List ℕ) (prev place m : ℕ) where
   pub short-some : (n : ℕ) → (n ≡ 0 → ⊥) → ShortAt s place prev m → ShortPiece s n prev place m
   short-some n h x =
       let five : place + 2 + 3 ≡ place + 5 = omega arith in
-      record { means = λ z. let y = x .means z in rw five at (piece-got s n prev place m (place + 2) _ _ (y .moment) (short-end n h (y .details))) }
+      record {
+        means = λ z.
+            let y = x .means z in
+            let d = short-end s n (place + 2) h (y .details) in
+            rw five at (piece-got s n prev place m (place + 2) _ (place + 2 + 3) (y .moment) (d .means) (d .within));
+      }
 
   pub short-none : (n : ℕ) → m ≡ 0 → ShortPiece s n prev place m
   short-none n e = record { means = λ z. absurd (z e) }

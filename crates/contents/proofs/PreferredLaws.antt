@@ -12,12 +12,10 @@ use Rattle.base.specs.Moment.{endOfTime}
 use Rattle.base.proofs.Parts.{Bytes}
 use Rattle.base.proofs.ByteLaws.{drop-bytes}
 use Rattle.transitions.specs.Transition.{writeMoment}
-use Rattle.contents.specs.Content.{Piece as PieceOf, parsePieces, printPieces}
+use Rattle.contents.specs.Content.{parsePieces, printPieces}
 use Rattle.contents.specs.View.{PieceAt, HasPieces, piecesAt}
-use Rattle.contents.specs.declared.Piece.{Piece}
-use Rattle.contents.specs.declared.PieceRead.the-variants.{Got}
 use Rattle.contents.proofs.SizeLaws.{code-between, pieces-between}
-use Rattle.contents.proofs.GoingLaws.{Going, printed, going-start, going-next, going-done, going-forward, printed-length}
+use Rattle.contents.proofs.GoingLaws.{Going, printed, going-start, going-next, going-done, going-forward, going-short, printed-length}
 
 -- a code of k bytes that has a shorter form m, with c bytes and r more behind it, in front of which d bytes stand from a place on
 short : (from d place k c r m rest : ℕ) → from + d ≡ place → m ≤ k → (m ≡ k → ⊥) → rest ≤ r → d + (m + c) + rest ≡ place + k + c + r - from → ⊥
@@ -46,33 +44,36 @@ module _ (s : List ℕ) (n from : ℕ) where
       sym (eq-eqb (length whole) (length s - from) (omega (arith, g .size, g .going .within)))
   same-done (suc left) place prev g h = absurd (omega arith)
 
-  module _ (left place prev : ℕ) (g : Same left place prev) (l : 0 < left) (p : Piece) (e : PieceAt s (left - 1) prev place (Got p)) where
-    next : Going s (left - 1) (p .to) (p .moment) whole (g .done ++ printed s prev p)
-    next = going-next s left place prev whole (g .done) p (g .going) l e
+  module _ (left place prev m a e : ℕ) (g : Same left place prev) (l : 0 < left) (p : PieceAt s (left - 1) prev place m a e) where
+    next : Going s (left - 1) e m whole (g .done ++ printed s prev m a e)
+    next = going-next s left place prev whole (g .done) m a e (g .going) l p
 
-    longer : length (g .done ++ printed s prev p) ≡ length (g .done) + (length (writeMoment prev (p .moment)) + (p .to - p .from))
-    longer = rw (length-append, printed-length s (left - 1) prev place p e)
+    longer : length (g .done ++ printed s prev m a e) ≡ length (g .done) + (length (writeMoment prev m) + (e - a))
+    longer = rw (length-append, printed-length s left place prev whole (g .done) m a e (g .going) l p)
 
-    forward : place ≤ p .from
-    forward = going-forward s (left - 1) prev place p (g .going .within) e
+    forward : place ≤ a
+    forward = going-forward s left place prev whole (g .done) m a e (g .going) l p
 
     -- the next piece is too
-    pub same-next : length (writeMoment prev (p .moment)) ≡ p .from - place → Same (left - 1) (p .to) (p .moment)
-    same-next h = record { done = g .done ++ printed s prev p; going = next; size = omega (arith, longer, forward, e .coded .0, g .size) }
+    pub same-next : length (writeMoment prev m) ≡ a - place → Same (left - 1) e m
+    same-next h = record { done = g .done ++ printed s prev m a e; going = next; size = omega (arith, longer, forward, p .first, g .size) }
+
+    pub same-short : Bytes s → a - place ≤ 3 → length (writeMoment prev m) ≡ a - place
+    same-short = going-short s left place prev whole (g .done) m a e (g .going) l p
 
     -- the next piece isn't
-    pub same-not : Bytes s → (length (writeMoment prev (p .moment)) ≡ p .from - place → ⊥) → false ≡ eqb (length whole) (length s - from)
+    pub same-not : Bytes s → (length (writeMoment prev m) ≡ a - place → ⊥) → false ≡ eqb (length whole) (length s - from)
     same-not b h =
-        let c = code-between prev (drop place s) (p .moment) (drop (p .from) s) (drop-bytes place s b) (e .coded .1) in
-        let i : length (writeMoment prev (p .moment)) + (length s - p .from) ≤ length s - place = rw (length-append, length-drop, length-drop) at (c .shorter) in
-        let r = pieces-between (left - 1) (p .moment) (drop (p .to) s) (next .rest) (drop-bytes (p .to) s b) (next .is) in
-        let j : length (printPieces (p .moment) (next .rest)) ≤ length s - p .to = rw length-drop at (r .shorter) in
-        let o : p .from ≤ p .to = e .coded .0 in
-        let w : p .to ≤ length s = e .stands .within in
-        let f : place ≤ p .from = forward in
-        let k : length whole ≡ length (g .done) + (length (writeMoment prev (p .moment)) + (p .to - p .from)) + length (printPieces (p .moment) (next .rest)) =
-        ap length (next .all) ∙ length-append (g .done ++ printed s prev p) _ ∙ ap (λ (x : ℕ). x + length (printPieces (p .moment) (next .rest))) longer in
-        let a : length s ≡ place + (p .from - place) + (p .to - p .from) + (length s - p .to) = omega arith in
-        let z : length (writeMoment prev (p .moment)) ≤ p .from - place = omega arith in
-        sym (ne-eqb (length whole) (length s - from) (λ q. short from (length (g .done)) place (p .from - place) (p .to - p .from) (length s - p .to) _ _
-        (g .size) z h j (sym k ∙ q ∙ ap (λ (x : ℕ). x - from) a)))
+        let c = code-between prev (drop place s) m (drop a s) (drop-bytes place s b) (p .code) in
+        let i : length (writeMoment prev m) + (length s - a) ≤ length s - place = rw (length-append, length-drop, length-drop) at (c .shorter) in
+        let r = pieces-between (left - 1) m (drop e s) (next .rest) (drop-bytes e s b) (next .is) in
+        let j : length (printPieces m (next .rest)) ≤ length s - e = rw length-drop at (r .shorter) in
+        let o : a ≤ e = p .first in
+        let w : e ≤ length s = p .last in
+        let f : place ≤ a = forward in
+        let k : length whole ≡ length (g .done) + (length (writeMoment prev m) + (e - a)) + length (printPieces m (next .rest)) =
+        ap length (next .all) ∙ length-append (g .done ++ printed s prev m a e) _ ∙ ap (λ (x : ℕ). x + length (printPieces m (next .rest))) longer in
+        let y : length s ≡ place + (a - place) + (e - a) + (length s - e) = omega arith in
+        let z : length (writeMoment prev m) ≤ a - place = omega arith in
+        sym (ne-eqb (length whole) (length s - from) (λ q. short from (length (g .done)) place (a - place) (e - a) (length s - e) _ _
+        (g .size) z h j (sym k ∙ q ∙ ap (λ (x : ℕ). x - from) y)))

@@ -13,22 +13,10 @@ ghost use Rattle.counts.specs.Count.{writeCount};
 ghost use Rattle.transitions.specs.Transition.{writeMoment};
 ghost use Rattle.places.specs.Placed.{Stands, ofRead};
 ghost use Rattle.contents.specs.Content.{pieceEnd, afterFlag, parseHead, printPieces, contentOf, print};
-ghost use Rattle.contents.specs.View.{PieceAt, ShortPiece, HasPieces, HasContent, piecesAt, Put};
+ghost use Rattle.contents.specs.View.{EndAt, ShortPiece, HasPieces, HasContent, piecesAt, Put};
 
 // The mark end of time, as a moment.
 const END: u64 = 3281606784000000000;
-
-// A transition's moment, and where the bytes behind it start and end.
-pub struct Piece {
-    pub moment: u64,
-    pub from: usize,
-    pub to: usize,
-}
-
-pub enum PieceRead {
-    Got(Piece),
-    Refused(u8),
-}
 
 // The place behind an interval's name, wall offset and savings.
 fn behind_details(s: &[u8], at: usize) -> Read
@@ -44,32 +32,22 @@ fn behind_details(s: &[u8], at: usize) -> Read
     }
 }
 
-// The end of the piece whose bytes start at a place, with n more pieces behind it.
-fn piece_end(s: &[u8], at: usize, n: u64) -> Read
+// Where the bytes end that follow a transition, with n more transitions behind it: an interval's details, or all the rest.
+fn piece_end(s: &[u8], at: usize, n: u64) -> usize
     requires { ⌜ at ≤ length (now s) ⌝ }
-    ensures { λ r. ⌜ Stands (now (s .entry)) (pieceEnd n (drop at (now (s .entry)))) (ofRead r) ⌝ }
+    ensures { λ r. ⌜ EndAt (now (s .entry)) n at r ⌝ }
 {
     if n == 0 {
-        return Read::Value(0, s.len());
+        return s.len();
     }
-    behind_details(s, at)
-}
-
-// The transition at a place, after a previous one, with n more behind it, and the bytes that follow it.
-fn read_piece(s: &[u8], at: usize, prev: u64, n: u64) -> PieceRead
-    requires { ⌜ at ≤ length (now s) ⌝ }
-    ensures { λ r. ⌜ PieceAt (now (s .entry)) n prev at r ⌝ }
-{
-    match places::moment_at(s, at, prev) {
-        Read::Refused(k) => PieceRead::Refused(k),
-        Read::Value(m, a) => match piece_end(s, a, n) {
-            Read::Refused(k) => PieceRead::Refused(k),
-            Read::Value(_, e) => PieceRead::Got(Piece {
-                moment: m,
-                from: a,
-                to: e,
-            }),
-        },
+    if 3 <= s.len() - at {
+        if places::short_details(s, at) {
+            return at + 3;
+        }
+    }
+    match behind_details(s, at) {
+        Read::Refused(_) => s.len(),
+        Read::Value(_, e) => e,
     }
 }
 
@@ -106,15 +84,16 @@ fn pieces_size(s: &[u8], at: usize, n: u64) -> usize
     let mut size = 0;
     while 0 < left {
         left -= 1;
-        let item = read_piece(s, place, prev, left);
+        let item = places::moment_at(s, place, prev);
         match item {
-            PieceRead::Refused(_) => {
+            Read::Refused(_) => {
                 return 0;
             }
-            PieceRead::Got(p) => {
-                size += code_size(prev, p.moment, p.from - place) + (p.to - p.from);
-                place = p.to;
-                prev = p.moment;
+            Read::Value(m, a) => {
+                let e = piece_end(s, a, left);
+                size += code_size(prev, m, a - place) + (e - a);
+                place = e;
+                prev = m;
             }
         }
     }
@@ -136,18 +115,19 @@ fn pieces_preferred(s: &[u8], at: usize, n: u64) -> bool
             place += 5;
             prev = m;
         } else {
-            let item = read_piece(s, place, prev, left);
+            let item = places::moment_at(s, place, prev);
             match item {
-                PieceRead::Refused(_) => {
+                Read::Refused(_) => {
                     return false;
                 }
-                PieceRead::Got(p) => {
-                    let k = p.from - place;
-                    if code_size(prev, p.moment, k) != k {
+                Read::Value(m, a) => {
+                    let e = piece_end(s, a, left);
+                    let k = a - place;
+                    if code_size(prev, m, k) != k {
                         return false;
                     }
-                    place = p.to;
-                    prev = p.moment;
+                    place = e;
+                    prev = m;
                 }
             }
         }
@@ -177,17 +157,16 @@ fn write_pieces(s: &[u8], at: usize, n: u64, out: &mut [u8]) -> usize
     let mut w = 0;
     while 0 < left {
         left -= 1;
-        let item = read_piece(s, place, prev, left);
+        let item = places::moment_at(s, place, prev);
         match item {
-            PieceRead::Refused(_) => {
+            Read::Refused(_) => {
                 return w;
             }
-            PieceRead::Got(p) => {
-                let a = p.from;
-                let e = p.to;
-                w += write_piece(prev, p.moment, &s[a..e], &mut out[w..]);
+            Read::Value(m, a) => {
+                let e = piece_end(s, a, left);
+                w += write_piece(prev, m, &s[a..e], &mut out[w..]);
                 place = e;
-                prev = p.moment;
+                prev = m;
             }
         }
     }

@@ -155,7 +155,7 @@ fn half_hours(b: u8) -> bool
 }
 
 // Whether a name, a wall offset and savings stand at a place, in a byte each.
-fn short_details(s: &[u8], at: usize) -> bool
+pub fn short_details(s: &[u8], at: usize) -> bool
     requires { ⌜ at + 3 ≤ length (now s) ⌝ }
     ensures { λ r. ⌜ (r ≡ true → ShortDetails (now (s .entry)) at) ⌝ }
 {

@@ -1,5 +1,5 @@
 -- Laws of readers in a row. Assumes nothing.
-use mathlib.Core.Path.{_≡_, refl}
+use mathlib.Core.Path.{_≡_, refl, ap}
 use mathlib.Core.Bool.{Bool, true, false}
 use mathlib.Core.List.{List, [], _∷_}
 use Prim.Native.Nat.{ℕ}
@@ -9,6 +9,23 @@ use Rattle.base.specs.Parsed.{Parsed, got, bad, bind, ended}
 
 pub bad-got : {A G : Type 0} {k : ℕ} {a : A} {r : List ℕ} → bad k ≡ got a r → G
 bad-got e = let z : _≡_ {A = ℕ} 0 1 = cc in absurd (omega arith)
+
+-- the parts of equal readings
+valueIn : {A : Type 0} → A → Parsed A → A
+valueIn d (got a r) = a
+valueIn d (bad n) = d
+
+restIn : {A : Type 0} → Parsed A → List ℕ
+restIn (got a r) = r
+restIn (bad n) = []
+
+pub got-value : {A : Type 0} {a b : A} {r q : List ℕ} → got a r ≡ got b q → a ≡ b
+unfolding valueIn
+got-value {a = a} e = ap (valueIn a) e
+
+pub got-rest : {A : Type 0} {a b : A} {r q : List ℕ} → got a r ≡ got b q → r ≡ q
+unfolding restIn
+got-rest e = ap restIn e
 
 -- what a good row has read first
 pub record Split {A B : Type 0} (p : Parsed A) (k : A → List ℕ → Parsed B) (b : B) (q : List ℕ) : Type 0 where

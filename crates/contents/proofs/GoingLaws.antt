@@ -13,7 +13,7 @@ use Rattle.base.proofs.Parts.{Bytes}
 use Rattle.base.proofs.ByteLaws.{drop-bytes}
 use Rattle.base.specs.Moment.{endOfTime}
 use Rattle.base.proofs.MomentLaws.{Moment}
-use Rattle.base.proofs.ParseLaws.{bad-got, bind-good}
+use Rattle.base.proofs.ParseLaws.{bad-got, got-value, got-rest, bind-good}
 use Rattle.transitions.specs.Transition.{readMoment, writeMoment}
 use Rattle.transitions.proofs.MomentLaws.{moment-read, Preferred, Longer, renewed}
 use Rattle.places.proofs.ValueLaws.{moment-is}
@@ -72,14 +72,6 @@ module _ (s : List ℕ) where
     unfolding parsePieces printPieces
     going-next = go left l (g .is) p
       where
-        itemsOf : Parsed (List Piece) → List Piece
-        itemsOf (got xs r) = xs
-        itemsOf (bad n) = []
-
-        leftOf : Parsed (List Piece) → List ℕ
-        leftOf (got xs r) = r
-        leftOf (bad n) = []
-
         go : (n : ℕ) → 0 < n → parsePieces n prev (drop place s) ≡ got (g .rest) [] → PieceAt s (n - 1) prev place m a e
             → Going s (n - 1) e m whole (done ++ printed s prev m a e)
         go zero h i q = absurd (omega arith)
@@ -89,11 +81,11 @@ module _ (s : List ℕ) where
             let k : parsePiece n prev (drop place s) ≡ got x (drop e s) = rw one at (q .piece) in
             let j : parsePieces (suc n) prev (drop place s) ≡ bind (parsePieces n m (drop e s)) (prepend x) = rw k in
             let b = bind-good (parsePieces n m (drop e s)) (prepend x) (g .rest) [] (sym j ∙ i) in
-            let y : x ∷ b .first ≡ g .rest = ap itemsOf (b .on) in
+            let y : x ∷ b .first ≡ g .rest = got-value (b .on) in
             rw one
             (record {
               rest = b .first;
-              is = b .is ∙ ap (got (b .first)) (ap leftOf (b .on));
+              is = b .is ∙ ap (got (b .first)) (got-rest (b .on));
               within = q .last;
               all =
                   g .all

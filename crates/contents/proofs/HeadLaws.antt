@@ -10,27 +10,19 @@ use lib.Seq.{length-take-le}
 use lib.Dec.{eqb}
 use borrow.Author.Tests.{eq-eqb, ne-eqb, eqb-true, eqb-false}
 use Rattle.base.specs.Pick.{pick}
-use Rattle.base.specs.Parsed.{Parsed, got, bad, bind, parse, parseByte}
+use Rattle.base.specs.Parsed.{got, bad, bind, parse, parseByte}
 use Rattle.base.specs.Moment.{endOfTime}
 use Rattle.base.proofs.Parts.{Bytes}
 use Rattle.base.proofs.ByteLaws.{drop-bytes}
-use Rattle.base.proofs.ParseLaws.{bad-got, bind-good}
+use Rattle.base.proofs.ParseLaws.{bad-got, got-value, got-rest, bind-good}
 use Rattle.counts.specs.Count.{readCount, writeCount}
 use Rattle.counts.proofs.CountLaws.{count-mono}
 use Rattle.places.specs.Placed.{at, no, Stands}
-use Rattle.contents.specs.Content.{Piece, Content, upTo, plain, contentWith, afterHead, afterId, afterFlag, afterCount, parseHead, parsePieces, parseContent, contentOf, printPieces, print}
+use Rattle.contents.specs.Content.{Piece, Content, upTo, contentWith, afterHead, afterId, afterFlag, afterCount, parseHead, parsePieces, parseContent, contentOf, printPieces, print}
 use Rattle.contents.specs.View.{HasContent, HasPieces, piecesAt}
 use Rattle.contents.proofs.PieceLaws.{count-small}
 use Rattle.contents.proofs.PutLaws.{InTwo}
 use Rattle.contents.proofs.SizeLaws.{pieces-between}
-
-abbrev contentIn : Parsed Content → Content
-contentIn (got c r) = c
-contentIn (bad n) = plain []
-
-abbrev restOf : Parsed Content → List ℕ
-restOf (got c r) = r
-restOf (bad n) = []
 
 -- m bytes are all that stand behind the first a of l
 behind-front : (a m l : ℕ) → a ≤ l → eqb m (l - a) ≡ eqb (a + m) l
@@ -70,8 +62,8 @@ module _ (d : List ℕ) (h : HasContent d) where
         let b = bind-good (parsePieces n endOfTime (drop a d)) (contentWith d (drop a d)) (h .content) [] (sym e ∙ h .is) in
         record {
           pieces = b .first;
-          are = b .is ∙ ap (got (b .first)) (ap restOf (b .on));
-          whole = sym (ap contentIn (b .on)) ∙ ap (λ (xs : List ℕ). record { head = xs; pieces = b .first }) front;
+          are = b .is ∙ ap (got (b .first)) (got-rest (b .on));
+          whole = sym (got-value (b .on)) ∙ ap (λ (xs : List ℕ). record { head = xs; pieces = b .first }) front;
         }
 
     pub head-pieces : HasPieces d n a

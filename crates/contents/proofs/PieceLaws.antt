@@ -13,12 +13,12 @@ use Rattle.base.proofs.ByteLaws.{no-bytes, drop-bytes}
 use Rattle.base.proofs.ParseLaws.{bad-got, bind-good}
 use Rattle.places.specs.Placed.{Placed, at, no, Stands}
 use Rattle.places.specs.Short.{ShortDetails, ShortAt}
-use Rattle.places.proofs.PlaceLaws.{placed-got, code-holds, on, off, here}
+use Rattle.places.proofs.PlaceLaws.{code-holds, on, off, here}
 use Rattle.counts.specs.Count.{readCount}
 use Rattle.counts.proofs.CountLaws.{counted}
 use Rattle.transitions.specs.Transition.{readMoment}
 use Rattle.offsets.specs.Offset.{readSum}
-use Rattle.contents.specs.Content.{upTo, parseWall, pieceEnd, pieceOf, afterMoment, parsePiece, afterFlag, afterCount}
+use Rattle.contents.specs.Content.{upTo, parseWall, pieceEnd, afterMoment, parsePiece, afterFlag, afterCount}
 use Rattle.contents.specs.View.{PieceAt, EndAt, ShortPiece}
 
 -- behind the end transition stands all the rest

@@ -1,13 +1,12 @@
 -- The loop that looks whether the pieces of a zone are in their preferred form, and the length of their size. Assumes nothing.
 use mathlib.Core.Path.{_≡_, refl, sym, ap, _∙_}
-use mathlib.Core.Bool.{Bool, true, false}
+use mathlib.Core.Bool.{true, false}
 use mathlib.Core.List.{List, [], _++_}
-use Prim.Native.Nat.{ℕ, zero, suc, _+_, _*_, _-_, _≤_, _<_}
+use Prim.Native.Nat.{ℕ, zero, suc, _+_, _-_, _≤_, _<_}
 use native.Mathlib.Omega.{arith}
 use lib.ListN.{length, drop, length-append, length-drop}
 use lib.Dec.{eqb}
 use borrow.Author.Tests.{eq-eqb, ne-eqb}
-use Rattle.base.specs.Parsed.{got}
 use Rattle.base.specs.Moment.{endOfTime}
 use Rattle.base.proofs.Parts.{Bytes}
 use Rattle.base.proofs.ByteLaws.{drop-bytes}

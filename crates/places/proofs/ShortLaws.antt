@@ -74,16 +74,6 @@ module _ (s : List ℕ) (place : ℕ) where
 pub no-two-bytes : (s : List ℕ) (place : ℕ) → TwoBytes s place 0
 no-two-bytes s place = record { room = λ k. absurd (omega arith); count = λ k. absurd (omega arith) }
 
-pub no-hours : (prev v : ℕ) → HoursAfter prev v 0
-no-hours prev v =
-    record {
-      low = λ k. absurd (omega arith);
-      high = λ k. absurd (omega arith);
-      previous = λ k. absurd (omega arith);
-      instant = λ k. absurd (omega arith);
-      sum = λ k. absurd (omega arith);
-    }
-
 hours-from : (prev v t : ℕ) → HoursAfter prev v t → 0 < t → fromCount prev v 2 ≡ Value t 2
 unfolding fromCount
 hours-from prev v t h n =

@@ -6,9 +6,9 @@ use Prim.Native.Nat.{ℕ, zero, suc, _+_, _≤_}
 use native.Mathlib.Omega.{arith}
 use lib.ListN.{length, length-append}
 use lib.Dec.{ltb}
-use Rattle.base.specs.Parsed.{Parsed, got, bad, bind, parse, prepend, many, behind}
+use Rattle.base.specs.Parsed.{got, bind, parse, prepend, many, behind}
 use Rattle.base.proofs.Parts.{Bytes}
-use Rattle.base.proofs.ParseLaws.{bind-good, pick-good}
+use Rattle.base.proofs.ParseLaws.{got-value, got-rest, bind-good, pick-good}
 use Rattle.counts.specs.Count.{readCount}
 use Rattle.offsets.specs.Offset.{readSum}
 use Rattle.transitions.specs.Transition.{readMoment, writeMoment}
@@ -17,18 +17,6 @@ use Rattle.intervals.specs.Interval.{intervalOf, afterWall, afterName, parseDet
 use Rattle.intervals.specs.declared.Interval.{Interval}
 use Rattle.contents.specs.Content.{Piece, upTo, parseWall, pieceEnd, afterMoment, parsePiece, parsePieces, printPieces}
 use Rattle.rewrite.proofs.CodeLaws.{Front, count-front, sum-front, Renewed, moment-renewed, up-to-front}
-
-abbrev valueOf : Parsed ℕ → ℕ
-valueOf (got v r) = v
-valueOf (bad n) = n
-
-abbrev intervalIn : Interval → Parsed Interval → Interval
-intervalIn i (got j r) = j
-intervalIn i (bad n) = i
-
-abbrev restOf : {A : Type 0} → Parsed A → List ℕ
-restOf (got a r) = r
-restOf (bad n) = []
 
 -- a pool number that was read
 pub record NameFront (pool : ℕ) (s : List ℕ) (k : ℕ) (r : List ℕ) : Type 0 where
@@ -40,8 +28,8 @@ unfolding parseName judgeName
 name-front pool s k r b e =
     let a = bind-good (parse readCount s) (judgeName pool) k r e in
     let t = pick-good (ltb (a .first) pool) (got (a .first) (a .rest)) 8 k r (a .on) in
-    let i : a .first ≡ k = ap valueOf (t .1) in
-    let j : a .rest ≡ r = ap restOf (t .1) in
+    let i : a .first ≡ k = got-value (t .1) in
+    let j : a .rest ≡ r = got-rest (t .1) in
     let l : ltb k pool ≡ true = subst (λ (y : ℕ). ltb y pool ≡ true) i (t .0) in
     let f = count-front s k r b (a .is ∙ ap (λ (y : ℕ). got y (a .rest)) i ∙ ap (got k) j) in
     record { code = f; again = λ x. rw (f .again x, l) }
@@ -65,8 +53,8 @@ details-front pool m s i r b e =
     let w = sum-front (a .rest) (c .first) (c .rest) (n .code .bytes) (c .is) in
     let d = bind-good (parse readSum (c .rest)) (intervalOf m (a .first) (c .first)) i r (c .on) in
     let v = sum-front (c .rest) (d .first) (d .rest) (w .bytes) (d .is) in
-    let h : record { start = m; name = a .first; wall = c .first; savings = d .first } ≡ i = ap (intervalIn i) (d .on) in
-    let j : d .rest ≡ r = ap restOf (d .on) in
+    let h : record { start = m; name = a .first; wall = c .first; savings = d .first } ≡ i = got-value (d .on) in
+    let j : d .rest ≡ r = got-rest (d .on) in
     let u : List ℕ = n .code .used ++ (w .used ++ v .used) in
     let q : (x : List ℕ) → u ++ x ≡ n .code .used ++ (w .used ++ (v .used ++ x)) =
     λ x. append-assoc (n .code .used) (w .used ++ v .used) x ∙ ap (λ (y : List ℕ). n .code .used ++ y) (append-assoc (w .used) (v .used) x) in

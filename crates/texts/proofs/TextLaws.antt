@@ -10,14 +10,14 @@ use lib.Seq.{take-append-seam, drop-append-seam, drop-drop, length-take-le}
 use lib.Dec.{ltb}
 use borrow.Author.Tests.{lt-ltb, le-ltb, ltb-false}
 use Rattle.base.specs.Pick.{pick}
-use Rattle.base.specs.Writing.{bytes, unfit}
+use Rattle.base.specs.Writing.{bytes}
 use Rattle.base.specs.declared.Read.{Read}
 use Rattle.base.specs.declared.Read.the-variants.{Value, Refused as Unread}
 use Rattle.base.proofs.Parts.{Bytes}
 use Rattle.counts.specs.Count.{readCount, writeCount}
 use Rattle.counts.proofs.CountLaws.{counted, count-written, count-form}
 use Rattle.texts.specs.Utf8.{utf8}
-use Rattle.texts.specs.Text.{sized, readText, partOf, textBytes, writeText, textForm}
+use Rattle.texts.specs.Text.{sized, readText, partOf, textBytes, writeText}
 use Rattle.texts.specs.declared.Text.{Text}
 use Rattle.texts.specs.declared.Text.the-variants.{Part, Refused}
 
@@ -82,17 +82,6 @@ held s a n e = go (readCount s) refl e
 pub record Fit (t : List ℕ) : Type 0 where
   pub small : length t ≤ 1024
   pub valid : utf8 t ≡ true
-
-pub fit-form : (t : List ℕ) → Fit t → textForm t ≡ bytes (writeText t)
-fit-form t f = rw (le-ltb 1024 (length t) (f .small), f .valid)
-
-pub form-fit : (t xs : List ℕ) → textForm t ≡ bytes xs → (xs ≡ writeText t) × Fit t
-form-fit t xs e = go (ltb 1024 (length t)) (utf8 t) refl refl e
-  where
-    go : (p q : Bool) → ltb 1024 (length t) ≡ p → utf8 t ≡ q → pick p (unfit 4) (pick q (bytes (writeText t)) (unfit 8)) ≡ bytes xs → (xs ≡ writeText t) × Fit t
-    go true q i j h = let z : _≡_ {A = ℕ} 0 1 = cc in absurd (omega arith)
-    go false true i j h = (cc, record { small = ltb-false 1024 (length t) i; valid = j })
-    go false false i j h = let z : _≡_ {A = ℕ} 0 1 = cc in absurd (omega arith)
 
 -- a text that was written is read back, whatever follows
 pub text-written : (t rest : List ℕ) → Fit t → readText (writeText t ++ rest) ≡ Part (length (writeCount (length t))) (length t)

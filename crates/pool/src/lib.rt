@@ -4,7 +4,7 @@ use texts::Text;
 ghost use mathlib.Core.Path.{_≡_};
 ghost use mathlib.Core.List.{[]};
 ghost use mathlib.Core.Bool.{true};
-ghost use Prim.Native.Nat.{_-_, _≤_, _<_};
+ghost use Prim.Native.Nat.{_+_, _-_, _≤_, _<_};
 ghost use lib.ListN.{length, take, drop, getD};
 ghost use lib.Seq.{sets};
 ghost use lib.Dec.{eqb};
@@ -33,26 +33,51 @@ fn behind(n: usize, at: usize) -> usize
     0
 }
 
+// The length of the string at a place, where its length code has one byte and all of it lies before the place `plain`; else 128. The usual
+// string is read by this alone.
+fn short(d: &[u8], at: usize, plain: usize) -> usize
+    requires { ⌜ at < 4294967296 ⌝ }
+    ensures { λ r. ⌜ (r < 128 → (at < length (now (d .entry))) × (r ≡ getD (now (d .entry)) at 0) × (at + r < plain)) ⌝ }
+{
+    if d.len() <= at {
+        return 128;
+    }
+    let n = d[at] as usize;
+    if n < 128 {
+        if at + n < plain {
+            return n;
+        }
+    }
+    128
+}
+
 // The strings of d from a place on, k of them and nothing behind. starts gets the place of each. The bytes up to the place `plain` are ASCII.
 fn fill(d: &[u8], from: usize, k: usize, plain: usize, starts: &mut [u32; 8192]) -> Checked
-    requires { ⌜ (from ≤ length (now d)) × (from ≤ 5) × (k ≤ 8192) × (ascii (take (plain - from) (drop from (now d))) ≡ true) ⌝ }
+    requires { ⌜ (from ≤ length (now d)) × (from ≤ 5) × (k ≤ 8192) × (plain ≤ length (now d)) × (ascii (take (plain - from) (drop from (now d))) ≡ true) ⌝ }
     ensures { λ r. ⌜ (r ≡ checked (allStrings k (drop from (now (d .entry))))) × (now (starts .exit) ≡ sets (now (starts .entry)) 0 (readStarts k from (drop from (now (d .entry))))) ⌝ }
 {
     let mut at = from;
     let mut i: usize = 0;
     while i < k {
-        let front = behind(plain, at);
-        let t = texts::read_text_in(&d[at..], front);
-        match t {
-            Text::Refused(m) => {
-                return Checked::Refused(m);
-            }
-            Text::Part(a, n) => {
-                starts[i] = at as u32;
-                at = at + (a + n);
+        let n = short(d, at, plain);
+        if n < 128 {
+            starts[i] = at as u32;
+            at = at + (1 + n);
+            i += 1;
+        } else {
+            let front = behind(plain, at);
+            let t = texts::read_text_in(&d[at..], front);
+            match t {
+                Text::Refused(m) => {
+                    return Checked::Refused(m);
+                }
+                Text::Part(a, m) => {
+                    starts[i] = at as u32;
+                    at = at + (a + m);
+                    i += 1;
+                }
             }
         }
-        i += 1;
     }
     if at == d.len() {
         return Checked::Strings(k);

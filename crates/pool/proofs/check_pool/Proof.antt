@@ -20,7 +20,7 @@ fill-requires c κs =
     let q = behind-count (c .before .before .before) in
     let a = c .before .before .before .before .before .g2 .given .0 .1 .0 in
     let z : a + c .before .ascii-front .result - a ≡ c .before .ascii-front .result = omega arith in
-    (q .within, q .size, omega arith, rw z (rw (part-from a (now (c .before .before .before .before .before .before .before .before .before .args .d))) at (c .before .ascii-front .ensures .1)))
+    (q .within, q .size, omega arith, omega (arith, q .within, c .before .ascii-front .ensures .0), rw z (rw (part-from a (now (c .before .before .before .before .before .before .before .before .before .args .d))) at (c .before .ascii-front .ensures .1)))
 
 returns-2 : tie.Need-returns-2
 returns-2 c = pool-unread _ _ _ (c .before .before .before .read-count .ensures) _ (c .before .g .given .1)

@@ -16,7 +16,7 @@ use Rattle.pool.specs.Pool.{Pool, parsePool, checked, stringsIn, stringsOf}
 use Rattle.pool.specs.Index.{startsOf}
 use Rattle.pool.specs.declared.Checked.{Checked}
 use Rattle.pool.specs.declared.Checked.the-variants.{Strings, Refused as Unpooled}
-use Rattle.pool.proofs.PoolLaws.{ready}
+use Rattle.pool.proofs.PoolLaws.{room-most, ready}
 use Rattle.zones.specs.Content.{Zone}
 use Rattle.zones.specs.Parse.{parseZone}
 use Rattle.zones.specs.Lookup.{verdictOf}
@@ -61,7 +61,7 @@ module _ (s : List ℕ) (k : Kept) (a e : ℕ) (ix ix′ : List ℕ) (c : Checke
               first = l₁;
               last = l₂;
               room = ap length (h .1) ∙ length-sets ix 0 (startsOf (part s a e)) ∙ l;
-              ready = ready (part s a e) ix ix′ l (h .1);
+              ready = ready (part s a e) ix ix′ (omega (arith, room-most (part s a e))) (h .1);
               count = j ∙ sym (ap length w);
             },
             record { strings = sym w; ids = rw (fr .flags, fr .marks, fr .ids) (keeps-none _); text = st .text },

@@ -22,7 +22,7 @@ fn hash(s: &[u8]) -> usize
 }
 
 // Whether a string that was seen has the bytes of the k-th. It looks at all of them: only an ID that was seen comes here.
-fn is_held(pool: &[u8], starts: &[u32; 8192], count: usize, seen: &[u32; 8192], k: usize) -> bool
+fn is_held(pool: &[u8], starts: &[u32], count: usize, seen: &[u32; 8192], k: usize) -> bool
     requires { ⌜ Ready (now pool) (now starts) × (count ≡ length (stringsOf (now pool))) × (k < count) ⌝ }
     ensures { λ r. ⌜ r ≡ held (stringsOf (now (pool .entry))) (now (seen .entry)) (getD (stringsOf (now (pool .entry))) k []) ⌝ }
 {
@@ -55,7 +55,7 @@ fn wide(x: u32) -> usize
 // Whether the links from a number on come to an end with no string that is id. A number is one more than the string's; 0 is no string.
 fn is_missing(
     pool: &[u8],
-    starts: &[u32; 8192],
+    starts: &[u32],
     count: usize,
     seen: &[u32; 8192],
     from: usize,
@@ -90,7 +90,7 @@ fn is_missing(
 // Whether a string that was seen has the bytes of the k-th, whose hash is h.
 fn is_second(
     pool: &[u8],
-    starts: &[u32; 8192],
+    starts: &[u32],
     count: usize,
     seen: &[u32; 8192],
     marks: &[u16; 16384],
@@ -117,7 +117,7 @@ fn is_second(
 // Whether an earlier zone had the ID that the k-th string is; if not, it is remembered.
 pub fn take_id(
     pool: &[u8],
-    starts: &[u32; 8192],
+    starts: &[u32],
     count: usize,
     seen: &mut [u32; 8192],
     marks: &mut [u16; 16384],

@@ -11,7 +11,7 @@ ghost use lib.Dec.{eqb};
 ghost use Rattle.base.specs.Pick.{pick};
 ghost use Rattle.texts.specs.Ascii.{ascii};
 ghost use Rattle.pool.specs.Pool.{allStrings, parsePool, checked, stringsOf};
-ghost use Rattle.pool.specs.Index.{readStarts, startsOf, Ready, spanOf};
+ghost use Rattle.pool.specs.Index.{readStarts, startsOf, roomOf, Ready, spanOf};
 ghost use Rattle.base.specs.Equal.{equal};
 ghost use Rattle.pool.specs.Holder.{textOf, Held};
 
@@ -52,8 +52,8 @@ fn short(d: &[u8], at: usize, plain: usize) -> usize
 }
 
 // The strings of d from a place on, k of them and nothing behind. starts gets the place of each. The bytes up to the place `plain` are ASCII.
-fn fill(d: &[u8], from: usize, k: usize, plain: usize, starts: &mut [u32; 8192]) -> Checked
-    requires { ⌜ (from ≤ length (now d)) × (from ≤ 5) × (k ≤ 8192) × (plain ≤ length (now d)) × (ascii (take (plain - from) (drop from (now d))) ≡ true) ⌝ }
+fn fill(d: &[u8], from: usize, k: usize, plain: usize, starts: &mut [u32]) -> Checked
+    requires { ⌜ (from ≤ length (now d)) × (from ≤ 5) × (k ≤ 8192) × (k ≤ length (now starts)) × (plain ≤ length (now d)) × (ascii (take (plain - from) (drop from (now d))) ≡ true) ⌝ }
     ensures { λ r. ⌜ (r ≡ checked (allStrings k (drop from (now (d .entry))))) × (now (starts .exit) ≡ sets (now (starts .entry)) 0 (readStarts k from (drop from (now (d .entry))))) ⌝ }
 {
     let mut at = from;
@@ -85,8 +85,26 @@ fn fill(d: &[u8], from: usize, k: usize, plain: usize, starts: &mut [u32; 8192])
     Checked::Refused(9)
 }
 
+// How many places the index of the pool in d needs.
+pub fn room(d: &[u8]) -> usize
+    ensures { λ r. ⌜ r ≡ roomOf (now (d .entry)) ⌝ }
+{
+    let g = counts::read_count(d);
+    match g {
+        Read::Refused(_) => 0,
+        Read::Value(v, _) => {
+            let k = v as usize;
+            if k <= 8192 {
+                return k;
+            }
+            0
+        }
+    }
+}
+
 // The pool in d, the data of field 0. starts gets the place of each string before the first that is refused.
-pub fn check_pool(d: &[u8], starts: &mut [u32; 8192]) -> Checked
+pub fn check_pool(d: &[u8], starts: &mut [u32]) -> Checked
+    requires { ⌜ roomOf (now d) ≤ length (now starts) ⌝ }
     ensures { λ r. ⌜ (r ≡ checked (parsePool (now (d .entry)))) × (now (starts .exit) ≡ sets (now (starts .entry)) 0 (startsOf (now (d .entry)))) ⌝ }
 {
     let g = counts::read_count(d);
@@ -110,7 +128,7 @@ pub struct Span {
 }
 
 // Where the k-th string lies, by the index.
-pub fn span_by(d: &[u8], starts: &[u32; 8192], k: usize) -> Span
+pub fn span_by(d: &[u8], starts: &[u32], k: usize) -> Span
     requires { ⌜ Ready (now d) (now starts) × (k < length (stringsOf (now d))) ⌝ }
     ensures { λ r. ⌜ r ≡ spanOf (now (d .entry)) k ⌝ }
 {
@@ -126,7 +144,7 @@ pub fn span_by(d: &[u8], starts: &[u32; 8192], k: usize) -> Span
 }
 
 // The k-th string, by the index.
-pub fn text_by<'a>(d: &'a [u8], starts: &[u32; 8192], k: usize) -> &'a [u8]
+pub fn text_by<'a>(d: &'a [u8], starts: &[u32], k: usize) -> &'a [u8]
     requires { ⌜ Ready (now d) (now starts) × (k < length (stringsOf (now d))) ⌝ }
     ensures { λ r. ⌜ now r ≡ getD (stringsOf (now (d .entry))) k [] ⌝ }
 {
@@ -143,7 +161,7 @@ pub enum Holder {
 }
 
 // A text, as a part of whichever slice holds it.
-pub fn text_of<'a>(pool: &'a [u8], field: &'a [u8], starts: &[u32; 8192], h: Holder) -> &'a [u8]
+pub fn text_of<'a>(pool: &'a [u8], field: &'a [u8], starts: &[u32], h: Holder) -> &'a [u8]
     requires { ⌜ Ready (now pool) (now starts) × Held (now pool) (now field) h ⌝ }
     ensures { λ r. ⌜ now r ≡ textOf (now (pool .entry)) (now (field .entry)) h ⌝ }
 {
@@ -180,7 +198,7 @@ pub fn same(a: &[u8], b: &[u8]) -> bool
 }
 
 // Whether the k-th string is id.
-pub fn has_id(d: &[u8], starts: &[u32; 8192], k: usize, id: &[u8]) -> bool
+pub fn has_id(d: &[u8], starts: &[u32], k: usize, id: &[u8]) -> bool
     requires { ⌜ Ready (now d) (now starts) × (k < length (stringsOf (now d))) ⌝ }
     ensures { λ r. ⌜ r ≡ equal (getD (stringsOf (now (d .entry))) k []) (now (id .entry)) ⌝ }
 {

@@ -27,15 +27,15 @@ small c = omega (arith, c .before .loop .inv .0 .small, c .before .loop .inv .0 
 
 -- the bytes from a place on, as far as they are known to be ASCII
 plain-at : (c : tie.In-loop Inv-loop μ-loop)
-    → ascii (take (c .before .before .before .args .plain - c .before .loop .at) (drop (c .before .loop .at) (now (c .before .before .before .args .d)))) ≡ true
-plain-at c = ascii-at (c .before .before .before .args .plain) (c .before .before .before .args .from) (c .before .loop .at) (now (c .before .before .before .args .d)) (c .before .loop .inv .1) (c .before .before .before .pre .4)
+    → ascii (take (c .before .before .before .before .args .plain - c .before .loop .at) (drop (c .before .loop .at) (now (c .before .before .before .before .args .d)))) ≡ true
+plain-at c = ascii-at (c .before .before .before .before .args .plain) (c .before .before .before .before .args .from) (c .before .loop .at) (now (c .before .before .before .before .args .d)) (c .before .loop .inv .1) (c .before .before .before .before .pre .5)
 
 loop-again : tie.Need-loop-again Inv-loop μ-loop
-loop-again c = (filling-next _ _ _ _ _ _ _ (c .before .before .before .loop .inv .0) (c .before .before .loop-test .taken) _ (plain-here _ _ (c .before .before .before .before .before .args .plain) _ (c .before .before .before .before .before .pre .3) (plain-at (c .before .before)) (c .before .short .ensures (c .if1 .taken)) (c .if1 .taken)) _ _ refl, omega (arith, c .before .before .before .loop .inv .1))
+loop-again c = (filling-next _ _ _ _ _ _ _ (c .before .before .before .loop .inv .0) (c .before .before .loop-test .taken) _ (plain-here _ _ (c .before .before .before .before .before .before .args .plain) _ (c .before .before .before .before .before .before .pre .4) (plain-at (c .before .before)) (c .before .short .ensures (c .if1 .taken)) (c .if1 .taken)) _ _ refl, omega (arith, c .before .before .before .loop .inv .1))
 
 read-text-in-requires : tie.Need-read-text-in-requires Inv-loop μ-loop
 read-text-in-requires c κs =
-    rw (c .before .behind .ensures, part-from (c .before .before .before .before .before .loop .at) (now (c .before .before .before .before .before .before .before .args .d)))
+    rw (c .before .behind .ensures, part-from (c .before .before .before .before .before .loop .at) (now (c .before .before .before .before .before .before .before .before .args .d)))
     (plain-at (c .before .before .before .before))
 
 returns : tie.Need-returns Inv-loop μ-loop
@@ -66,11 +66,11 @@ fill-spec =
     (λ c κs. small c)
     (λ c. omega (arith, small (c .before .before)))
     (λ c. search needs)
-    (λ c. search needs)
+    (λ c. omega (arith, c .before .before .before .loop .inv .0 .size))
     (λ c. omega arith)
     (λ c. omega (arith, small (c .before .before)))
     (λ c. search needs)
-    (λ c. search needs)
+    (λ c. omega (arith, c .before .before .before .loop .inv .0 .size))
     loop-again
     (λ c κs. search needs)
     (λ c. c .before .before .before .before .loop .inv .0 .inside)
@@ -78,15 +78,18 @@ fill-spec =
     (λ c. search needs)
     read-text-in-requires
     (λ c. search needs)
+    (λ c. c .before .before .before .before .before .before .before .before .before .loop .inv .0 .size)
     returns
     (λ c. search needs)
     (λ c. omega (arith, small (c .before .before .before .before .before .before .before .before)))
     (λ c. search needs)
-    (λ c. search needs)
+    (λ c. omega (arith, c .before .before .before .before .before .before .before .before .before .loop .inv .0 .size))
     add-at-3
     add-at-4
     (λ c. search needs)
     (λ c. search needs)
     loop-again-2
+    (λ c. c .before .before .loop .inv .0 .size)
     returns-2
+    (λ c. c .before .before .loop .inv .0 .size)
     returns-3)

@@ -6,14 +6,26 @@ ghost use Prim.Native.Nat.{_<_};
 ghost use lib.ListN.{length, getD};
 ghost use Rattle.pool.specs.Pool.{stringsOf};
 ghost use Rattle.pool.specs.Index.{Ready};
-ghost use Rattle.ids.specs.Memory.{hash as hashOf, held, missing, second, Taken};
+ghost use Rattle.ids.specs.Memory.{fourOf, hash as hashOf, held, missing, second, Taken};
 
-// The place that leads to an ID.
+// The number of four bytes, low first.
+fn four(a: u8, b: u8, c: u8, d: u8) -> usize
+    ensures { λ r. ⌜ (r ≡ fourOf a b c d) × (r < 4294967296) ⌝ }
+{
+    a as usize + b as usize * 256 + c as usize * 65536 + d as usize * 16777216
+}
+
+// The place that leads to an ID. Its bytes are taken four at a time, and those behind the last four one by one.
 fn hash(s: &[u8]) -> usize
     ensures { λ r. ⌜ (r ≡ hashOf (now (s .entry))) × (r < 16384) ⌝ }
 {
     let mut h: usize = 2166136261;
     let mut i: usize = 0;
+    while 4 <= s.len() - i {
+        let w = four(s[i], s[i + 1], s[i + 2], s[i + 3]);
+        h = (h + w) * 16777619 % 4294967296;
+        i += 4;
+    }
     while i < s.len() {
         h = (h + s[i] as usize) * 16777619 % 4294967296;
         i += 1;

@@ -11,11 +11,11 @@ use Rattle.base.specs.Parsed.{Parsed, got, bad}
 use Rattle.base.proofs.Parts.{part-from}
 use Rattle.pool.specs.Pool.{parsePool, stringsOf}
 use Rattle.zones.specs.Parse.{parseZone}
-use Rattle.frames.specs.Frame.{largest, frame}
-use Rattle.frames.specs.Machine.{Out, found, refused, cut, ended, Content, bad as fault, answer, keep, Job, State, stateAt, fieldAt, from, walk}
+use Rattle.frames.specs.Frame.{frame}
+use Rattle.frames.specs.Machine.{Out, bad as fault, answer, keep, Job, State, stateAt, fieldAt, from, walk}
 use Rattle.frames.specs.declared.Frame.{Frame}
 use Rattle.frames.specs.declared.Frame.the-variants.{End as FrameEnd, Cut as FrameCut, Refused as FrameRefused, Version, Whole}
-use Rattle.frames.proofs.StepLaws.{Room, whole-room, version-room, from-end, from-cut, from-refused, from-version, from-bad, from-answer, from-keep}
+use Rattle.frames.proofs.StepLaws.{whole-room, version-room, from-end, from-cut, from-refused, from-version, from-bad, from-answer, from-keep}
 use Rattle.frames.proofs.HeadLaws.{whole-headed, order-follows, order-first}
 use Rattle.questions.specs.Question.{Pool, noPool, poolSays, zoneSays, says, question}
 use Rattle.questions.specs.View.{part, poolOf, poolAt, outcomeOf, byPool, judgedOf}

@@ -6,7 +6,7 @@ use zones::Answer as ZoneAnswer;
 use zones::Found as Interval;
 use zones::Verdict;
 ghost use mathlib.Core.Path.{_≡_};
-ghost use Prim.Native.Nat.{_≤_, _<_};
+ghost use Prim.Native.Nat.{_≤_};
 ghost use lib.ListN.{length, drop};
 ghost use mathlib.Core.Bool.{true, false};
 ghost use Rattle.base.specs.Moment.{Finite};
@@ -15,7 +15,7 @@ ghost use Rattle.pool.specs.Index.{roomOf, Ready};
 ghost use Rattle.zones.specs.Parse.{parseZone};
 ghost use Rattle.zones.specs.Sound.{FoundOk};
 ghost use Rattle.frames.specs.Machine.{from, stateAt, walk as walkOf};
-ghost use Rattle.questions.specs.Question.{noPool, answered as answeredOf, zoneSays, question, finish as finishOf, ask as askOf, askPlain, nameOf};
+ghost use Rattle.questions.specs.Question.{noPool, answered as answeredOf, zoneSays, question, ask as askOf, askPlain, nameOf};
 ghost use Rattle.questions.specs.View.{part, poolAt, poolOf, Lies, outcomeOf, byPool, answerOf, judgedOf};
 
 // Whether more bytes may come.
@@ -121,7 +121,7 @@ fn walk_zones(
     ensures { λ r. ⌜ r ≡ outcomeOf (from (question (now (id .entry)) t) (stateAt end (drop end (now (s .entry))) true 0 (poolAt (now (s .entry)) start end))) ⌝ }
 {
     let mut at = end;
-    let mut prev: u8 = 0;
+    let mut prev: usize = 0;
     loop {
         let f = frames::read_frame(&s[at..], 1, at, true, prev);
         match f {
@@ -151,7 +151,7 @@ fn walk_zones(
                     }
                     Judged::Keep => {
                         at = e;
-                        prev = i;
+                        prev = i as usize;
                     }
                 }
             }

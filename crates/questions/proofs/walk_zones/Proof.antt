@@ -1,17 +1,11 @@
 use mathlib.Core.Bool.{true}
-use Rattle.frames.proofs.StepLaws.{Room}
-use native.Mathlib.Nat.{le-refl}
-use lib.ListN.{length-take, length-drop}
-use mathlib.Core.List.{List}
-use Prim.Native.Nat.{ℕ, min, _+_, _≤_, _<_}
+use Prim.Native.Nat.{_+_, _-_, _≤_, _<_}
 use native.Mathlib.Omega.{arith}
-use borrow.Author.Needs.{needs}
-use mathlib.Core.Path.{_≡_, sym, ap, _∙_}
-use Prim.Native.Nat.{_-_}
-use lib.ListN.{length}
+use lib.ListN.{length, length-take, length-drop}
 use denote.Ref.{now}
 use Rattle.questions.specs.View.{poolAt}
 use Rattle.questions.proofs.WalkingLaws.{Walking, walking-start, walking-stop, walking-here, walking-fault, walking-keep, at-end, at-cut, at-refused, at-version, whole-inside}
+use borrow.Author.Needs.{needs}
 use Rattle.questions.proofs.walk_zones.Statement.{statement}
 use Rattle.questions.proofs.walk_zones.Tie as tie
 
@@ -130,6 +124,7 @@ walk-zones-spec =
     returns-5
     (λ c. search needs)
     returns-6
+    (λ c. search needs)
     (λ c. search needs)
     loop-less
     loop-again)

@@ -16,7 +16,7 @@ use Rattle.pool.specs.Pool.{Pool, parsePool, checked, stringsIn, stringsOf}
 use Rattle.pool.specs.Index.{startsOf}
 use Rattle.pool.specs.declared.Checked.{Checked}
 use Rattle.pool.specs.declared.Checked.the-variants.{Strings, Refused as Unpooled}
-use Rattle.pool.proofs.PoolLaws.{ready}
+use Rattle.pool.proofs.PoolLaws.{room-most, ready}
 use Rattle.zones.specs.Content.{Zone}
 use Rattle.zones.specs.Parse.{parseZone}
 use Rattle.zones.specs.Lookup.{verdictOf}
@@ -46,13 +46,13 @@ module _ (s : List ℕ) (k : Kept) (a e : ℕ) (ix ix′ : List ℕ) (c : Checke
       go fl mk y (got ts q) r = let z : _≡_ {A = ℕ} 0 1 = cc in absurd (omega arith)
 
   pub pool-kept : (n : ℕ) → c ≡ Strings n → a ≤ e → e ≤ length s
-      → TookPool s k a e ix ix′ (Keep (record { start = a; end = e; count = n; has = k .has; text = k .text; len = k .len }))
+      → TookPool s k a e ix ix′ (Keep (record { start = a; end = e; count = n; text = k .text; len = k .len }))
   unfolding poolKept
   pool-kept n q l₁ l₂ = record { means = λ fl mk y l st fr. go fl mk y l st fr (parsePool (part s a e)) refl (sym q ∙ h .0) }
     where
       go : (fl mk : List ℕ) (y : Memory) → length ix ≡ 8192 → Stands s k fl mk y → Fresh fl mk y → (p : Pool) → parsePool (part s a e) ≡ p
           → Strings n ≡ checked p
-          → Says s ix′ fl mk (poolIn y p) (Keep (record { start = a; end = e; count = n; has = k .has; text = k .text; len = k .len }))
+          → Says s ix′ fl mk (poolIn y p) (Keep (record { start = a; end = e; count = n; text = k .text; len = k .len }))
       go fl mk y l st fr (faulty m) i r = let z : _≡_ {A = ℕ} 0 1 = cc in absurd (omega arith)
       go fl mk y l st fr (got ts u) i r =
           let w : stringsOf (part s a e) ≡ ts = ap stringsIn i in
@@ -61,7 +61,7 @@ module _ (s : List ℕ) (k : Kept) (a e : ℕ) (ix ix′ : List ℕ) (c : Checke
               first = l₁;
               last = l₂;
               room = ap length (h .1) ∙ length-sets ix 0 (startsOf (part s a e)) ∙ l;
-              ready = ready (part s a e) ix ix′ l (h .1);
+              ready = ready (part s a e) ix ix′ (omega (arith, room-most (part s a e))) (h .1);
               count = j ∙ sym (ap length w);
             },
             record { strings = sym w; ids = rw (fr .flags, fr .marks, fr .ids) (keeps-none _); text = st .text },
@@ -131,19 +131,22 @@ module _ (s : List ℕ) (k : Kept) (a e : ℕ) (l₁ : a ≤ e) (l₂ : e ≤ le
     pub text-inside : b + n ≤ e - a
     text-inside = omega (arith, held (part s a e) b n (sym h ∙ q) .inside, part-length s a e l₂)
 
+    not-first : a + b ≡ 0 → ⊥
+    not-first z = omega (arith, held (part s a e) b n (sym h ∙ q) .some)
+
     pub text-over : (b + n ≡ e - a → ⊥) → TookText s k a e (Refused 9)
     unfolding textKept
     text-over o = record { means = λ ix fl mk y ind st. rw (sym h ∙ q, part-length s a e l₂, ne-eqb (b + n) (e - a) o) refl }
 
     pub text-whole : b + n ≡ e - a
-        → TookText s k a e (Keep (record { start = k .start; end = k .end; count = k .count; has = true; text = a + b; len = n }))
+        → TookText s k a e (Keep (record { start = k .start; end = k .end; count = k .count; text = a + b; len = n }))
     unfolding textKept
     text-whole o =
         record {
           means = λ ix fl mk y ind st.
               rw (sym h ∙ q, part-length s a e l₂, eq-eqb (b + n) (e - a) o) (
                 record { first = ind .first; last = ind .last; room = ind .room; ready = ind .ready; count = ind .count },
-                record { strings = st .strings; ids = st .ids; text = refl },
+                record { strings = st .strings; ids = st .ids; text = rw (ne-eqb (a + b) 0 not-first) },
               );
         }
 

@@ -1,9 +1,10 @@
 -- How a cursor and the lent arrays stand for the check's memory, and what each step says of it. Assumes nothing: these are definitions.
 use Prim.Native.Nat.{ℕ, _-_, _≤_, _<_}
 use mathlib.Core.Path.{_≡_}
-use mathlib.Core.Bool.{false}
+use mathlib.Core.Bool.{Bool}
 use mathlib.Core.List.{List, []}
 use lib.ListN.{length, take, drop, replicate}
+use lib.Dec.{eqb, ltb}
 use Rattle.base.specs.Pick.{pick}
 use Rattle.pool.specs.Pool.{stringsOf}
 use Rattle.pool.specs.Index.{Ready}
@@ -25,8 +26,9 @@ part s a e = take (e - a) (drop a s)
 abbrev pub poolOf : List ℕ → Kept → List ℕ
 poolOf s k = part s (k .start) (k .end)
 
+-- where the version text lies; 0 stands for none, as no text's bytes start there
 abbrev pub textOf : Kept → TextPlace
-textOf k = pick (k .has) (placed (k .text) (k .len)) nowhere
+textOf k = pick (eqb (k .text) 0) nowhere (placed (k .text) (k .len))
 
 -- the array ix is the index of the pool
 pub record Indexed (s : List ℕ) (k : Kept) (ix : List ℕ) : Type 0 where
@@ -69,17 +71,21 @@ pub record TookText (s : List ℕ) (k : Kept) (a e : ℕ) (r : Taken) : Type 0 w
 pub record TookField (s : List ℕ) (k : Kept) (i a e : ℕ) (ix fl mk ix′ fl′ mk′ : List ℕ) (r : Taken) : Type 0 where
   pub means : (y : Memory) → Stands s k fl mk y → (i ≡ 0 → Fresh fl mk y) → Says s ix′ fl′ mk′ (contentOf y i a (part s a e)) r
 
+-- a field came before the place: it is past the version's end
+abbrev pub seenAt : ℕ → Bool
+seenAt at = ltb 4 at
+
 -- the definition's state at a cursor
 abbrev pub stateOf : List ℕ → Cursor → Memory → State Memory
-stateOf s c y = stateAt (c .at) (drop (c .at) s) (c .seen) (c .prev) y
+stateOf s c y = stateAt (c .at) (drop (c .at) s) (seenAt (c .at)) (c .prev) y
 
 -- the cursor c and the arrays stand for the memory y
 pub record Holds (s : List ℕ) (c : Cursor) (ix fl mk : List ℕ) (y : Memory) : Type 0 where
   pub inside : c .at ≤ length s
   pub indexed : Indexed s (c .kept) ix
   pub stands : Stands s (c .kept) fl mk y
-  pub first : c .at ≡ 0 → c .seen ≡ false
-  pub fresh : c .seen ≡ false → Fresh fl mk y
+  pub place : 0 < c .at → 4 ≤ c .at
+  pub fresh : c .at ≤ 4 → Fresh fl mk y
 
 -- a cursor farther on, from which the walk goes as from c
 pub record Onward (s : List ℕ) (c : Cursor) (y : Memory) (d : Cursor) (ix fl mk : List ℕ) : Type 0 where

@@ -9,22 +9,21 @@ ghost use lib.ListN.{length};
 ghost use Rattle.checks.specs.Check.{conclusion, concluded, checkOf, versionOf};
 ghost use Rattle.checks.specs.Cursor.{textOf, Indexed, TookPool, TookZone, TookText, TookField, Stepped};
 
-// What is remembered of the fields seen, beside the arrays: where the pool's data starts and ends and how many strings it holds; whether
-// there was a version text, where its bytes start and how many they are.
+// What is remembered of the fields seen, beside the arrays: where the pool's data starts and ends and how many strings it holds; where the
+// bytes of the version text start, 0 where there was none, and how many they are. Every field here and in Cursor is as wide as a place, since
+// padding makes each copy slow.
 pub struct Kept {
     pub start: usize,
     pub end: usize,
     pub count: usize,
-    pub has: bool,
     pub text: usize,
     pub len: usize,
 }
 
-// A place between frames: whether a field came before it, that one's ID, and what is remembered.
+// A place between frames, the ID of the field before it, and what is remembered. A field came before it where it is past the version's end.
 pub struct Cursor {
     pub at: usize,
-    pub seen: bool,
-    pub prev: u8,
+    pub prev: usize,
     pub kept: Kept,
 }
 
@@ -77,7 +76,6 @@ fn take_pool(s: &[u8], k: Kept, a: usize, e: usize, index: &mut [u32; 8192]) -> 
             start: a,
             end: e,
             count: n,
-            has: k.has,
             text: k.text,
             len: k.len,
         }),
@@ -127,7 +125,6 @@ fn take_text(s: &[u8], k: Kept, a: usize, e: usize) -> Taken
                 start: k.start,
                 end: k.end,
                 count: k.count,
-                has: true,
                 text: a + b,
                 len: n,
             })
@@ -168,7 +165,7 @@ fn conclude(at: usize, k: Kept) -> Conclusion
     if at == 4 {
         return Conclusion::Refused(6, at);
     }
-    if k.has {
+    if k.text != 0 {
         return Conclusion::WithText(k.text, k.len);
     }
     Conclusion::Bare(at)
@@ -187,14 +184,13 @@ fn step(
 {
     let at = c.at;
     let kept = c.kept;
-    let f = frames::read_frame(&s[at..], 255, at, c.seen, c.prev);
+    let f = frames::read_frame(&s[at..], 255, at, 4 < at, c.prev);
     match f {
         Frame::End => Turn::Done(conclude(at, kept)),
         Frame::Cut => Turn::Done(Conclusion::Refused(2, at)),
         Frame::Refused(n) => Turn::Done(Conclusion::Refused(n, at)),
         Frame::Version => Turn::Next(Cursor {
             at: at + 4,
-            seen: false,
             prev: 0,
             kept: kept,
         }),
@@ -205,8 +201,7 @@ fn step(
                 Taken::Refused(m) => Turn::Done(Conclusion::Refused(m, at)),
                 Taken::Keep(k) => Turn::Next(Cursor {
                     at: e,
-                    seen: true,
-                    prev: i,
+                    prev: i as usize,
                     kept: k,
                 }),
             }
@@ -223,13 +218,11 @@ fn walk(s: &[u8]) -> Conclusion
     let mut marks = [0u16; 16384];
     let mut c = Cursor {
         at: 0,
-        seen: false,
         prev: 0,
         kept: Kept {
             start: 0,
             end: 0,
             count: 0,
-            has: false,
             text: 0,
             len: 0,
         },

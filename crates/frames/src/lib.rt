@@ -36,14 +36,15 @@ fn once(i: u8) -> bool
 }
 
 // 0, or the number that refuses the ID `i` behind a field with the ID `prev`, or as the first.
-fn order(seen: bool, prev: u8, i: u8) -> u8
+fn order(seen: bool, prev: usize, i: u8) -> u8
     ensures { λ r. ⌜ r ≡ orderOf seen prev i ⌝ }
 {
     if seen {
-        if i < prev {
+        let id = i as usize;
+        if id < prev {
             return 5;
         }
-        if i != prev {
+        if id != prev {
             return 0;
         }
         if once(i) {
@@ -114,7 +115,7 @@ fn sized(r: &[u8], at: usize, i: u8) -> Frame
 }
 
 // The field at the place `at`, where `r` is what stands from there on.
-fn field(r: &[u8], last: u8, at: usize, seen: bool, prev: u8) -> Frame
+fn field(r: &[u8], last: u8, at: usize, seen: bool, prev: usize) -> Frame
     ensures { λ f. ⌜ f ≡ fieldOf last at seen prev (now (r .entry)) ⌝ }
 {
     if r.len() == 0 {
@@ -132,7 +133,7 @@ fn field(r: &[u8], last: u8, at: usize, seen: bool, prev: u8) -> Frame
 }
 
 // What stands at the place `at`, where `r` is the bytes from there on, for a job that goes to no ID above `last`.
-pub fn read_frame(r: &[u8], last: u8, at: usize, seen: bool, prev: u8) -> Frame
+pub fn read_frame(r: &[u8], last: u8, at: usize, seen: bool, prev: usize) -> Frame
     ensures { λ f. ⌜ f ≡ frame last at seen prev (now (r .entry)) ⌝ }
 {
     if at == 0 {

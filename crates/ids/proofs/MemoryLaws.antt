@@ -2,11 +2,11 @@
 use mathlib.Core.Path.{_≡_, refl, sym, _∙_, ap}
 use mathlib.Core.List.{List, [], _∷_}
 use mathlib.Core.Bool.{Bool, true, false}
-use Prim.Native.Nat.{ℕ, _+_, _*_, _-_, _%_, _≤_, _<_}
+use Prim.Native.Nat.{ℕ, suc, _+_, _-_, _≤_, _<_}
 use native.Mathlib.Omega.{arith}
 use native.Mathlib.Numerals.{add-one}
-use lib.ListN.{length, drop, getD, set, replicate, length-replicate, length-set, drop-of-length-le}
-use lib.Seq.{drop-cons, getD-set-same, getD-set-other}
+use lib.ListN.{length, drop, getD, set, replicate, length-drop, length-replicate, length-set, drop-of-length-le}
+use lib.Seq.{drop-cons, drop-drop, getD-drop, getD-set-same, getD-set-other}
 use lib.Dec.{eqb}
 use borrow.Author.Tests.{eqb-true, eqb-false}
 use Rattle.base.specs.Pick.{pick}
@@ -14,14 +14,37 @@ use Rattle.base.proofs.Tests.{never}
 use Rattle.base.specs.Equal.{equal}
 use Rattle.base.proofs.EqualLaws.{equal-true}
 use Rattle.ids.specs.Ids.{among}
-use Rattle.ids.specs.Memory.{held, hashFrom, hash, missing, second, Linked, Keeps, Taken}
+use Rattle.ids.specs.Memory.{held, mix, fourOf, hashFrom, hash, missing, second, Linked, Keeps, Taken}
 use Rattle.ids.proofs.FlagLaws.{held-set, held-one, held-none, unlinked}
 use Rattle.ids.proofs.LinkLaws.{links-more, first-hit, first-behind, linked-stays, same-links}
 
-pub hash-at : (s : List ℕ) (i h : ℕ) → i < length s
-    → hashFrom h (drop i s) ≡ hashFrom ((h + getD s i 0) * 16777619 % 4294967296) (drop (i + 1) s)
+-- where four bytes follow, and where fewer do
+pub hash-four : (s : List ℕ) (i h : ℕ) → 4 ≤ length s - i
+    → hashFrom h (drop i s)
+    ≡ hashFrom (mix h (fourOf (getD s i 0) (getD s (i + 1) 0) (getD s (i + 2) 0) (getD s (i + 3) 0))) (drop (i + 4) s)
 unfolding hashFrom
-hash-at s i h l = rw (drop-cons s i 0 l, add-one i)
+hash-four s i h l =
+    let z : i + 0 ≡ i = omega arith in
+    go (drop i s) (rw length-drop l)
+    ∙ rw (getD-drop i s 0 0, getD-drop i s 1 0, getD-drop i s 2 0, getD-drop i s 3 0, drop-drop 4 i s, z)
+  where
+    go : (r : List ℕ) → 4 ≤ length r → hashFrom h r ≡ hashFrom (mix h (fourOf (getD r 0 0) (getD r 1 0) (getD r 2 0) (getD r 3 0))) (drop 4 r)
+    go [] k = absurd (omega arith)
+    go (a ∷ []) k = absurd (omega arith)
+    go (a ∷ b ∷ []) k = absurd (omega arith)
+    go (a ∷ b ∷ c ∷ []) k = absurd (omega arith)
+    go (a ∷ b ∷ c ∷ d ∷ r) k = refl
+
+pub hash-one : (s : List ℕ) (i h : ℕ) → i < length s → length s - i < 4
+    → hashFrom h (drop i s) ≡ hashFrom (mix h (getD s i 0)) (drop (i + 1) s)
+unfolding hashFrom
+hash-one s i h l m = rw (drop-cons s i 0 l, add-one i) (go (drop (suc i) s) (rw length-drop (omega arith)))
+  where
+    go : (r : List ℕ) → length r < 3 → hashFrom h (getD s i 0 ∷ r) ≡ hashFrom (mix h (getD s i 0)) r
+    go [] k = refl
+    go (b ∷ []) k = refl
+    go (b ∷ c ∷ []) k = refl
+    go (b ∷ c ∷ d ∷ r) k = absurd (omega arith)
 
 pub hash-end : (s : List ℕ) (i h : ℕ) → length s ≤ i → hashFrom h (drop i s) ≡ h
 unfolding hashFrom

@@ -18,9 +18,21 @@ heldFrom j (y ∷ ts) fl x =
 abbrev pub held : List (List ℕ) → List ℕ → List ℕ → Bool
 held ts fl x = heldFrom 0 ts fl x
 
+-- one number more in a hash
+abbrev pub mix : ℕ → ℕ → ℕ
+mix h w = (h + w) * 16777619 % 4294967296
+
+-- the number of four bytes, low first
+abbrev pub fourOf : ℕ → ℕ → ℕ → ℕ → ℕ
+fourOf a b c d = a + b * 256 + c * 65536 + d * 16777216
+
+-- four bytes at a time, and those behind the last four one by one
 unfoldable pub hashFrom : ℕ → List ℕ → ℕ
 hashFrom h [] = h
-hashFrom h (b ∷ s) = hashFrom ((h + b) * 16777619 % 4294967296) s
+hashFrom h (a ∷ []) = mix h a
+hashFrom h (a ∷ b ∷ []) = mix (mix h a) b
+hashFrom h (a ∷ b ∷ c ∷ []) = mix (mix (mix h a) b) c
+hashFrom h (a ∷ b ∷ c ∷ d ∷ s) = hashFrom (mix h (fourOf a b c d)) s
 
 -- any function of the bytes that gives numbers below 16384 would do
 abbrev pub hash : List ℕ → ℕ

@@ -6,14 +6,26 @@ ghost use Prim.Native.Nat.{_<_};
 ghost use lib.ListN.{length, getD};
 ghost use Rattle.pool.specs.Pool.{stringsOf};
 ghost use Rattle.pool.specs.Index.{Ready};
-ghost use Rattle.ids.specs.Memory.{hash as hashOf, held, missing, second, Taken};
+ghost use Rattle.ids.specs.Memory.{fourOf, hash as hashOf, held, missing, second, Taken};
 
-// The place that leads to an ID.
+// The number of four bytes, low first.
+fn four(a: u8, b: u8, c: u8, d: u8) -> usize
+    ensures { λ r. ⌜ (r ≡ fourOf a b c d) × (r < 4294967296) ⌝ }
+{
+    a as usize + b as usize * 256 + c as usize * 65536 + d as usize * 16777216
+}
+
+// The place that leads to an ID. Its bytes are taken four at a time, and those behind the last four one by one.
 fn hash(s: &[u8]) -> usize
     ensures { λ r. ⌜ (r ≡ hashOf (now (s .entry))) × (r < 16384) ⌝ }
 {
     let mut h: usize = 2166136261;
     let mut i: usize = 0;
+    while 4 <= s.len() - i {
+        let w = four(s[i], s[i + 1], s[i + 2], s[i + 3]);
+        h = (h + w) * 16777619 % 4294967296;
+        i += 4;
+    }
     while i < s.len() {
         h = (h + s[i] as usize) * 16777619 % 4294967296;
         i += 1;
@@ -22,7 +34,7 @@ fn hash(s: &[u8]) -> usize
 }
 
 // Whether a string that was seen has the bytes of the k-th. It looks at all of them: only an ID that was seen comes here.
-fn is_held(pool: &[u8], starts: &[u32; 8192], count: usize, seen: &[u32; 8192], k: usize) -> bool
+fn is_held(pool: &[u8], starts: &[u32], count: usize, seen: &[u32; 8192], k: usize) -> bool
     requires { ⌜ Ready (now pool) (now starts) × (count ≡ length (stringsOf (now pool))) × (k < count) ⌝ }
     ensures { λ r. ⌜ r ≡ held (stringsOf (now (pool .entry))) (now (seen .entry)) (getD (stringsOf (now (pool .entry))) k []) ⌝ }
 {
@@ -55,7 +67,7 @@ fn wide(x: u32) -> usize
 // Whether the links from a number on come to an end with no string that is id. A number is one more than the string's; 0 is no string.
 fn is_missing(
     pool: &[u8],
-    starts: &[u32; 8192],
+    starts: &[u32],
     count: usize,
     seen: &[u32; 8192],
     from: usize,
@@ -90,7 +102,7 @@ fn is_missing(
 // Whether a string that was seen has the bytes of the k-th, whose hash is h.
 fn is_second(
     pool: &[u8],
-    starts: &[u32; 8192],
+    starts: &[u32],
     count: usize,
     seen: &[u32; 8192],
     marks: &[u16; 16384],
@@ -117,7 +129,7 @@ fn is_second(
 // Whether an earlier zone had the ID that the k-th string is; if not, it is remembered.
 pub fn take_id(
     pool: &[u8],
-    starts: &[u32; 8192],
+    starts: &[u32],
     count: usize,
     seen: &mut [u32; 8192],
     marks: &mut [u16; 16384],

@@ -1,17 +1,23 @@
 -- The loop over a pool's strings: i of k are passed, up to a place. Assumes nothing.
 use mathlib.Core.Path.{_≡_, refl, sym, _∙_, ap}
 use mathlib.Core.List.{List, [], _∷_}
+use mathlib.Core.Bool.{true}
 use Prim.Native.Nat.{ℕ, suc, _+_, _-_, _*_, _≤_, _<_}
 use native.Mathlib.Omega.{arith}
 use native.Mathlib.Numerals.{add-one}
-use lib.ListN.{length, take, drop, set, length-drop, length-set, drop-of-length-le}
-use lib.Seq.{sets, drop-drop, drop-cons}
+use lib.ListN.{length, getD, take, drop, set, length-drop, length-set, drop-of-length-le}
+use lib.Seq.{sets, drop-drop, drop-cons, getD-drop}
 use Rattle.base.proofs.Tests.{by-order}
 use Rattle.base.proofs.Parts.{part-from}
+use Rattle.base.specs.declared.Read.the-variants.{Value}
+use Rattle.counts.specs.Count.{readCount}
+use Rattle.counts.proofs.GroupLaws.{read-one}
 use Rattle.texts.specs.Text.{readText, behindText}
 use Rattle.texts.specs.declared.Text.{Text}
 use Rattle.texts.specs.declared.Text.the-variants.{Part, Refused as Untext}
-use Rattle.texts.proofs.TextLaws.{Held, held}
+use Rattle.texts.specs.Ascii.{ascii}
+use Rattle.texts.proofs.TextLaws.{text-tested, Held, held}
+use Rattle.texts.proofs.AsciiLaws.{plain-utf8}
 use Rattle.pool.specs.declared.Checked.{Checked}
 use Rattle.pool.specs.declared.Checked.the-variants.{Strings, Refused}
 use Rattle.base.specs.Parsed.{got, bad, bind, ended, many, prepend}
@@ -50,6 +56,18 @@ pub filling-start : (d : List ℕ) (from k : ℕ) (ix : List ℕ) → from ≤ l
 filling-start d from k ix h l =
     let z : k - 0 ≡ k = omega arith in
     record { inside = h; small = omega arith; most = omega arith; size = refl; said = rw z (raise-zero _); kept = rw z }
+
+-- a string before the place `plain`, up to which the bytes are ASCII, with a length code of one byte
+pub plain-here : (d : List ℕ) (at plain n : ℕ) → plain ≤ length d → ascii (take (plain - at) (drop at d)) ≡ true
+    → (at < length d) × (n ≡ getD d at 0) × (at + n < plain) → n < 128 → Part 1 n ≡ readText (take (length d - at) (drop at d))
+plain-here d at plain n l e (p, q, r) h =
+    let s : List ℕ = drop at d in
+    let w : length s ≡ length d - at = length-drop at d in
+    let z : at + 0 ≡ at = omega arith in
+    let g : getD s 0 0 ≡ n = getD-drop at d 0 0 ∙ rw z (sym q) in
+    let c : readCount s ≡ Value n 1 = rw g at (sym (read-one 4 7 s (omega arith) (omega arith) (omega arith))) in
+    rw (part-from at d)
+    (text-tested s (readCount s) refl n 1 c (omega arith) true (omega arith) (plain-utf8 (plain - at) 1 n s e (omega arith)))
 
 module _ (d : List ℕ) (from k : ℕ) (ix₀ ix : List ℕ) (at i : ℕ) (f : Filling d from k ix₀ ix at i) where
   module _ (less : i < k) (t : Text) (ht : t ≡ readText (take (length d - at) (drop at d))) where

@@ -5,7 +5,7 @@ use mathlib.Core.Bool.{Bool, true, false}
 use mathlib.Core.Logic.{inl, inr}
 use Prim.Native.Nat.{ℕ, zero, suc, _+_, _≤_, _<_}
 use native.Mathlib.Omega.{arith}
-use lib.ListN.{length, take, drop, getD, replicate, length-drop, length-replicate}
+use lib.ListN.{length, take, drop, getD, length-drop}
 use lib.Seq.{sets, sets-eq, take-append-seam, length-take-le}
 use lib.Dec.{ltb}
 use borrow.Author.Tests.{ltb-false}
@@ -22,7 +22,7 @@ use Rattle.pool.specs.declared.Checked.the-variants.{Strings, Refused}
 use Rattle.base.specs.Parsed.{got, bad, bind, behindCode, ended, many, prepend}
 use Rattle.base.proofs.ParseLaws.{bad-got}
 use Rattle.pool.specs.Pool.{Pool, readStrings, allStrings, counted, parsePool, checked, stringsIn, stringsOf}
-use Rattle.pool.specs.Index.{start, readStarts, startsIn, startsOf, Ready}
+use Rattle.pool.specs.Index.{start, readStarts, startsIn, startsOf, roomIn, roomOf, Ready}
 use Rattle.pool.proofs.StringLaws.{opened, string-found, below}
 
 -- "8,192 pool strings"
@@ -115,24 +115,33 @@ few-starts (suc k) at s = go (readText s) (λ a n. few-starts k (at + (a + n)) (
     go (Untext m) f = omega arith
 
 -- the index has room for every place
-pub few-places : (d : List ℕ) → length (startsOf d) ≤ 8192
-unfolding startsIn
-few-places d = go (readCount d)
+pub room-enough : (d : List ℕ) → length (startsOf d) ≤ roomOf d
+unfolding startsIn roomIn
+room-enough d = go (readCount d)
   where
-    sized : (k a : ℕ) (b : Bool) → ltb 8192 k ≡ b → length (pick b [] (readStarts k a (drop a d))) ≤ 8192
-    sized k a true q = omega arith
-    sized k a false q = omega (arith, few-starts k a (drop a d), ltb-false 8192 k q)
+    sized : (k a : ℕ) (b : Bool) → length (pick b [] (readStarts k a (drop a d))) ≤ pick b 0 k
+    sized k a true = omega arith
+    sized k a false = few-starts k a (drop a d)
 
-    go : (g : Read) → length (startsIn d g) ≤ 8192
+    go : (g : Read) → length (startsIn d g) ≤ roomIn g
     go (Unread m) = omega arith
-    go (Value k a) = sized k a (ltb 8192 k) refl
+    go (Value k a) = sized k a (ltb 8192 k)
+
+-- 8,192 places are enough for every pool
+pub room-most : (d : List ℕ) → roomOf d ≤ 8192
+unfolding roomIn
+room-most d = go (readCount d)
+  where
+    sized : (k : ℕ) (b : Bool) → ltb 8192 k ≡ b → pick b 0 k ≤ 8192
+    sized k true q = omega arith
+    sized k false q = ltb-false 8192 k q
+
+    go : (g : Read) → roomIn g ≤ 8192
+    go (Unread m) = omega arith
+    go (Value k a) = sized k (ltb 8192 k) refl
 
 -- what the check leaves in the index is ready for every lookup
-pub ready : (d ix₀ ix : List ℕ) → length ix₀ ≡ 8192 → ix ≡ sets ix₀ 0 (startsOf d) → Ready d ix
+pub ready : (d ix₀ ix : List ℕ) → roomOf d ≤ length ix₀ → ix ≡ sets ix₀ 0 (startsOf d) → Ready d ix
 ready d ix₀ ix l e =
-    let h : 0 + length (startsOf d) ≤ length ix₀ = omega (arith, few-places d) in
+    let h : 0 + length (startsOf d) ≤ length ix₀ = omega (arith, room-enough d) in
     record { begins = rw (e, sets-eq (startsOf d) ix₀ 0 h) (take-append-seam (startsOf d) (drop (0 + length (startsOf d)) ix₀)) }
-
--- so it is where the index was an array of one value before the check
-pub ready-filled : (d ix : List ℕ) (v : ℕ) → ix ≡ sets (replicate 8192 v) 0 (startsOf d) → Ready d ix
-ready-filled d ix v e = ready d (replicate 8192 v) ix (length-replicate {A = ℕ} 8192 v) e

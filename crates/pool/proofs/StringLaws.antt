@@ -4,7 +4,7 @@ use mathlib.Core.List.{List, [], _∷_}
 use Prim.Native.Nat.{ℕ, zero, suc, _+_, _-_, _≤_, _<_}
 use native.Mathlib.Omega.{arith}
 use native.Mathlib.Nat.{not-suc-le-zero}
-use lib.ListN.{length, take, drop, getD, length-drop}
+use lib.ListN.{length, take, drop, getD, length-take, length-drop}
 use lib.Seq.{drop-drop, getD-take}
 use lib.Dec.{ltb}
 use borrow.Author.Tests.{ltb-false}
@@ -150,10 +150,15 @@ module _ (d : List ℕ) (j : ℕ) (l : j < length (stringsOf d)) where
   pub string-found : Found d (getD (startsOf d) j 0) (getD (stringsOf d) j [])
   string-found = rw (o .places) (found (o .k) (o .a) d (stringsOf d) [] j (o .front) (o .all) l)
 
+  start-below : j < length (startsOf d)
+  start-below = rw (o .places) (omega (arith, as-many (o .k) (o .a) d (stringsOf d) [] (o .all)))
+
+  pub index-room : (ix : List ℕ) → Ready d ix → j < length ix
+  index-room ix r = omega (arith, start-below, length-take (length (startsOf d)) ix, ap length (r .begins))
+
   pub start-is : (ix : List ℕ) → Ready d ix → getD ix j 0 ≡ getD (startsOf d) j 0
   start-is ix r =
-      let h : j < length (startsOf d) = rw (o .places) (omega (arith, as-many (o .k) (o .a) d (stringsOf d) [] (o .all))) in
-      sym (getD-take (length (startsOf d)) ix j 0 h) ∙ ap (λ (m : List ℕ). getD m j 0) (r .begins)
+      sym (getD-take (length (startsOf d)) ix j 0 start-below) ∙ ap (λ (m : List ℕ). getD m j 0) (r .begins)
 
   -- where its bytes lie
   span-is : spanOf d j ≡ record { at = getD (startsOf d) j 0 + string-found .a; len = string-found .n }

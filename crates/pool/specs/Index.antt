@@ -32,7 +32,15 @@ startsIn d (Value k a) = pick (ltb 8192 k) [] (readStarts k a (drop a d))
 abbrev pub startsOf : List ℕ → List ℕ
 startsOf d = startsIn d (readCount d)
 
--- the array ix begins with the places of d's strings
+unfoldable pub roomIn : Read → ℕ
+roomIn (Unread m) = 0
+roomIn (Value k a) = pick (ltb 8192 k) 0 k
+
+-- how many places the index of d needs: the count of its strings; none where the count is refused or above 8,192
+abbrev pub roomOf : List ℕ → ℕ
+roomOf d = roomIn (readCount d)
+
+-- the list ix begins with the places of d's strings
 pub record Ready (d ix : List ℕ) : Type 0 where
   pub begins : take (length (startsOf d)) ix ≡ startsOf d
 

@@ -4,14 +4,14 @@ use texts::Text;
 ghost use mathlib.Core.Path.{_≡_};
 ghost use mathlib.Core.List.{[]};
 ghost use mathlib.Core.Bool.{true};
-ghost use Prim.Native.Nat.{_-_, _≤_, _<_};
+ghost use Prim.Native.Nat.{_+_, _-_, _≤_, _<_};
 ghost use lib.ListN.{length, take, drop, getD};
 ghost use lib.Seq.{sets};
 ghost use lib.Dec.{eqb};
 ghost use Rattle.base.specs.Pick.{pick};
 ghost use Rattle.texts.specs.Ascii.{ascii};
 ghost use Rattle.pool.specs.Pool.{allStrings, parsePool, checked, stringsOf};
-ghost use Rattle.pool.specs.Index.{readStarts, startsOf, Ready, spanOf};
+ghost use Rattle.pool.specs.Index.{readStarts, startsOf, roomOf, Ready, spanOf};
 ghost use Rattle.base.specs.Equal.{equal};
 ghost use Rattle.pool.specs.Holder.{textOf, Held};
 
@@ -33,26 +33,51 @@ fn behind(n: usize, at: usize) -> usize
     0
 }
 
+// The length of the string at a place, where its length code has one byte and all of it lies before the place `plain`; else 128. The usual
+// string is read by this alone.
+fn short(d: &[u8], at: usize, plain: usize) -> usize
+    requires { ⌜ at < 4294967296 ⌝ }
+    ensures { λ r. ⌜ (r < 128 → (at < length (now (d .entry))) × (r ≡ getD (now (d .entry)) at 0) × (at + r < plain)) ⌝ }
+{
+    if d.len() <= at {
+        return 128;
+    }
+    let n = d[at] as usize;
+    if n < 128 {
+        if at + n < plain {
+            return n;
+        }
+    }
+    128
+}
+
 // The strings of d from a place on, k of them and nothing behind. starts gets the place of each. The bytes up to the place `plain` are ASCII.
-fn fill(d: &[u8], from: usize, k: usize, plain: usize, starts: &mut [u32; 8192]) -> Checked
-    requires { ⌜ (from ≤ length (now d)) × (from ≤ 5) × (k ≤ 8192) × (ascii (take (plain - from) (drop from (now d))) ≡ true) ⌝ }
+fn fill(d: &[u8], from: usize, k: usize, plain: usize, starts: &mut [u32]) -> Checked
+    requires { ⌜ (from ≤ length (now d)) × (from ≤ 5) × (k ≤ 8192) × (k ≤ length (now starts)) × (plain ≤ length (now d)) × (ascii (take (plain - from) (drop from (now d))) ≡ true) ⌝ }
     ensures { λ r. ⌜ (r ≡ checked (allStrings k (drop from (now (d .entry))))) × (now (starts .exit) ≡ sets (now (starts .entry)) 0 (readStarts k from (drop from (now (d .entry))))) ⌝ }
 {
     let mut at = from;
     let mut i: usize = 0;
     while i < k {
-        let front = behind(plain, at);
-        let t = texts::read_text_in(&d[at..], front);
-        match t {
-            Text::Refused(m) => {
-                return Checked::Refused(m);
-            }
-            Text::Part(a, n) => {
-                starts[i] = at as u32;
-                at = at + (a + n);
+        let n = short(d, at, plain);
+        if n < 128 {
+            starts[i] = at as u32;
+            at = at + (1 + n);
+            i += 1;
+        } else {
+            let front = behind(plain, at);
+            let t = texts::read_text_in(&d[at..], front);
+            match t {
+                Text::Refused(m) => {
+                    return Checked::Refused(m);
+                }
+                Text::Part(a, m) => {
+                    starts[i] = at as u32;
+                    at = at + (a + m);
+                    i += 1;
+                }
             }
         }
-        i += 1;
     }
     if at == d.len() {
         return Checked::Strings(k);
@@ -60,8 +85,26 @@ fn fill(d: &[u8], from: usize, k: usize, plain: usize, starts: &mut [u32; 8192])
     Checked::Refused(9)
 }
 
+// How many places the index of the pool in d needs.
+pub fn room(d: &[u8]) -> usize
+    ensures { λ r. ⌜ r ≡ roomOf (now (d .entry)) ⌝ }
+{
+    let g = counts::read_count(d);
+    match g {
+        Read::Refused(_) => 0,
+        Read::Value(v, _) => {
+            let k = v as usize;
+            if k <= 8192 {
+                return k;
+            }
+            0
+        }
+    }
+}
+
 // The pool in d, the data of field 0. starts gets the place of each string before the first that is refused.
-pub fn check_pool(d: &[u8], starts: &mut [u32; 8192]) -> Checked
+pub fn check_pool(d: &[u8], starts: &mut [u32]) -> Checked
+    requires { ⌜ roomOf (now d) ≤ length (now starts) ⌝ }
     ensures { λ r. ⌜ (r ≡ checked (parsePool (now (d .entry)))) × (now (starts .exit) ≡ sets (now (starts .entry)) 0 (startsOf (now (d .entry)))) ⌝ }
 {
     let g = counts::read_count(d);
@@ -85,7 +128,7 @@ pub struct Span {
 }
 
 // Where the k-th string lies, by the index.
-pub fn span_by(d: &[u8], starts: &[u32; 8192], k: usize) -> Span
+pub fn span_by(d: &[u8], starts: &[u32], k: usize) -> Span
     requires { ⌜ Ready (now d) (now starts) × (k < length (stringsOf (now d))) ⌝ }
     ensures { λ r. ⌜ r ≡ spanOf (now (d .entry)) k ⌝ }
 {
@@ -101,7 +144,7 @@ pub fn span_by(d: &[u8], starts: &[u32; 8192], k: usize) -> Span
 }
 
 // The k-th string, by the index.
-pub fn text_by<'a>(d: &'a [u8], starts: &[u32; 8192], k: usize) -> &'a [u8]
+pub fn text_by<'a>(d: &'a [u8], starts: &[u32], k: usize) -> &'a [u8]
     requires { ⌜ Ready (now d) (now starts) × (k < length (stringsOf (now d))) ⌝ }
     ensures { λ r. ⌜ now r ≡ getD (stringsOf (now (d .entry))) k [] ⌝ }
 {
@@ -118,7 +161,7 @@ pub enum Holder {
 }
 
 // A text, as a part of whichever slice holds it.
-pub fn text_of<'a>(pool: &'a [u8], field: &'a [u8], starts: &[u32; 8192], h: Holder) -> &'a [u8]
+pub fn text_of<'a>(pool: &'a [u8], field: &'a [u8], starts: &[u32], h: Holder) -> &'a [u8]
     requires { ⌜ Ready (now pool) (now starts) × Held (now pool) (now field) h ⌝ }
     ensures { λ r. ⌜ now r ≡ textOf (now (pool .entry)) (now (field .entry)) h ⌝ }
 {
@@ -155,7 +198,7 @@ pub fn same(a: &[u8], b: &[u8]) -> bool
 }
 
 // Whether the k-th string is id.
-pub fn has_id(d: &[u8], starts: &[u32; 8192], k: usize, id: &[u8]) -> bool
+pub fn has_id(d: &[u8], starts: &[u32], k: usize, id: &[u8]) -> bool
     requires { ⌜ Ready (now d) (now starts) × (k < length (stringsOf (now d))) ⌝ }
     ensures { λ r. ⌜ r ≡ equal (getD (stringsOf (now (d .entry))) k []) (now (id .entry)) ⌝ }
 {

@@ -12,7 +12,7 @@ ghost use lib.ListN.{length};
 ghost use Rattle.pool.specs.Pool.{stringsOf};
 ghost use Rattle.pool.specs.Index.{Ready};
 
-fn show_string<'a>(d: &'a [u8], field: &'a [u8], starts: &[u32; 8192], k: usize, id: &[u8])
+fn show_string<'a>(d: &'a [u8], field: &'a [u8], starts: &[u32], k: usize, id: &[u8])
     requires { ⌜ Ready (now d) (now starts) × (k < length (stringsOf (now d))) ⌝ }
 {
     let s = pool::span_by(d, starts, k);
@@ -33,7 +33,7 @@ fn least(a: usize, b: usize) -> usize
     if a < b { a } else { b }
 }
 
-fn show_strings<'a>(d: &'a [u8], field: &'a [u8], starts: &[u32; 8192], n: usize, id: &[u8])
+fn show_strings<'a>(d: &'a [u8], field: &'a [u8], starts: &[u32], n: usize, id: &[u8])
     requires { ⌜ Ready (now d) (now starts) × (n ≡ length (stringsOf (now d))) ⌝ }
 {
     let m = least(n, 4);
@@ -48,7 +48,7 @@ fn show_strings<'a>(d: &'a [u8], field: &'a [u8], starts: &[u32; 8192], n: usize
 }
 
 // The field's bytes behind its first.
-fn show_field<'a>(d: &'a [u8], field: &'a [u8], starts: &[u32; 8192])
+fn show_field<'a>(d: &'a [u8], field: &'a [u8], starts: &[u32])
     requires { ⌜ Ready (now d) (now starts) ⌝ }
 {
     if field.len() == 0 {

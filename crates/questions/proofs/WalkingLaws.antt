@@ -9,17 +9,16 @@ use lib.Seq.{drop-drop}
 use borrow.Author.Tests.{eq-eqb, ne-eqb}
 use Rattle.base.specs.Parsed.{Parsed, got, bad}
 use Rattle.base.proofs.Parts.{part-from}
-use Rattle.pool.specs.Pool.{parsePool, stringsOf, checked}
-use Rattle.pool.specs.declared.Checked.the-variants.{Strings, Refused as PoolRefused}
+use Rattle.pool.specs.Pool.{parsePool, stringsOf}
 use Rattle.zones.specs.Parse.{parseZone}
-use Rattle.frames.specs.Frame.{largest, frame}
-use Rattle.frames.specs.Machine.{Out, found, refused, cut, ended, Content, bad as fault, answer, keep, Job, State, stateAt, fieldAt, from, walk}
+use Rattle.frames.specs.Frame.{frame}
+use Rattle.frames.specs.Machine.{Out, bad as fault, answer, keep, Job, State, stateAt, fieldAt, from, walk}
 use Rattle.frames.specs.declared.Frame.{Frame}
 use Rattle.frames.specs.declared.Frame.the-variants.{End as FrameEnd, Cut as FrameCut, Refused as FrameRefused, Version, Whole}
-use Rattle.frames.proofs.StepLaws.{Room, whole-room, version-room, from-end, from-cut, from-refused, from-version, from-bad, from-answer, from-keep}
+use Rattle.frames.proofs.StepLaws.{whole-room, version-room, from-end, from-cut, from-refused, from-version, from-bad, from-answer, from-keep}
 use Rattle.frames.proofs.HeadLaws.{whole-headed, order-follows, order-first}
 use Rattle.questions.specs.Question.{Pool, noPool, poolSays, zoneSays, says, question}
-use Rattle.questions.specs.View.{part, poolOf, poolAt, outcomeOf, judgedOf}
+use Rattle.questions.specs.View.{part, poolOf, poolAt, outcomeOf, byPool, judgedOf}
 use Rattle.questions.specs.declared.Found.{Found}
 use Rattle.questions.specs.declared.Outcome.{Outcome}
 use Rattle.questions.specs.declared.Outcome.the-variants.{Answered, Refused, Cut, End}
@@ -101,24 +100,23 @@ module _ (id : List ℕ) (t : ℕ) (s : List ℕ) (at : ℕ) (seen : Bool) (prev
     unfolding says
     pool-says k = rw (eq-eqb i 0 (whole-first k)) (ap (λ (d : List ℕ). poolSays (fieldAt at (drop at s) i h n) (parsePool d)) (body-part s at h n))
 
-    by-pool : (p : Parsed (List (List ℕ))) (k : ℕ) → PoolRefused k ≡ checked p → poolSays (fieldAt at (drop at s) i h n) p ≡ fault k
-    by-pool (got ts r) k c = let z : _≡_ {A = ℕ} 0 1 = cc in absurd (omega arith)
-    by-pool (bad l) k c = let z : l ≡ k = cc in ap fault z
+    abbrev pooled : Pool
+    pooled = poolOf (at + h) (take n (drop h (drop at s)))
 
-    pub pool-fault : (k : ℕ) → seen ≡ false → PoolRefused k ≡ checked (parsePool (part (at + h) (at + h + n) s)) → Refused k at ≡ outcomeOf (from J σ)
-    pool-fault k o c = whole-fault k (pool-says o ∙ by-pool (parsePool (part (at + h) (at + h + n) s)) k c)
-
-    kept-pool : (p : Parsed (List (List ℕ))) (k : ℕ) → Strings k ≡ checked p
-        → poolSays (fieldAt at (drop at s) i h n) p ≡ keep (poolOf (at + h) (take n (drop h (drop at s))))
-    kept-pool (got ts r) k c = refl
-    kept-pool (bad l) k c = let z : _≡_ {A = ℕ} 0 1 = cc in absurd (omega arith)
-
-    pub pool-kept : (k : ℕ) → seen ≡ false → Strings k ≡ checked (parsePool (part (at + h) (at + h + n) s))
-        → from J σ ≡ from J (stateAt (at + h + n) (drop (at + h + n) s) true 0 (poolAt s (at + h) (at + h + n)))
-    pool-kept k o c =
-        whole-keep (poolOf (at + h) (take n (drop h (drop at s)))) (pool-says o ∙ kept-pool (parsePool (part (at + h) (at + h + n) s)) k c)
-        ∙ ap (λ (j : ℕ). from J (stateAt (at + h + n) (drop (at + h + n) s) true j (poolOf (at + h) (take n (drop h (drop at s)))))) (whole-first o)
-        ∙ ap (λ (d : List ℕ). from J (stateAt (at + h + n) (drop (at + h + n) s) true 0 (poolOf (at + h) d))) (body-part s at h n)
+    pub pool-out : seen ≡ false → at ≡ 4
+        → byPool id t s (at + h) (at + h + n) (parsePool (part (at + h) (at + h + n) s)) ≡ outcomeOf (from J σ)
+    unfolding byPool
+    pool-out o l = go (parsePool (part (at + h) (at + h + n) s)) (pool-says o)
+      where
+        go : (p : Parsed (List (List ℕ))) → says id t m (fieldAt at (drop at s) i h n) ≡ poolSays (fieldAt at (drop at s) i h n) p
+            → byPool id t s (at + h) (at + h + n) p ≡ outcomeOf (from J σ)
+        go (bad k) q = ap (Refused k) (sym l) ∙ whole-fault k q
+        go (got ts r) q =
+            ap outcomeOf
+            (sym
+            (whole-keep pooled q
+            ∙ ap (λ (j : ℕ). from J (stateAt (at + h + n) (drop (at + h + n) s) true j pooled)) (whole-first o)
+            ∙ ap (λ (b : List ℕ). from J (stateAt (at + h + n) (drop (at + h + n) s) true 0 (poolOf (at + h) b))) (body-part s at h n)))
 
 -- the walk over the zones
 module _ (id : List ℕ) (t : ℕ) (s : List ℕ) (start end : ℕ) where

@@ -1,10 +1,12 @@
 -- What the code's results stand for. Assumes nothing: these are definitions.
 use Prim.Native.Nat.{ℕ, _-_, _≤_, _<_}
-use mathlib.Core.Path.{_≡_}
+use mathlib.Core.Bool.{true}
 use mathlib.Core.List.{List}
 use lib.ListN.{length, take, drop}
-use Rattle.frames.specs.Machine.{Out, found, refused, cut, ended, Content, bad, answer, keep}
-use Rattle.questions.specs.Question.{Pool, waiting}
+use Rattle.base.specs.Parsed.{Parsed, got, bad as unread}
+use Rattle.frames.specs.Frame.{largest}
+use Rattle.frames.specs.Machine.{Out, found, refused, cut, ended, Content, bad, answer, keep, stateAt, from}
+use Rattle.questions.specs.Question.{Pool, waiting, question}
 use Rattle.questions.specs.declared.Mark.{Mark}
 use Rattle.questions.specs.declared.Answer.{Answer}
 use Rattle.questions.specs.declared.Answer.the-variants.{In, Refused as Denied}
@@ -30,6 +32,18 @@ outcomeOf (found x p) = Answered x
 outcomeOf (refused n p) = Refused n p
 outcomeOf (cut p) = Cut p
 outcomeOf (ended m p) = End p
+
+-- the data of field 0 go from a to e
+pub record Lies (s : List ℕ) (a e : ℕ) : Type 0 where
+  pub some : 0 < e
+  pub order : a ≤ e
+  pub inside : e ≤ length s
+  pub limit : e ≤ largest
+
+-- what field 0 comes to, which stands behind the version and whose data go from a to e: its own refusal, or the walk over what follows it
+unfoldable pub byPool : List ℕ → ℕ → List ℕ → ℕ → ℕ → Parsed (List (List ℕ)) → Outcome
+byPool id t s a e (unread n) = Refused n 4
+byPool id t s a e (got ts r) = outcomeOf (from (question id t) (stateAt e (drop e s) true 0 (poolAt s a e)))
 
 -- what the mark makes of an outcome
 abbrev pub answerOf : Mark → Outcome → Answer

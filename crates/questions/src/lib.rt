@@ -6,17 +6,17 @@ use zones::Answer as ZoneAnswer;
 use zones::Found as Interval;
 use zones::Verdict;
 ghost use mathlib.Core.Path.{_≡_};
-ghost use Prim.Native.Nat.{_≤_, _<_};
+ghost use Prim.Native.Nat.{_≤_};
 ghost use lib.ListN.{length, drop};
 ghost use mathlib.Core.Bool.{true, false};
 ghost use Rattle.base.specs.Moment.{Finite};
-ghost use Rattle.pool.specs.Pool.{stringsOf};
-ghost use Rattle.pool.specs.Index.{Ready};
+ghost use Rattle.pool.specs.Pool.{parsePool, stringsOf};
+ghost use Rattle.pool.specs.Index.{roomOf, Ready};
 ghost use Rattle.zones.specs.Parse.{parseZone};
 ghost use Rattle.zones.specs.Sound.{FoundOk};
 ghost use Rattle.frames.specs.Machine.{from, stateAt, walk as walkOf};
-ghost use Rattle.questions.specs.Question.{noPool, answered as answeredOf, zoneSays, question, finish as finishOf, ask as askOf, askPlain, nameOf};
-ghost use Rattle.questions.specs.View.{part, poolAt, poolOf, outcomeOf, answerOf, judgedOf};
+ghost use Rattle.questions.specs.Question.{noPool, answered as answeredOf, zoneSays, question, ask as askOf, askPlain, nameOf};
+ghost use Rattle.questions.specs.View.{part, poolAt, poolOf, Lies, outcomeOf, byPool, answerOf, judgedOf};
 
 // Whether more bytes may come.
 pub enum Mark {
@@ -56,7 +56,7 @@ pub enum Judged {
     Fault(u8),
 }
 
-fn answered(pool: &[u8], starts: &[u32; 8192], start: usize, x: Interval) -> Found
+fn answered(pool: &[u8], starts: &[u32], start: usize, x: Interval) -> Found
     requires { ⌜ Ready (now pool) (now starts) × FoundOk (length (stringsOf (now pool))) x × (start ≤ 4194304) × (length (now pool) ≤ 4194304) ⌝ }
     ensures { λ r. ⌜ r ≡ answeredOf (poolOf start (now (pool .entry))) x ⌝ }
 {
@@ -79,7 +79,7 @@ fn answered(pool: &[u8], starts: &[u32; 8192], start: usize, x: Interval) -> Fou
 // A whole zone in d: checked, and asked where its ID is the asked one. The ID, which stands first, tells which of the two reads it.
 fn judge(
     pool: &[u8],
-    starts: &[u32; 8192],
+    starts: &[u32],
     start: usize,
     count: usize,
     d: &[u8],
@@ -110,18 +110,18 @@ fn judge(
 // The zones behind field 0, whose data is s[start..end].
 fn walk_zones(
     s: &[u8],
-    starts: &[u32; 8192],
+    starts: &[u32],
     start: usize,
     end: usize,
     count: usize,
     id: &[u8],
     t: u64,
 ) -> Outcome
-    requires { ⌜ (0 < end) × (start ≤ end) × (end ≤ length (now s)) × (end ≤ 4194304) × Ready (part start end (now s)) (now starts) × (count ≡ length (stringsOf (part start end (now s)))) × Finite t ⌝ }
+    requires { ⌜ Lies (now s) start end × Ready (part start end (now s)) (now starts) × (count ≡ length (stringsOf (part start end (now s)))) × Finite t ⌝ }
     ensures { λ r. ⌜ r ≡ outcomeOf (from (question (now (id .entry)) t) (stateAt end (drop end (now (s .entry))) true 0 (poolAt (now (s .entry)) start end))) ⌝ }
 {
     let mut at = end;
-    let mut prev: u8 = 0;
+    let mut prev: usize = 0;
     loop {
         let f = frames::read_frame(&s[at..], 1, at, true, prev);
         match f {
@@ -151,12 +151,41 @@ fn walk_zones(
                     }
                     Judged::Keep => {
                         at = e;
-                        prev = i;
+                        prev = i as usize;
                     }
                 }
             }
         }
     }
+}
+
+// Field 0, whose data is s[d..e], and the zones behind it. starts gets its index.
+fn walk_with(s: &[u8], d: usize, e: usize, id: &[u8], t: u64, starts: &mut [u32]) -> Outcome
+    requires { ⌜ Lies (now s) d e × (roomOf (part d e (now s)) ≤ length (now starts)) × Finite t ⌝ }
+    ensures { λ r. ⌜ r ≡ byPool (now (id .entry)) t (now (s .entry)) d e (parsePool (part d e (now (s .entry)))) ⌝ }
+{
+    match pool::check_pool(&s[d..e], starts) {
+        Checked::Refused(m) => Outcome::Refused(m, 4),
+        Checked::Strings(k) => walk_zones(s, &*starts, d, e, k, id, t),
+    }
+}
+
+// The same with an index of its own, for a pool of few strings: a short index is cleared at once.
+fn walk_short(s: &[u8], d: usize, e: usize, id: &[u8], t: u64) -> Outcome
+    requires { ⌜ Lies (now s) d e × (roomOf (part d e (now s)) ≤ 256) × Finite t ⌝ }
+    ensures { λ r. ⌜ r ≡ byPool (now (id .entry)) t (now (s .entry)) d e (parsePool (part d e (now (s .entry)))) ⌝ }
+{
+    let mut starts = [0u32; 256];
+    walk_with(s, d, e, id, t, &mut starts)
+}
+
+// The same for every pool.
+fn walk_long(s: &[u8], d: usize, e: usize, id: &[u8], t: u64) -> Outcome
+    requires { ⌜ Lies (now s) d e × Finite t ⌝ }
+    ensures { λ r. ⌜ r ≡ byPool (now (id .entry)) t (now (s .entry)) d e (parsePool (part d e (now (s .entry)))) ⌝ }
+{
+    let mut starts = [0u32; 8192];
+    walk_with(s, d, e, id, t, &mut starts)
 }
 
 // What stands behind the version.
@@ -174,11 +203,10 @@ fn walk_pool(s: &[u8], id: &[u8], t: u64) -> Outcome
         Frame::Whole(_, h, n) => {
             let d = at + h;
             let e = d + n;
-            let mut starts = [0u32; 8192];
-            match pool::check_pool(&s[d..e], &mut starts) {
-                Checked::Refused(m) => Outcome::Refused(m, at),
-                Checked::Strings(k) => walk_zones(s, &starts, d, e, k, id, t),
+            if pool::room(&s[d..e]) <= 256 {
+                return walk_short(s, d, e, id, t);
             }
+            walk_long(s, d, e, id, t)
         }
     }
 }

@@ -57,6 +57,7 @@ step-spec =
     take-field-requires
     (λ c. search needs)
     (λ c. search needs)
+    (λ c. search needs)
     returns
     returns-2
     returns-3

@@ -1,7 +1,14 @@
+use denote.Ref.{now}
+use native.Mathlib.Omega.{arith}
+use Rattle.pool.proofs.PoolLaws.{room-most}
+use Rattle.checks.specs.Cursor.{part}
 use Rattle.checks.proofs.TakeLaws.{pool-refused, pool-kept}
 use borrow.Author.Needs.{needs}
 use Rattle.checks.proofs.take_pool.Statement.{statement}
 use Rattle.checks.proofs.take_pool.Tie as tie
+
+check-pool-requires : tie.Need-check-pool-requires
+check-pool-requires c κs = omega (arith, room-most (part (now (c .before .before .before .args .s)) (c .before .before .before .args .a) (c .before .before .before .args .e)))
 
 returns : tie.Need-returns
 returns c = pool-refused _ _ _ _ _ _ _ (c .before .before .before .check-pool .ensures) _ (c .before .c .given .1)
@@ -16,7 +23,7 @@ take-pool-spec =
     (λ c. search needs)
     (λ c. search needs)
     (λ c. search needs)
-    (λ c κs. search needs)
+    check-pool-requires
     (λ c. search needs)
     (λ c. search needs)
     returns

@@ -11,9 +11,9 @@ use Rattle.ids.proofs.take_id.Tie as tie
 
 is-second-requires : tie.Need-is-second-requires
 is-second-requires c κs = (
-  c .before .before .before .before .before .pre .0,
-  c .before .before .before .before .before .pre .1,
-  c .before .before .before .before .before .pre .2,
+  c .before .before .before .before .before .before .pre .0,
+  c .before .before .before .before .before .before .pre .1,
+  c .before .before .before .before .before .before .pre .2,
   c .before .before .hash .ensures .1,
   c .before .before .hash .ensures .0 ∙ ap hash (c .before .before .before .text-by .ensures),
 )
@@ -21,8 +21,8 @@ is-second-requires c κs = (
 returns : tie.Need-returns
 returns c = taken-second _ _ _ _ (sym (c .if1 .taken) ∙ c .before .is-second .ensures)
 
-inside : (c : tie.After-number) → c .before .before .before .before .before .before .before .before .before .args .k < 8192
-inside c = below (now (c .before .before .before .before .before .before .before .before .before .args .pool)) _ (omega arith)
+inside : (c : tie.After-number) → c .before .before .before .before .before .before .before .before .before .before .args .k < 8192
+inside c = below (now (c .before .before .before .before .before .before .before .before .before .before .args .pool)) _ (omega arith)
 
 mul-number : tie.Need-mul-number
 mul-number c = omega (arith, c .before .before .before .before .hash .ensures .1)

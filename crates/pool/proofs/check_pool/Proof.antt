@@ -4,7 +4,7 @@ use native.Mathlib.Omega.{arith}
 use denote.Ref.{now}
 use Rattle.base.proofs.Parts.{part-from}
 use Rattle.counts.proofs.CountLaws.{Counted, counted}
-use Rattle.pool.proofs.CheckLaws.{pool-unread, pool-large, pool-counted}
+use Rattle.pool.proofs.CheckLaws.{room-counted, pool-unread, pool-large, pool-counted}
 use borrow.Author.Needs.{needs}
 use Rattle.pool.proofs.check_pool.Statement.{statement}
 use Rattle.pool.proofs.check_pool.Tie as tie
@@ -12,21 +12,27 @@ use Rattle.pool.proofs.check_pool.Tie as tie
 returns : tie.Need-returns
 returns c = pool-large _ _ _ (c .before .before .before .before .read-count .ensures) _ _ (c .before .before .g2 .given .1) (c .if1 .taken)
 
-behind-count : (c : tie.Else1) → Counted (now (c .before .before .before .before .before .before .args .d)) (c .before .before .g2 .given .0 .0) (c .before .before .g2 .given .0 .1 .0)
+behind-count : (c : tie.Else1) → Counted (now (c .before .before .before .before .before .before .before .args .d)) (c .before .before .g2 .given .0 .0) (c .before .before .g2 .given .0 .1 .0)
 behind-count c = counted _ (sym (c .before .before .g2 .given .1) ∙ c .before .before .before .before .read-count .ensures)
 
 fill-requires : tie.Need-fill-requires
 fill-requires c κs =
     let q = behind-count (c .before .before .before) in
     let a = c .before .before .before .before .before .g2 .given .0 .1 .0 in
-    let z : a + c .before .ascii-front .result - a ≡ c .before .ascii-front .result = omega arith in
-    (q .within, q .size, omega arith, rw z (rw (part-from a (now (c .before .before .before .before .before .before .before .before .before .args .d))) at (c .before .ascii-front .ensures .1)))
+    let z : a + c .before .ascii-front .result - a ≡ c .before .ascii-front .result = omega arith in (
+      q .within,
+      q .size,
+      omega arith,
+      omega (arith, room-counted _ _ (c .before .before .before .before .before .before .before .read-count .ensures) _ _ (c .before .before .before .before .before .g2 .given .1) (c .before .before .before .if1 .left), c .before .before .before .before .before .before .before .before .before .before .pre),
+      omega (arith, q .within, c .before .ascii-front .ensures .0),
+      rw z (rw (part-from a (now (c .before .before .before .before .before .before .before .before .before .before .args .d))) at (c .before .ascii-front .ensures .1)),
+    )
 
 returns-2 : tie.Need-returns-2
 returns-2 c = pool-unread _ _ _ (c .before .before .before .read-count .ensures) _ (c .before .g .given .1)
 
 returns-3 : tie.Need-returns-3
-returns-3 c = pool-counted _ _ _ (c .before .before .before .before .before .before .before .before .read-count .ensures) _ _ (c .before .before .before .before .before .before .g2 .given .1) _ _ (c .before .before .before .before .if1 .left) (c .fill .ensures)
+returns-3 c = pool-counted _ _ _ (c .before .before .before .before .before .before .before .before .before .before .read-count .ensures) _ _ (c .before .before .before .before .before .before .before .before .g2 .given .1) _ _ (c .before .before .before .before .before .before .if1 .left) (c .before .before .fill .ensures)
 
 pub check-pool-spec : {M : Type 1} → statement M
 check-pool-spec =
@@ -43,4 +49,5 @@ check-pool-spec =
     (λ c. search needs)
     fill-requires
     returns-2
+    (λ c. search needs)
     returns-3)

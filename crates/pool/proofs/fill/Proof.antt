@@ -1,9 +1,13 @@
-use Prim.Native.Nat.{_-_, _≤_}
+use mathlib.Core.Path.{_≡_, refl}
+use mathlib.Core.Bool.{true}
+use Prim.Native.Nat.{_-_, _≤_, _<_}
 use native.Mathlib.Omega.{arith}
+use lib.ListN.{take, drop}
 use denote.Ref.{now}
 use Rattle.base.proofs.Parts.{part-from}
+use Rattle.texts.specs.Ascii.{ascii}
 use Rattle.texts.proofs.AsciiLaws.{ascii-at}
-use Rattle.pool.proofs.FillLaws.{Filling, filling-start, filling-refused, filling-next, filling-end, filling-left, here, here-inside}
+use Rattle.pool.proofs.FillLaws.{Filling, filling-start, filling-refused, filling-next, filling-end, filling-left, here, here-inside, plain-here}
 use borrow.Author.Needs.{needs}
 use Rattle.pool.proofs.fill.Statement.{statement}
 use Rattle.pool.proofs.fill.Tie as tie
@@ -17,37 +21,40 @@ abbrev μ-loop : tie.MeasureT-loop
 loop-holds : tie.Need-loop-holds Inv-loop μ-loop
 loop-holds c = (filling-start _ _ _ _ (omega arith) (omega arith), omega arith)
 
-sub-read-text-in : tie.Need-sub-read-text-in Inv-loop μ-loop
-sub-read-text-in c = c .before .before .loop .inv .0 .inside
+-- a place in the pool is small
+small : (c : tie.In-loop Inv-loop μ-loop) → c .before .loop .at < 4294967296
+small c = omega (arith, c .before .loop .inv .0 .small, c .before .loop .inv .0 .most)
 
-part-read-text-in-start : tie.Need-part-read-text-in-start Inv-loop μ-loop
-part-read-text-in-start c = c .before .before .loop .inv .0 .inside
+-- the bytes from a place on, as far as they are known to be ASCII
+plain-at : (c : tie.In-loop Inv-loop μ-loop)
+    → ascii (take (c .before .before .before .before .args .plain - c .before .loop .at) (drop (c .before .loop .at) (now (c .before .before .before .before .args .d)))) ≡ true
+plain-at c = ascii-at (c .before .before .before .before .args .plain) (c .before .before .before .before .args .from) (c .before .loop .at) (now (c .before .before .before .before .args .d)) (c .before .loop .inv .1) (c .before .before .before .before .pre .5)
+
+loop-again : tie.Need-loop-again Inv-loop μ-loop
+loop-again c = (filling-next _ _ _ _ _ _ _ (c .before .before .before .loop .inv .0) (c .before .before .loop-test .taken) _ (plain-here _ _ (c .before .before .before .before .before .before .args .plain) _ (c .before .before .before .before .before .before .pre .4) (plain-at (c .before .before)) (c .before .short .ensures (c .if1 .taken)) (c .if1 .taken)) _ _ refl, omega (arith, c .before .before .before .loop .inv .1))
 
 read-text-in-requires : tie.Need-read-text-in-requires Inv-loop μ-loop
 read-text-in-requires c κs =
-    rw (c .before .behind .ensures, part-from (c .before .before .before .loop .at) (now (c .before .before .before .before .before .args .d)))
-    (ascii-at (c .before .before .before .before .before .args .plain) (c .before .before .before .before .before .args .from) (c .before .before .before .loop .at) (now (c .before .before .before .before .before .args .d)) (c .before .before .before .loop .inv .1) (c .before .before .before .before .before .pre .3))
+    rw (c .before .behind .ensures, part-from (c .before .before .before .before .before .loop .at) (now (c .before .before .before .before .before .before .before .before .args .d)))
+    (plain-at (c .before .before .before .before))
 
 returns : tie.Need-returns Inv-loop μ-loop
-returns c = filling-refused _ _ _ _ _ _ _ (c .before .before .before .before .before .before .before .loop .inv .0) (c .before .before .before .before .before .before .loop-test .taken) _ (c .before .before .before .read-text-in .ensures) _ (c .before .t .given .1)
+returns c = filling-refused _ _ _ _ _ _ _ (c .before .before .before .before .before .before .before .before .before .loop .inv .0) (c .before .before .before .before .before .before .before .before .loop-test .taken) _ (c .before .before .before .read-text-in .ensures) _ (c .before .t .given .1)
 
-cast-starts : tie.Need-cast-starts Inv-loop μ-loop
-cast-starts c = omega (arith, c .before .before .before .before .before .before .before .loop .inv .0 .small, c .before .before .before .before .before .before .before .loop .inv .0 .most)
+add-at-3 : tie.Need-add-at-3 Inv-loop μ-loop
+add-at-3 c = let p = here _ _ _ _ _ _ _ (c .before .before .before .before .before .before .before .before .before .loop .inv .0) (c .before .before .before .before .before .before .before .before .loop-test .taken) _ (c .before .before .before .read-text-in .ensures) _ _ (c .before .t2 .given .1) in omega (arith, p .small, p .short)
 
-add-at : tie.Need-add-at Inv-loop μ-loop
-add-at c = let p = here _ _ _ _ _ _ _ (c .before .before .before .before .before .before .before .loop .inv .0) (c .before .before .before .before .before .before .loop-test .taken) _ (c .before .before .before .read-text-in .ensures) _ _ (c .before .t2 .given .1) in omega (arith, p .small, p .short)
+add-at-4 : tie.Need-add-at-4 Inv-loop μ-loop
+add-at-4 c = let p = here-inside _ _ _ _ _ _ _ (c .before .before .before .before .before .before .before .before .before .loop .inv .0) (c .before .before .before .before .before .before .before .before .loop-test .taken) _ (c .before .before .before .read-text-in .ensures) _ _ (c .before .t2 .given .1) in omega arith
 
-add-at-2 : tie.Need-add-at-2 Inv-loop μ-loop
-add-at-2 c = let p = here-inside _ _ _ _ _ _ _ (c .before .before .before .before .before .before .before .loop .inv .0) (c .before .before .before .before .before .before .loop-test .taken) _ (c .before .before .before .read-text-in .ensures) _ _ (c .before .t2 .given .1) in omega arith
-
-loop-again : tie.Need-loop-again Inv-loop μ-loop
-loop-again c = (filling-next _ _ _ _ _ _ _ (c .before .before .before .before .before .before .before .loop .inv .0) (c .before .before .before .before .before .before .loop-test .taken) _ (c .before .before .before .read-text-in .ensures) _ _ (c .before .t2 .given .1), omega (arith, c .before .before .before .before .before .before .before .loop .inv .1))
+loop-again-2 : tie.Need-loop-again-2 Inv-loop μ-loop
+loop-again-2 c = (filling-next _ _ _ _ _ _ _ (c .before .before .before .before .before .before .before .before .before .loop .inv .0) (c .before .before .before .before .before .before .before .before .loop-test .taken) _ (c .before .before .before .read-text-in .ensures) _ _ (c .before .t2 .given .1), omega (arith, c .before .before .before .before .before .before .before .before .before .loop .inv .1))
 
 returns-2 : tie.Need-returns-2 Inv-loop μ-loop
-returns-2 c = filling-end _ _ _ _ _ _ _ (c .before .before .loop .inv .0) (c .before .loop-test .left) (c .if1 .taken)
+returns-2 c = filling-end _ _ _ _ _ _ _ (c .before .before .loop .inv .0) (c .before .loop-test .left) (c .if2 .taken)
 
 returns-3 : tie.Need-returns-3 Inv-loop μ-loop
-returns-3 c = filling-left _ _ _ _ _ _ _ (c .before .before .loop .inv .0) (c .before .loop-test .left) (c .if1 .left)
+returns-3 c = filling-left _ _ _ _ _ _ _ (c .before .before .loop .inv .0) (c .before .loop-test .left) (c .if2 .left)
 
 pub fill-spec : {M : Type 1} → statement M
 fill-spec =
@@ -56,21 +63,33 @@ fill-spec =
     Inv-loop
     μ-loop
     loop-holds
+    (λ c κs. small c)
+    (λ c. omega (arith, small (c .before .before)))
+    (λ c. search needs)
+    (λ c. omega (arith, c .before .before .before .loop .inv .0 .size))
+    (λ c. omega arith)
+    (λ c. omega (arith, small (c .before .before)))
+    (λ c. search needs)
+    (λ c. omega (arith, c .before .before .before .loop .inv .0 .size))
+    loop-again
     (λ c κs. search needs)
-    sub-read-text-in
-    part-read-text-in-start
+    (λ c. c .before .before .before .before .loop .inv .0 .inside)
+    (λ c. c .before .before .before .before .loop .inv .0 .inside)
     (λ c. search needs)
     read-text-in-requires
     (λ c. search needs)
+    (λ c. c .before .before .before .before .before .before .before .before .before .loop .inv .0 .size)
     returns
     (λ c. search needs)
-    cast-starts
+    (λ c. omega (arith, small (c .before .before .before .before .before .before .before .before)))
+    (λ c. search needs)
+    (λ c. omega (arith, c .before .before .before .before .before .before .before .before .before .loop .inv .0 .size))
+    add-at-3
+    add-at-4
     (λ c. search needs)
     (λ c. search needs)
-    add-at
-    add-at-2
-    (λ c. search needs)
-    (λ c. search needs)
-    loop-again
+    loop-again-2
+    (λ c. c .before .before .loop .inv .0 .size)
     returns-2
+    (λ c. c .before .before .loop .inv .0 .size)
     returns-3)

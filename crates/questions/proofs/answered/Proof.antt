@@ -8,7 +8,7 @@ use Rattle.questions.proofs.answered.Statement.{statement}
 use Rattle.questions.proofs.answered.Tie as tie
 
 add-t11 : tie.Need-add-t11
-add-t11 c = omega (arith, rw (← (c .before .before .before .before .before .span-by .ensures)) at (span-inside (now (c .before .before .before .before .before .before .before .args .pool)) (c .before .before .before .before .before .before .before .args .x .name) (c .before .before .before .before .before .before .before .pre .1 .name-ok)), c .before .before .before .before .before .before .before .pre .2, c .before .before .before .before .before .before .before .pre .3)
+add-t11 c = omega (arith, rw (← (c .before .before .before .before .before .span-by .ensures)) at (span-inside (now (c .before .before .before .before .before .before .before .before .args .pool)) (c .before .before .before .before .before .before .before .before .args .x .name) (c .before .before .before .before .before .before .before .before .pre .1 .name-ok)), c .before .before .before .before .before .before .before .before .pre .2, c .before .before .before .before .before .before .before .before .pre .3)
 
 returns : tie.Need-returns
 returns c = rw (

@@ -12,17 +12,17 @@ use Rattle.questions.proofs.judge.Tie as tie
 
 has-id-requires : tie.Need-has-id-requires
 has-id-requires c κs = (
-  c .before .before .before .before .before .before .before .pre .0,
-  omega (arith, id-below (c .before .before .before .before .before .before .before .args .count) _ _ (c .before .before .before .name-at .ensures) _ _ (ap ofRead (c .before .z .given .1)), c .before .before .before .before .before .before .before .pre .1),
+  c .before .before .before .before .before .before .before .before .pre .0,
+  omega (arith, id-below (c .before .before .before .before .before .before .before .before .args .count) _ _ (c .before .before .before .name-at .ensures) _ _ (ap ofRead (c .before .z .given .1)), c .before .before .before .before .before .before .before .before .pre .1),
 )
 
 answered-requires : tie.Need-answered-requires
 answered-requires c κs = (
-  c .before .before .before .before .before .before .before .before .before .before .before .before .before .pre .0,
-  subst (λ (n : ℕ). FoundOk n (c .before .x .given .0 .0)) (c .before .before .before .before .before .before .before .before .before .before .before .before .before .pre .1)
-      (found-ok _ _ _ _ (c .before .before .before .before .before .before .before .before .before .before .before .before .before .pre .4) (sym (c .before .x .given .1) ∙ c .before .before .before .find .ensures)),
-  c .before .before .before .before .before .before .before .before .before .before .before .before .before .pre .2,
-  c .before .before .before .before .before .before .before .before .before .before .before .before .before .pre .3,
+  c .before .before .before .before .before .before .before .before .before .before .before .before .before .before .pre .0,
+  subst (λ (n : ℕ). FoundOk n (c .before .x .given .0 .0)) (c .before .before .before .before .before .before .before .before .before .before .before .before .before .before .pre .1)
+      (found-ok _ _ _ _ (c .before .before .before .before .before .before .before .before .before .before .before .before .before .before .pre .4) (sym (c .before .x .given .1) ∙ c .before .before .before .find .ensures)),
+  c .before .before .before .before .before .before .before .before .before .before .before .before .before .before .pre .2,
+  c .before .before .before .before .before .before .before .before .before .before .before .before .before .before .pre .3,
 )
 
 returns : tie.Need-returns

@@ -1,54 +1,50 @@
 use native.Mathlib.Omega.{arith}
 use mathlib.Core.Bool.{false}
-use mathlib.Core.Path.{_≡_, refl, sym, ap, _∙_}
-use Prim.Native.Nat.{_+_, _≤_, _<_}
-use lib.ListN.{length}
+use mathlib.Core.Path.{refl, _∙_}
+use Prim.Native.Nat.{_+_}
 use denote.Ref.{now}
-use Rattle.pool.proofs.PoolLaws.{taken, ready-filled}
 use Rattle.questions.specs.Question.{noPool}
-use Rattle.questions.specs.View.{outcomeOf}
-use Rattle.questions.proofs.WalkingLaws.{at-end, at-cut, at-refused, at-version, whole-inside, pool-fault, pool-kept}
+use Rattle.questions.specs.View.{Lies}
+use Rattle.questions.proofs.WalkingLaws.{at-end, at-cut, at-refused, at-version, whole-inside, pool-out}
 use borrow.Author.Needs.{needs}
 use Rattle.questions.proofs.walk_pool.Statement.{statement}
 use Rattle.questions.proofs.walk_pool.Tie as tie
 
 -- field 0 lies within the bytes
-room : (c : tie.After-known-told2)
-    → (0 < c .before .h .given .0 .1 .0) × (4 + c .before .h .given .0 .1 .0 + c .before .h .given .0 .1 .1 .0 ≤ length (now (c .before .before .before .before .before .before .before .args .s)))
-    × (4 + c .before .h .given .0 .1 .0 + c .before .h .given .0 .1 .1 .0 ≤ 4194304)
-room c =
-    whole-inside (now (c .before .before .before .before .before .before .before .args .id)) (c .before .before .before .before .before .before .before .args .t) (now (c .before .before .before .before .before .before .before .args .s)) 4 false 0 noPool (c .before .before .before .before .before .before .before .pre .0) (c .before .before .before .read-frame .result) (c .before .before .before .read-frame .ensures) _ _ _
-    (c .before .h .given .1)
+lies : (c : tie.After-known-told2) → Lies (now (c .before .before .before .before .before .before .before .args .s)) (4 + c .before .h .given .0 .1 .0) (4 + c .before .h .given .0 .1 .0 + c .before .h .given .0 .1 .1 .0)
+lies c =
+    let r = whole-inside (now (c .before .before .before .before .before .before .before .args .id)) (c .before .before .before .before .before .before .before .args .t) (now (c .before .before .before .before .before .before .before .args .s)) 4 false 0 noPool (c .before .before .before .before .before .before .before .pre .0) (c .before .before .before .read-frame .result) (c .before .before .before .read-frame .ensures) _ _ _ (c .before .h .given .1) in
+    record { some = omega arith; order = omega arith; inside = r .1; limit = r .2 }
 
 add-d : tie.Need-add-d
-add-d c = omega (arith, room c)
+add-d c = omega (arith, lies c)
 
 add-e : tie.Need-add-e
-add-e c = omega (arith, room c)
+add-e c = omega (arith, lies c)
 
-part-check-pool-end : tie.Need-part-check-pool-end
-part-check-pool-end c = room c .1
-
-walk-zones-requires : tie.Need-walk-zones-requires
-walk-zones-requires c κs = (omega (arith, room (c .before .before .before .before .before .before .before)), omega arith, room (c .before .before .before .before .before .before .before) .1, room (c .before .before .before .before .before .before .before) .2, ready-filled _ _ 0 (c .before .before .before .before .check-pool .ensures .1), taken _ _ (sym (c .before .before .k .given .1) ∙ c .before .before .before .before .check-pool .ensures .0) .many, c .before .before .before .before .before .before .before .before .before .before .before .before .before .before .pre .1)
+walk-short-requires : tie.Need-walk-short-requires
+walk-short-requires c κs = (lies (c .before .before .before), omega (arith, c .before .room .ensures), c .before .before .before .before .before .before .before .before .before .before .pre .1)
 
 returns : tie.Need-returns
-returns c = at-end _ _ (now (c .before .before .before .before .before .before .args .s)) _ _ _ noPool (c .before .before .before .before .before .before .pre .0) _ (c .before .before .read-frame .ensures) (c .enum-told .given .1)
+returns c = c .walk-short .ensures ∙ pool-out _ _ _ _ _ _ _ (c .before .before .before .before .before .before .before .before .before .before .before .pre .0) _ (c .before .before .before .before .before .before .before .read-frame .ensures) _ _ _ (c .before .before .before .before .before .h .given .1) refl refl
+
+walk-long-requires : tie.Need-walk-long-requires
+walk-long-requires c κs = (lies (c .before .before .before), c .before .before .before .before .before .before .before .before .before .before .pre .1)
 
 returns-2 : tie.Need-returns-2
-returns-2 c = at-cut _ _ (now (c .before .before .before .before .before .before .args .s)) _ _ _ noPool (c .before .before .before .before .before .before .pre .0) _ (c .before .before .read-frame .ensures) (c .enum-told2 .given .1)
+returns-2 c = at-end _ _ (now (c .before .before .before .before .before .before .args .s)) _ _ _ noPool (c .before .before .before .before .before .before .pre .0) _ (c .before .before .read-frame .ensures) (c .enum-told .given .1)
 
 returns-3 : tie.Need-returns-3
-returns-3 c = at-refused _ _ (now (c .before .before .before .before .before .before .before .args .s)) _ _ _ noPool (c .before .before .before .before .before .before .before .pre .0) _ (c .before .before .before .read-frame .ensures) _ (c .before .n .given .1)
+returns-3 c = at-cut _ _ (now (c .before .before .before .before .before .before .args .s)) _ _ _ noPool (c .before .before .before .before .before .before .pre .0) _ (c .before .before .read-frame .ensures) (c .enum-told2 .given .1)
 
 returns-4 : tie.Need-returns-4
-returns-4 c = absurd (omega (arith, at-version (now (c .before .before .before .before .before .before .args .id)) (c .before .before .before .before .before .before .args .t) (now (c .before .before .before .before .before .before .args .s)) 4 false 0 noPool (c .before .before .before .before .before .before .pre .0) _ (c .before .before .read-frame .ensures) (c .enum-told3 .given .1) .0))
+returns-4 c = at-refused _ _ (now (c .before .before .before .before .before .before .before .args .s)) _ _ _ noPool (c .before .before .before .before .before .before .before .pre .0) _ (c .before .before .before .read-frame .ensures) _ (c .before .n .given .1)
 
 returns-5 : tie.Need-returns-5
-returns-5 c = pool-fault _ _ _ _ _ _ _ (c .before .before .before .before .before .before .before .before .before .before .before .before .before .pre .0) _ (c .before .before .before .before .before .before .before .before .before .read-frame .ensures) _ _ _ (c .before .before .before .before .before .before .before .h .given .1) _ refl (sym (c .before .m .given .1) ∙ c .before .before .before .check-pool .ensures .0)
+returns-5 c = absurd (omega (arith, at-version (now (c .before .before .before .before .before .before .args .id)) (c .before .before .before .before .before .before .args .t) (now (c .before .before .before .before .before .before .args .s)) 4 false 0 noPool (c .before .before .before .before .before .before .pre .0) _ (c .before .before .read-frame .ensures) (c .enum-told3 .given .1) .0))
 
 returns-6 : tie.Need-returns-6
-returns-6 c = c .walk-zones .ensures ∙ ap outcomeOf (sym (pool-kept _ _ _ _ _ _ _ (c .before .before .before .before .before .before .before .before .before .before .before .before .before .before .before .pre .0) _ (c .before .before .before .before .before .before .before .before .before .before .before .read-frame .ensures) _ _ _ (c .before .before .before .before .before .before .before .before .before .h .given .1) _ refl (sym (c .before .before .before .k .given .1) ∙ c .before .before .before .before .before .check-pool .ensures .0)))
+returns-6 c = c .walk-long .ensures ∙ pool-out _ _ _ _ _ _ _ (c .before .before .before .before .before .before .before .before .before .before .before .pre .0) _ (c .before .before .before .before .before .before .before .read-frame .ensures) _ _ _ (c .before .before .before .before .before .h .given .1) refl refl
 
 pub walk-pool-spec : {M : Type 1} → statement M
 walk-pool-spec =
@@ -67,12 +63,11 @@ walk-pool-spec =
     add-e
     (λ c. search needs)
     (λ c. search needs)
-    part-check-pool-end
+    (λ c. lies c .inside)
     (λ c κs. search needs)
-    (λ c. search needs)
-    (λ c. search needs)
-    walk-zones-requires
+    walk-short-requires
     returns
+    walk-long-requires
     returns-2
     returns-3
     returns-4

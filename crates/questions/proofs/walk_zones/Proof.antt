@@ -1,17 +1,11 @@
 use mathlib.Core.Bool.{true}
-use Rattle.frames.proofs.StepLaws.{Room}
-use native.Mathlib.Nat.{le-refl}
-use lib.ListN.{length-take, length-drop}
-use mathlib.Core.List.{List}
-use Prim.Native.Nat.{ℕ, min, _+_, _≤_, _<_}
+use Prim.Native.Nat.{_+_, _-_, _≤_, _<_}
 use native.Mathlib.Omega.{arith}
-use borrow.Author.Needs.{needs}
-use mathlib.Core.Path.{_≡_, sym, ap, _∙_}
-use Prim.Native.Nat.{_-_}
-use lib.ListN.{length}
+use lib.ListN.{length, length-take, length-drop}
 use denote.Ref.{now}
 use Rattle.questions.specs.View.{poolAt}
 use Rattle.questions.proofs.WalkingLaws.{Walking, walking-start, walking-stop, walking-here, walking-fault, walking-keep, at-end, at-cut, at-refused, at-version, whole-inside}
+use borrow.Author.Needs.{needs}
 use Rattle.questions.proofs.walk_zones.Statement.{statement}
 use Rattle.questions.proofs.walk_zones.Tie as tie
 
@@ -24,15 +18,15 @@ abbrev μ-loop : tie.MeasureT-loop
 -- the field that was read lies within the bytes
 room : (c : tie.After-known-told2 Inv-loop μ-loop)
     → (0 < c .before .f2 .given .0 .1 .0)
-    × (c .before .before .before .before .before .loop .at + c .before .f2 .given .0 .1 .0 + c .before .f2 .given .0 .1 .1 .0 ≤ length (now (c .before .before .before .before .before .before .before .before .args .s)))
+    × (c .before .before .before .before .before .loop .at + c .before .f2 .given .0 .1 .0 + c .before .f2 .given .0 .1 .1 .0 ≤ length (now (c .before .before .before .before .before .before .before .before .before .args .s)))
     × (c .before .before .before .before .before .loop .at + c .before .f2 .given .0 .1 .0 + c .before .f2 .given .0 .1 .1 .0 ≤ 4194304)
 room c =
-    whole-inside (now (c .before .before .before .before .before .before .before .before .args .id)) (c .before .before .before .before .before .before .before .before .args .t) (now (c .before .before .before .before .before .before .before .before .args .s)) (c .before .before .before .before .before .loop .at) true (c .before .before .before .before .before .loop .prev)
-    (poolAt (now (c .before .before .before .before .before .before .before .before .args .s)) (c .before .before .before .before .before .before .before .before .args .start) (c .before .before .before .before .before .before .before .before .args .end)) (c .before .before .before .before .before .loop .inv .inside) (c .before .before .before .read-frame .result) (c .before .before .before .read-frame .ensures) _ _ _
+    whole-inside (now (c .before .before .before .before .before .before .before .before .before .args .id)) (c .before .before .before .before .before .before .before .before .before .args .t) (now (c .before .before .before .before .before .before .before .before .before .args .s)) (c .before .before .before .before .before .loop .at) true (c .before .before .before .before .before .loop .prev)
+    (poolAt (now (c .before .before .before .before .before .before .before .before .before .args .s)) (c .before .before .before .before .before .before .before .before .before .args .start) (c .before .before .before .before .before .before .before .before .before .args .end)) (c .before .before .before .before .before .loop .inv .inside) (c .before .before .before .read-frame .result) (c .before .before .before .read-frame .ensures) _ _ _
     (c .before .f2 .given .1)
 
 loop-holds : tie.Need-loop-holds Inv-loop μ-loop
-loop-holds c = walking-start _ _ _ _ _ (c .before .before .pre .0) (c .before .before .pre .2)
+loop-holds c = walking-start _ _ _ _ _ (c .before .before .before .pre .0 .some) (c .before .before .before .pre .0 .inside)
 
 sub-read-frame : tie.Need-sub-read-frame Inv-loop μ-loop
 sub-read-frame c = c .loop .inv .inside
@@ -56,7 +50,7 @@ returns-3 : tie.Need-returns-3 Inv-loop μ-loop
 returns-3 c = walking-stop _ _ _ _ _ (c .before .before .before .before .before .loop .inv) _ (at-refused _ _ _ _ _ _ _ (c .before .before .before .before .before .loop .inv .inside) _ (c .before .before .before .read-frame .ensures) _ (c .before .f .given .1))
 
 returns-4 : tie.Need-returns-4 Inv-loop μ-loop
-returns-4 c = absurd (omega (arith, c .before .before .before .before .loop .inv .some, at-version (now (c .before .before .before .before .before .before .before .args .id)) (c .before .before .before .before .before .before .before .args .t) (now (c .before .before .before .before .before .before .before .args .s)) (c .before .before .before .before .loop .at) true (c .before .before .before .before .loop .prev) (poolAt (now (c .before .before .before .before .before .before .before .args .s)) (c .before .before .before .before .before .before .before .args .start) (c .before .before .before .before .before .before .before .args .end)) (c .before .before .before .before .loop .inv .inside) _ (c .before .before .read-frame .ensures) (c .enum-told3 .given .1) .0))
+returns-4 c = absurd (omega (arith, c .before .before .before .before .loop .inv .some, at-version (now (c .before .before .before .before .before .before .before .before .args .id)) (c .before .before .before .before .before .before .before .before .args .t) (now (c .before .before .before .before .before .before .before .before .args .s)) (c .before .before .before .before .loop .at) true (c .before .before .before .before .loop .prev) (poolAt (now (c .before .before .before .before .before .before .before .before .args .s)) (c .before .before .before .before .before .before .before .before .args .start) (c .before .before .before .before .before .before .before .before .args .end)) (c .before .before .before .before .loop .inv .inside) _ (c .before .before .read-frame .ensures) (c .enum-told3 .given .1) .0))
 
 add-d : tie.Need-add-d Inv-loop μ-loop
 add-d c = omega (arith, room c)
@@ -65,13 +59,13 @@ add-e : tie.Need-add-e Inv-loop μ-loop
 add-e c = omega (arith, room c)
 
 sub-judge : tie.Need-sub-judge Inv-loop μ-loop
-sub-judge c = c .before .before .before .before .before .before .before .before .pre .1
+sub-judge c = c .before .before .before .before .before .before .before .before .before .pre .0 .order
 
 part-judge-start : tie.Need-part-judge-start Inv-loop μ-loop
-part-judge-start c = c .before .before .before .before .before .before .before .before .pre .1
+part-judge-start c = c .before .before .before .before .before .before .before .before .before .pre .0 .order
 
 part-judge-end : tie.Need-part-judge-end Inv-loop μ-loop
-part-judge-end c = c .before .before .before .before .before .before .before .before .pre .2
+part-judge-end c = c .before .before .before .before .before .before .before .before .before .pre .0 .inside
 
 sub-judge-2 : tie.Need-sub-judge-2 Inv-loop μ-loop
 sub-judge-2 c = omega arith
@@ -83,19 +77,19 @@ part-judge-end-2 : tie.Need-part-judge-end-2 Inv-loop μ-loop
 part-judge-end-2 c = room (c .before) .1
 
 judge-requires : tie.Need-judge-requires Inv-loop μ-loop
-judge-requires c κs = (c .before .before .before .before .before .before .before .before .before .before .pre .4, c .before .before .before .before .before .before .before .before .before .before .pre .5, omega (arith, c .before .before .before .before .before .before .before .before .before .before .pre .1, c .before .before .before .before .before .before .before .before .before .before .pre .3), simp (length-take, length-drop) (omega (arith, c .before .before .before .before .before .before .before .before .before .before .pre .3)), c .before .before .before .before .before .before .before .before .before .before .pre .6)
+judge-requires c κs = (c .before .before .before .before .before .before .before .before .before .before .before .pre .1, c .before .before .before .before .before .before .before .before .before .before .before .pre .2, omega (arith, c .before .before .before .before .before .before .before .before .before .before .before .pre .0 .order, c .before .before .before .before .before .before .before .before .before .before .before .pre .0 .limit), simp (length-take, length-drop) (omega (arith, c .before .before .before .before .before .before .before .before .before .before .before .pre .0 .limit)), c .before .before .before .before .before .before .before .before .before .before .before .pre .3)
 
 returns-5 : tie.Need-returns-5 Inv-loop μ-loop
-returns-5 c = walking-here _ _ _ _ _ _ _ _ (c .before .before .before .before .before .before .before .before .before .before .before .loop .inv) (c .before .before .before .before .before .before .before .before .before .before .before .before .before .before .pre .5) _ (c .before .before .before .before .before .before .before .before .before .read-frame .ensures) _ _ _ (c .before .before .before .before .before .before .before .f2 .given .1) _ _ (c .before .j .given .1) (c .before .before .before .judge .ensures)
+returns-5 c = walking-here _ _ _ _ _ _ _ _ (c .before .before .before .before .before .before .before .before .before .before .before .loop .inv) (c .before .before .before .before .before .before .before .before .before .before .before .before .before .before .before .pre .2) _ (c .before .before .before .before .before .before .before .before .before .read-frame .ensures) _ _ _ (c .before .before .before .before .before .before .before .f2 .given .1) _ _ (c .before .j .given .1) (c .before .before .before .judge .ensures)
 
 returns-6 : tie.Need-returns-6 Inv-loop μ-loop
-returns-6 c = walking-fault _ _ _ _ _ _ _ _ (c .before .before .before .before .before .before .before .before .before .before .before .loop .inv) (c .before .before .before .before .before .before .before .before .before .before .before .before .before .before .pre .5) _ (c .before .before .before .before .before .before .before .before .before .read-frame .ensures) _ _ _ (c .before .before .before .before .before .before .before .f2 .given .1) _ _ (c .before .j2 .given .1) (c .before .before .before .judge .ensures)
+returns-6 c = walking-fault _ _ _ _ _ _ _ _ (c .before .before .before .before .before .before .before .before .before .before .before .loop .inv) (c .before .before .before .before .before .before .before .before .before .before .before .before .before .before .before .pre .2) _ (c .before .before .before .before .before .before .before .before .before .read-frame .ensures) _ _ _ (c .before .before .before .before .before .before .before .f2 .given .1) _ _ (c .before .j2 .given .1) (c .before .before .before .judge .ensures)
 
 loop-less : tie.Need-loop-less Inv-loop μ-loop
 loop-less c = omega (arith, room (c .before .before .before .before .before))
 
 loop-again : tie.Need-loop-again Inv-loop μ-loop
-loop-again c = walking-keep _ _ _ _ _ _ _ _ (c .before .before .before .before .before .before .before .before .before .before .loop .inv) (c .before .before .before .before .before .before .before .before .before .before .before .before .before .pre .5) _ (c .before .before .before .before .before .before .before .before .read-frame .ensures) _ _ _ (c .before .before .before .before .before .before .f2 .given .1) _ (c .enum-told4 .given .1) (c .before .before .judge .ensures)
+loop-again c = walking-keep _ _ _ _ _ _ _ _ (c .before .before .before .before .before .before .before .before .before .before .loop .inv) (c .before .before .before .before .before .before .before .before .before .before .before .before .before .before .pre .2) _ (c .before .before .before .before .before .before .before .before .read-frame .ensures) _ _ _ (c .before .before .before .before .before .before .f2 .given .1) _ (c .enum-told4 .given .1) (c .before .before .judge .ensures)
 
 pub walk-zones-spec : {M : Type 1} → statement M
 walk-zones-spec =
@@ -130,6 +124,7 @@ walk-zones-spec =
     returns-5
     (λ c. search needs)
     returns-6
+    (λ c. search needs)
     (λ c. search needs)
     loop-less
     loop-again)

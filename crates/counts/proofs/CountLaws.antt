@@ -4,14 +4,16 @@ use mathlib.Core.List.{List, _++_}
 use mathlib.Core.Logic.{_⊎_}
 use Prim.Native.Nat.{ℕ, suc, _^_, _≤_, _<_}
 use native.Mathlib.Omega.{arith}
-use lib.ListN.{length}
-use borrow.Author.Tests.{le-leb, lt-leb}
+use lib.ListN.{length, getD, drop}
+use lib.Seq.{drop-cons}
+use borrow.Author.Tests.{lt-ltb, le-leb, lt-leb}
 use Rattle.base.specs.Writing.{bytes}
 use Rattle.base.specs.declared.Wrote.{Wrote}
 use Rattle.base.specs.declared.Wrote.the-variants.{Refused as WriteRefused}
 use Rattle.base.proofs.WriteLaws.{Writes, not-carried}
 use Rattle.base.specs.declared.Read.the-variants.{Value, Refused}
 use Rattle.base.proofs.Parts.{Bytes}
+use Rattle.counts.specs.Groups.{readGroups}
 use Rattle.counts.specs.Count.{readCount, writeCount, countForm}
 use Rattle.counts.proofs.GroupLaws.{group, read-written, Written, read-form, same-added, past-added, group-refused}
 use Rattle.counts.proofs.GroupWriteLaws.{write-some, write-size, write-mono, write-most, write-least, write-bytes}
@@ -28,6 +30,11 @@ pub counted : (s : List ℕ) {v n : ℕ} → Value v n ≡ readCount s → Count
 counted s e =
     let g = group 4 7 s e in
     record { small = omega arith; some = omega arith; size = omega arith; within = omega arith; single = g .single }
+
+-- a byte below 128 at a place is a count
+pub byte-count : (s : List ℕ) (place : ℕ) → place < length s → getD s place 0 < 128 → readCount (drop place s) ≡ Value (getD s place 0) 1
+unfolding readGroups
+byte-count s place h l = rw (drop-cons s place 0 h, lt-ltb (getD s place 0) 128 l)
 
 -- a count that was written is read back, whatever follows
 pub count-written : (v : ℕ) (rest : List ℕ) → v ≤ 2147483647 → readCount (writeCount v ++ rest) ≡ Value v (length (writeCount v))

@@ -14,6 +14,7 @@ use Rattle.base.specs.declared.Read.the-variants.{Value, Refused}
 use Rattle.base.proofs.MomentLaws.{finite-yes}
 use Rattle.counts.specs.Groups.{readGroups}
 use Rattle.counts.specs.Count.{readCount}
+use Rattle.counts.proofs.CountLaws.{byte-count}
 use Rattle.offsets.specs.Offset.{readSum}
 use Rattle.offsets.proofs.OffsetLaws.{fine-of}
 use Rattle.transitions.specs.Transition.{fromCount, readMoment}
@@ -38,10 +39,6 @@ module _ (s : List ℕ) (place : ℕ) where
   no-sum h = rw (drop-of-length-le s h)
 
   module _ (h : place < length s) where
-    pub one-byte : getD s place 0 < 128 → readCount (drop place s) ≡ Value (getD s place 0) 1
-    unfolding readGroups
-    one-byte l = rw (drop-cons s place 0 h, lt-ltb (getD s place 0) 128 l)
-
     pub zero-sum : getD s place 0 ≡ 0 → readSum (drop place s) ≡ Refused 7
     unfolding readSum
     zero-sum e = rw (drop-cons s place 0 h, e) refl
@@ -107,7 +104,7 @@ details-at s place l n w v =
     let two : place + 1 + 1 ≡ place + 2 = omega arith in
     let three : place + 2 + 1 ≡ place + 3 = omega arith in
     record {
-      name = reads readCount s place _ 1 (one-byte s place (omega arith) (omega arith)) (omega arith);
+      name = reads readCount s place _ 1 (byte-count s place (omega arith) (omega arith)) (omega arith);
       wall = rw (← two) (half-hours-at s (place + 1) (omega arith) w);
       savings = rw (← three) (half-hours-at s (place + 2) (omega arith) v);
     }

@@ -6,12 +6,12 @@ use Prim.Native.Nat.{ℕ, suc, _+_, _-_, _*_, _≤_, _<_}
 use native.Mathlib.Omega.{arith}
 use native.Mathlib.Numerals.{add-one}
 use lib.ListN.{length, getD, take, drop, set, length-drop, length-set, drop-of-length-le}
-use lib.Seq.{sets, drop-drop, drop-cons, getD-drop}
+use lib.Seq.{sets, drop-drop, drop-cons}
 use Rattle.base.proofs.Tests.{by-order}
 use Rattle.base.proofs.Parts.{part-from}
 use Rattle.base.specs.declared.Read.the-variants.{Value}
 use Rattle.counts.specs.Count.{readCount}
-use Rattle.counts.proofs.GroupLaws.{read-one}
+use Rattle.counts.proofs.CountLaws.{byte-count}
 use Rattle.texts.specs.Text.{readText, behindText}
 use Rattle.texts.specs.declared.Text.{Text}
 use Rattle.texts.specs.declared.Text.the-variants.{Part, Refused as Untext}
@@ -63,9 +63,7 @@ pub plain-here : (d : List ℕ) (at plain n : ℕ) → plain ≤ length d → as
 plain-here d at plain n l e (p, q, r) h =
     let s : List ℕ = drop at d in
     let w : length s ≡ length d - at = length-drop at d in
-    let z : at + 0 ≡ at = omega arith in
-    let g : getD s 0 0 ≡ n = getD-drop at d 0 0 ∙ rw z (sym q) in
-    let c : readCount s ≡ Value n 1 = rw g at (sym (read-one 4 7 s (omega arith) (omega arith) (omega arith))) in
+    let c : readCount s ≡ Value n 1 = rw q (byte-count d at p (omega arith)) in
     rw (part-from at d)
     (text-tested s (readCount s) refl n 1 c (omega arith) true (omega arith) (plain-utf8 (plain - at) 1 n s e (omega arith)))
 

@@ -12,10 +12,10 @@ use Rattle.signed.specs.Instant.{instantOf}
 use Rattle.signed.proofs.IntegerLaws.{finite-or-none}
 use Rattle.frames.specs.Machine.{Out, found, refused, cut, ended, walk}
 use Rattle.questions.specs.Question.{Pool, noPool, question, finish, ask, nameOf}
-use Rattle.questions.specs.View.{part, outcomeOf, answerOf}
+use Rattle.questions.specs.View.{outcomeOf, answerOf}
 use Rattle.questions.specs.declared.Mark.{Mark}
 use Rattle.questions.specs.declared.Found.{Found}
-use Rattle.questions.specs.declared.Answer.the-variants.{In, Refused}
+use Rattle.questions.specs.declared.Answer.the-variants.{Refused}
 use Rattle.questions.specs.declared.Outcome.{Outcome}
 
 finish-is : (mark : Mark) (o : Out Pool Found) → answerOf mark (outcomeOf o) ≡ finish mark o

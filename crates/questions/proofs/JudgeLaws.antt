@@ -1,11 +1,10 @@
 -- What a zone says to the question, by its check and its lookup. Assumes nothing.
 use mathlib.Core.Path.{_≡_, refl, ap, _∙_}
-use mathlib.Core.Bool.{Bool, true, false}
+use mathlib.Core.Bool.{true, false}
 use mathlib.Core.List.{List, []}
 use Prim.Native.Nat.{ℕ, _<_}
 use native.Mathlib.Omega.{arith}
 use lib.ListN.{drop, getD}
-use Rattle.base.specs.Pick.{pick}
 use Rattle.base.specs.Parsed.{Parsed, got, bad}
 use Rattle.pool.specs.Pool.{stringsOf}
 use Rattle.base.specs.Equal.{equal}
@@ -13,17 +12,14 @@ use Rattle.zones.specs.Content.{Zone}
 use Rattle.zones.specs.Parse.{parseZone}
 use Rattle.zones.specs.Lookup.{inBody, verdictOf, answerOf}
 use Rattle.zones.specs.declared.Found.{Found as Interval}
-use Rattle.zones.specs.declared.Verdict.{Verdict}
 use Rattle.zones.specs.declared.Verdict.the-variants.{Good, Refused}
-use Rattle.zones.specs.declared.Answer.{Answer}
 use Rattle.zones.specs.declared.Answer.the-variants.{In, Refused as Denied}
 use Rattle.zones.proofs.SoundLaws.{zone-id, zone-bad}
 use Rattle.places.specs.Placed.{Placed, at, no, viewPlaced, Stands}
 use Rattle.places.specs.Name.{parseName}
 use Rattle.places.proofs.ValueLaws.{name-ok}
-use Rattle.frames.specs.Machine.{Content, bad as fault, answer, keep}
+use Rattle.frames.specs.Machine.{bad as fault, answer, keep}
 use Rattle.questions.specs.Question.{Pool, answered, zoneSays}
-use Rattle.questions.specs.declared.Found.{Found}
 
 never : {A : Type 0} → _≡_ {A = ℕ} 0 1 → A
 never e = absurd (omega arith)

@@ -1,26 +1,24 @@
 -- The lookup: what one walk keeps gives the interval that holds the instant, and no other interval of the zone does. Assumes nothing.
 use mathlib.Core.Path.{_≡_, refl, sym, ap, _∙_, subst}
-use mathlib.Core.Bool.{Bool, true, false}
 use mathlib.Core.List.{List, [], _∷_}
 use Prim.Native.Nat.{ℕ, _≤_, _<_}
 use native.Mathlib.Omega.{arith}
 use lib.Dec.{ltb}
-use borrow.Author.Tests.{lt-ltb, le-ltb, ltb-true, ltb-false}
+use borrow.Author.Tests.{lt-ltb, le-ltb}
 use Rattle.base.specs.Pick.{pick}
-use Rattle.base.specs.Parsed.{Parsed, got, bad, behind}
+use Rattle.base.specs.Parsed.{Parsed, got, bad}
 use Rattle.base.specs.Moment.{Finite, startOfTime, endOfTime}
 use Rattle.base.proofs.Tests.{by-order}
 use Rattle.recurrence.specs.Tails.{TailOk}
 use Rattle.intervals.specs.declared.Interval.{Interval}
 use Rattle.intervals.specs.declared.Scan.{Scan}
-use Rattle.intervals.specs.Interval.{startOf}
 use Rattle.intervals.specs.Scan.{scanFrom, unscanned, scanned}
 use Rattle.intervals.proofs.ScanLaws.{advance-closed, advance-next, advance-over}
-use Rattle.intervals.specs.Sound.{LaterOk, Later, ListOk}
+use Rattle.intervals.specs.Sound.{Later, ListOk}
 use Rattle.tails.specs.declared.NamedTail.{NamedTail}
-use Rattle.zones.specs.Content.{Ending, untailed, tailed, Body, fixed, listed, Zone}
+use Rattle.zones.specs.Content.{untailed, tailed, Body, fixed, listed, Zone}
 use Rattle.zones.specs.Parse.{parseZone}
-use Rattle.zones.specs.Sound.{EndOk, BodyOk, Sound}
+use Rattle.zones.specs.Sound.{BodyOk}
 use Rattle.zones.specs.Lookup.{zeroOffset, until, holding, inList, inTail, behindList, inBody, answerOf}
 use Rattle.zones.specs.View.{heldUntil, bodyRead, readOf}
 use Rattle.zones.proofs.SoundLaws.{zone-sound}

@@ -1,26 +1,22 @@
 -- Every instant is in exactly one interval of a zone, and the lookup gives that one. Assumes nothing.
-use mathlib.Core.Path.{_≡_, refl, sym, ap, _∙_, subst}
-use mathlib.Core.Bool.{Bool, true, false}
+use mathlib.Core.Path.{_≡_, refl, ap}
 use mathlib.Core.List.{List, [], _∷_}
 use Prim.Native.Nat.{ℕ, _≤_, _<_}
 use native.Mathlib.Omega.{arith}
-use lib.Dec.{ltb}
 use borrow.Author.Tests.{lt-ltb, le-ltb}
-use Rattle.base.specs.Pick.{pick}
 use Rattle.base.specs.Parsed.{behind}
-use Rattle.base.specs.Moment.{Finite, startOfTime, endOfTime}
+use Rattle.base.specs.Moment.{Finite, endOfTime}
 use Rattle.base.proofs.Tests.{by-order}
-use Rattle.recurrence.specs.declared.Interval.{Interval as TailInterval}
-use Rattle.recurrence.specs.Tails.{IsInterval, lookup, Holds as TailHolds}
+use Rattle.recurrence.specs.Tails.{lookup, Holds as TailHolds}
 use Rattle.recurrence.proofs.IntervalLaws.{held, lookup-in, only-one as tail-only-one}
 use Rattle.intervals.specs.declared.Interval.{Interval}
 use Rattle.intervals.specs.Interval.{startOf}
-use Rattle.intervals.specs.Sound.{LaterOk, Later, ListOk}
+use Rattle.intervals.specs.Sound.{Later, ListOk}
 use Rattle.tails.specs.declared.NamedTail.{NamedTail}
 use Rattle.tails.specs.Sound.{NamedTailOk}
-use Rattle.zones.specs.Content.{Ending, untailed, tailed, Body, fixed, listed, Zone}
-use Rattle.zones.specs.Sound.{EndOk, BodyOk, Sound}
-use Rattle.zones.specs.Lookup.{until, holding, inList, named, inTail, behindList, inBody}
+use Rattle.zones.specs.Content.{untailed, tailed, Body, fixed, listed}
+use Rattle.zones.specs.Sound.{BodyOk}
+use Rattle.zones.specs.Lookup.{holding, inList, named, inTail, behindList, inBody}
 use Rattle.zones.specs.Intervals.{Holds, Listing, final, inner, later, InList, among, InTail, by-rules, InBody, all-of-time, in-list, in-tail}
 use Rattle.zones.specs.declared.Found.{Found}
 

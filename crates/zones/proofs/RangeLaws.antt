@@ -2,7 +2,7 @@
 use mathlib.Core.Path.{_≡_, refl, sym, subst}
 use mathlib.Core.Bool.{Bool, true, false}
 use mathlib.Core.List.{List, [], _∷_}
-use Prim.Native.Nat.{ℕ, _+_, _-_, _≤_, _<_}
+use Prim.Native.Nat.{ℕ, _+_, _-_, _<_}
 use native.Mathlib.Omega.{arith}
 use lib.Dec.{ltb}
 use borrow.Author.Tests.{ltb-false}
@@ -10,21 +10,19 @@ use Rattle.base.specs.Pick.{pick}
 use Rattle.base.specs.Parsed.{Parsed, got, bad}
 use Rattle.base.specs.Moment.{Finite}
 use Rattle.base.proofs.Tests.{pick-holds}
-use Rattle.recurrence.specs.declared.Interval.{Interval as Lookup}
-use Rattle.recurrence.specs.Tails.{TailOk, wallOf, lookup}
+use Rattle.recurrence.specs.Tails.{wallOf, lookup}
 use Rattle.recurrence.proofs.FieldLaws.{sum-range}
 use Rattle.intervals.specs.declared.Interval.{Interval}
-use Rattle.intervals.specs.Sound.{Ranged, LaterOk, Later, ListOk}
+use Rattle.intervals.specs.Sound.{Ranged, Later}
 use Rattle.tails.specs.declared.NamedTail.{NamedTail}
 use Rattle.tails.specs.Sound.{NamedTailOk}
-use Rattle.zones.specs.Content.{Ending, untailed, tailed, Body, fixed, listed, Zone}
+use Rattle.zones.specs.Content.{untailed, tailed, Body, fixed, listed, Zone}
 use Rattle.zones.specs.Parse.{parseZone}
-use Rattle.zones.specs.Sound.{BodyOk, Sound, FoundOk}
-use Rattle.zones.specs.Lookup.{until, holding, inList, named, inTail, behindList, inBody, answerOf}
+use Rattle.zones.specs.Sound.{BodyOk, FoundOk}
+use Rattle.zones.specs.Lookup.{until, holding, inList, inTail, behindList, inBody, answerOf}
 use Rattle.zones.proofs.SoundLaws.{zone-sound}
 use Rattle.zones.specs.declared.Found.{Found}
-use Rattle.zones.specs.declared.Answer.{Answer}
-use Rattle.zones.specs.declared.Answer.the-variants.{In, Refused as Denied}
+use Rattle.zones.specs.declared.Answer.the-variants.{In}
 
 until-ok : (pool : ℕ) (i : Interval) (end : ℕ) → Ranged pool i → FoundOk pool (until i end)
 until-ok pool i end h = record {

@@ -1,18 +1,18 @@
 -- Each way out of the zone's readers. Assumes nothing.
 use mathlib.Core.Path.{_≡_, refl, sym, ap, _∙_}
 use mathlib.Core.Bool.{Bool, true, false}
-use mathlib.Core.List.{List, [], _∷_}
+use mathlib.Core.List.{List, []}
 use Prim.Native.Nat.{ℕ, _≤_, _<_}
 use native.Mathlib.Omega.{arith}
 use lib.ListN.{length, drop}
-use lib.Dec.{ltb, eqb}
+use lib.Dec.{ltb}
 use borrow.Author.Tests.{lt-ltb, le-ltb, eq-eqb, ne-eqb}
 use Rattle.base.specs.Pick.{pick, both}
-use Rattle.base.specs.Parsed.{Parsed, got, bad, bind, parse, ended, many, behind}
+use Rattle.base.specs.Parsed.{Parsed, got, bad, bind, parse, many, behind}
 use Rattle.base.specs.Moment.{endOfTime}
 use Rattle.base.proofs.ParseLaws.{bad-got}
 use Rattle.transitions.specs.Transition.{readMoment}
-use Rattle.places.specs.Placed.{Placed, at, no, Stands}
+use Rattle.places.specs.Placed.{at, no, Stands}
 use Rattle.places.proofs.PlaceLaws.{ended-here, ended-over}
 use Rattle.intervals.specs.declared.Interval.{Interval}
 use Rattle.intervals.specs.declared.Scan.{Scan}
@@ -20,12 +20,11 @@ use Rattle.intervals.specs.Interval.{startOf, parseInterval}
 use Rattle.intervals.specs.Scan.{scanned, scanOf}
 use Rattle.intervals.proofs.ScanLaws.{last-start}
 use Rattle.tails.specs.declared.NamedTail.{NamedTail}
-use Rattle.zones.specs.Content.{Ending, untailed, tailed, Body, fixed, listed, Zone}
+use Rattle.zones.specs.Content.{untailed, tailed, Body, fixed, listed, Zone}
 use Rattle.zones.specs.Parse.{zoneOf, afterTailByte, parseTailed, afterEnd, afterIntervals, afterCount, parseFixed, parseListed, afterFlag}
 use Rattle.zones.specs.Lookup.{verdictOf, named}
 use Rattle.recurrence.specs.declared.Interval.{Interval as Lookup}
 use Rattle.zones.specs.View.{bodyRead, readOf, ReadsAny, ReadsAs}
-use Rattle.zones.specs.declared.Found.{Found}
 use Rattle.zones.specs.declared.Verdict.{Verdict}
 use Rattle.zones.specs.declared.Verdict.the-variants.{Good, Refused as Denied}
 use Rattle.zones.specs.declared.ZoneRead.{ZoneRead}

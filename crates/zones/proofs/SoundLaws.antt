@@ -2,13 +2,13 @@
 use mathlib.Core.Path.{_≡_, refl, sym, _∙_, subst}
 use mathlib.Core.Bool.{Bool, true, false}
 use mathlib.Core.List.{List, []}
-use mathlib.Core.Logic.{_⊎_, inl, inr}
-use Prim.Native.Nat.{ℕ, _≤_, _<_}
+use mathlib.Core.Logic.{inl, inr}
+use Prim.Native.Nat.{ℕ, _<_}
 use native.Mathlib.Omega.{arith}
 use lib.Dec.{ltb, eqb}
 use borrow.Author.Tests.{ltb-true, eqb-true, eqb-false}
 use Rattle.base.specs.Pick.{pick, both}
-use Rattle.base.specs.Parsed.{Parsed, got, bad, bind, parse, parseByte, ended, many, behind}
+use Rattle.base.specs.Parsed.{Parsed, got, bad, bind, parse, parseByte, many, behind}
 use Rattle.base.specs.Moment.{Finite, endOfTime}
 use Rattle.base.proofs.Tests.{both-left, both-right}
 use Rattle.base.proofs.ParseLaws.{bad-got, bind-good, pick-good, pick-bad, ended-good}
@@ -22,12 +22,11 @@ use Rattle.intervals.specs.declared.Interval.{Interval}
 use Rattle.intervals.specs.Interval.{parseInterval, startOf}
 use Rattle.intervals.specs.Sound.{ListOk}
 use Rattle.intervals.proofs.SoundLaws.{list-sound}
-use Rattle.tails.specs.declared.NamedTail.{NamedTail}
 use Rattle.tails.specs.Tail.{parseTail}
 use Rattle.tails.proofs.TailLaws.{tail-sound}
-use Rattle.zones.specs.Content.{Ending, untailed, tailed, Body, fixed, listed, Zone}
+use Rattle.zones.specs.Content.{untailed, tailed, Body, fixed, listed, Zone}
 use Rattle.zones.specs.Parse.{zoneOf, afterTail, parseTailed, afterTailByte, afterEnd, afterIntervals, afterCount, parseListed, fixedOf, afterFixedOffset, parseFixed, afterFlag, afterId, parseZone}
-use Rattle.zones.specs.Sound.{EndOk, BodyOk, Sound}
+use Rattle.zones.specs.Sound.{BodyOk, Sound}
 
 -- what a zone says, and that it ends with its data
 pub record Whole (pool id : ℕ) (z : Zone) (q : List ℕ) : Type 0 where

@@ -1,13 +1,12 @@
 -- The intervals of a zone, with no instant asked. Assumes nothing: these are definitions.
 use Prim.Native.Nat.{ℕ, _≤_, _<_}
-use mathlib.Core.Path.{_≡_}
 use mathlib.Core.List.{List, [], _∷_}
 use Rattle.base.specs.Moment.{startOfTime, endOfTime}
 use Rattle.recurrence.specs.declared.Interval.{Interval as TailInterval}
 use Rattle.recurrence.specs.Tails.{IsInterval}
 use Rattle.intervals.specs.declared.Interval.{Interval}
 use Rattle.tails.specs.declared.NamedTail.{NamedTail}
-use Rattle.zones.specs.Content.{Ending, untailed, tailed, Body, fixed, listed, Zone}
+use Rattle.zones.specs.Content.{Ending, tailed, Body, fixed, listed}
 use Rattle.zones.specs.Lookup.{zeroOffset, until, named}
 use Rattle.zones.specs.declared.Found.{Found}
 

@@ -5,7 +5,7 @@ use Prim.Native.Nat.{ℕ}
 use mathlib.Core.List.{List}
 use lib.Dec.{ltb, eqb}
 use Rattle.base.specs.Pick.{pick, both}
-use Rattle.base.specs.Parsed.{Parsed, got, bad, bind, parse, parseByte, ended, many, behind}
+use Rattle.base.specs.Parsed.{Parsed, bad, bind, parse, parseByte, ended, many, behind}
 use Rattle.base.specs.Moment.{endOfTime}
 use Rattle.counts.specs.Count.{readCount}
 use Rattle.offsets.specs.Offset.{readSum}
@@ -15,7 +15,7 @@ use Rattle.intervals.specs.Interval.{startOf, parseInterval}
 use Rattle.intervals.specs.declared.Interval.{Interval}
 use Rattle.tails.specs.Tail.{parseTail}
 use Rattle.tails.specs.declared.NamedTail.{NamedTail}
-use Rattle.zones.specs.Content.{Ending, untailed, tailed, Body, fixed, listed, Zone}
+use Rattle.zones.specs.Content.{untailed, tailed, Body, fixed, listed, Zone}
 
 -- A zone of either kind.
 unfoldable pub zoneOf : ℕ → Body → List ℕ → Parsed Zone

@@ -9,7 +9,7 @@ use Rattle.base.specs.Moment.{endOfTime}
 use Rattle.intervals.specs.Scan.{scanned}
 use Rattle.intervals.specs.declared.Interval.{Interval}
 use Rattle.intervals.specs.declared.Scan.{Scan}
-use Rattle.zones.specs.Content.{Ending, untailed, tailed, Body, fixed, listed, Zone}
+use Rattle.zones.specs.Content.{untailed, tailed, Body, fixed, listed, Zone}
 use Rattle.zones.specs.Lookup.{until}
 use Rattle.zones.specs.declared.Found.{Found}
 use Rattle.zones.specs.declared.ZoneRead.{ZoneRead}

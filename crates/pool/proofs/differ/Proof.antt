@@ -1,5 +1,4 @@
 use borrow.Author.Tests.{eq-eqb, ne-eqb}
-use borrow.Author.Needs.{needs}
 use Rattle.pool.proofs.differ.Statement.{statement}
 use Rattle.pool.proofs.differ.Tie as tie
 

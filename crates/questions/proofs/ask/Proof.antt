@@ -1,9 +1,5 @@
-use native.Mathlib.Omega.{arith}
-use mathlib.Core.Path.{_≡_, sym, ap, _∙_, subst⁻¹}
-use mathlib.Core.Logic.{_⊎_, inl, inr}
+use mathlib.Core.Path.{_∙_}
 use mir.Facts.{toZ-ofZ}
-use Prim.Native.Nat.{ℕ}
-use Rattle.base.specs.Moment.{Finite}
 use Rattle.questions.proofs.AskLaws.{ask-outside, ask-inside, instant-finite}
 use borrow.Author.Needs.{needs}
 use Rattle.questions.proofs.ask.Statement.{statement}

@@ -355,6 +355,11 @@ for strings, said in ((8192, "0 0"), (8193, "4 4")):
     long_case(head, b"\x00", strings, field(1, fixed(8191)), b"", checked=said, asked="0 0 0 start end -" if good else said)
     long_case(head, b"\x00", strings, b"", b"", checked=said, asked="12 8201" if good else said)
     long_case(head, b"\x00", strings, field(1, fixed(8192)), b"", checked="8 8201" if good else said)
+# the last string is the zone's ID and name; a question's index has 256 places, or 8,192 for more strings
+for strings in (1, 255, 256, 257, 8191, 8192):
+    last = text(b"A")
+    head = V + b"\x00" + count(len(count(strings)) + strings - 1 + len(last)) + count(strings)
+    long_case(head, b"\x00", strings - 1, last + field(1, fixed(strings - 1, 0x32, strings - 1)), b"A", checked="0 0", asked="0 3600000 0 start end 41")
 for length, good in ((1024, True), (1025, False)):
     head = V + b"\x00" + count(3 + length) + b"\x01" + count(length)
     long_case(head, b"a", length, field(1, fixed(0)), b"a" * length, checked="0 0" if good else "4 4", asked="0 0 0 start end " + "61" * 1024 if good else "4 4")

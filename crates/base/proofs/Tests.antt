@@ -26,6 +26,10 @@ pub pick-holds : {A : Type 0} (P : A → Type 0) (t : Bool) {x y : A} → (t ≡
 pick-holds P true f g = f refl
 pick-holds P false f g = g refl
 
+pub pick-same : {A : Type 0} (t : Bool) (a : A) → pick t a a ≡ a
+pick-same true a = refl
+pick-same false a = refl
+
 pub both-left : (a b : Bool) → both a b ≡ true → a ≡ true
 both-left true b e = refl
 both-left false b e = e

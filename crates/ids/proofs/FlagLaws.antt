@@ -12,6 +12,7 @@ use lib.Dec.{eqb}
 use borrow.Author.Tests.{eq-eqb, ne-eqb}
 use Rattle.base.specs.Pick.{pick}
 use Rattle.base.specs.Equal.{equal}
+use Rattle.base.proofs.Tests.{pick-same}
 use Rattle.base.proofs.EqualLaws.{equal-refl}
 use Rattle.ids.specs.Memory.{heldFrom}
 
@@ -38,10 +39,6 @@ module _ (ts : List (List ℕ)) (fl x : List ℕ) (j : ℕ) (h : j < length ts) 
 
     pub flagged-on : r ≡ false → heldFrom (j + 1) (drop (j + 1) ts) fl x ≡ heldFrom j (drop j ts) fl x
     flagged-on q = sym (rw (ne-eqb (getD fl j 0) 0 f, ← e, q) at (held-at ts fl x j h))
-
-pick-same : {A : Type 0} (b : Bool) (a : A) → pick b a a ≡ a
-pick-same true a = refl
-pick-same false a = refl
 
 or-twice : (a f h : Bool) → pick a true h ≡ pick a true (pick f h (pick a true h))
 or-twice true f h = refl

@@ -10,13 +10,9 @@ use lib.Seq.{getD-set-same, getD-set-other}
 use lib.Dec.{eqb, ltb}
 use borrow.Author.Tests.{eq-eqb, ne-eqb, eqb-true, eqb-false, lt-ltb, le-ltb}
 use Rattle.base.specs.Pick.{pick}
-use Rattle.base.proofs.Tests.{never}
+use Rattle.base.proofs.Tests.{never, pick-same}
 use Rattle.base.specs.Equal.{equal}
 use Rattle.ids.specs.Memory.{missing, Linked}
-
-pick-same : {A : Type 0} (b : Bool) (a : A) → pick b a a ≡ a
-pick-same true a = refl
-pick-same false a = refl
 
 -- a law for each way out of the code
 pub links-out : (m : ℕ) (ts : List (List ℕ)) (fl : List ℕ) (j : ℕ) (x : List ℕ) → m ≡ 0 → false ≡ missing m ts fl j x

@@ -61,9 +61,6 @@ module _ (id : List ℕ) (t : ℕ) (s : List ℕ) (at : ℕ) (seen : Bool) (prev
     here : Whole i h n ≡ frame 1 at seen prev (drop at s)
     here = lent (Whole i h n) e
 
-    pub whole-place : at ≡ 0 → ⊥
-    whole-place = whole-headed 1 at seen prev (drop at s) i h n (sym here) .place
-
     pub whole-inside : (0 < h) × (at + h + n ≤ length s) × (at + h + n ≤ 4194304)
     whole-inside =
         let r = whole-room 1 at seen prev (drop at s) i h n here in

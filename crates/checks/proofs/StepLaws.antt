@@ -4,7 +4,7 @@ use mathlib.Core.Bool.{Bool, true, false}
 use mathlib.Core.List.{List}
 use Prim.Native.Nat.{ℕ, _+_, _-_, _≤_, _<_}
 use native.Mathlib.Omega.{arith}
-use lib.ListN.{length, take, drop, replicate, length-drop, length-replicate}
+use lib.ListN.{length, take, drop, replicate, length-drop}
 use lib.Seq.{drop-drop}
 use native.Mathlib.Nat.{pos-of-ne-zero}
 use borrow.Author.Tests.{eq-eqb, ne-eqb, lt-ltb, le-ltb, ltb-false}
@@ -199,7 +199,7 @@ walking-start s =
           record {
             inside = omega arith;
             indexed =
-                record { first = omega arith; last = omega arith; room = length-replicate {A = ℕ} 8192 0; ready = record { begins = refl }; count = refl };
+                record { first = omega arith; last = omega arith; ready = record { begins = refl }; count = refl };
             stands = record { strings = refl; ids = keeps-none _; text = refl };
             place = λ z. absurd (omega arith);
             fresh = λ z. record { flags = refl; marks = refl; ids = refl };

@@ -5,7 +5,7 @@ use mathlib.Core.List.{List, []}
 use Prim.Native.Nat.{ℕ, _+_, _-_, _≤_, _<_}
 use native.Mathlib.Omega.{arith}
 use lib.ListN.{length, getD, drop, length-drop}
-use lib.Seq.{sets, length-sets, length-take-le}
+use lib.Seq.{sets, length-take-le}
 use borrow.Author.Tests.{eq-eqb, ne-eqb}
 use Rattle.base.specs.Parsed.{Parsed, got, bad as faulty}
 use Rattle.texts.specs.Text.{readText}
@@ -13,10 +13,10 @@ use Rattle.texts.specs.declared.Text.{Text}
 use Rattle.texts.specs.declared.Text.the-variants.{Part, Refused as Untext}
 use Rattle.texts.proofs.TextLaws.{held}
 use Rattle.pool.specs.Pool.{Pool, parsePool, checked, stringsIn, stringsOf}
-use Rattle.pool.specs.Index.{startsOf}
+use Rattle.pool.specs.Index.{startsOf, roomOf}
 use Rattle.pool.specs.declared.Checked.{Checked}
 use Rattle.pool.specs.declared.Checked.the-variants.{Strings, Refused as Unpooled}
-use Rattle.pool.proofs.PoolLaws.{room-most, ready}
+use Rattle.pool.proofs.PoolLaws.{ready}
 use Rattle.zones.specs.Content.{Zone}
 use Rattle.zones.specs.Parse.{parseZone}
 use Rattle.zones.specs.Lookup.{verdictOf}
@@ -39,29 +39,28 @@ module _ (s : List ℕ) (k : Kept) (a e : ℕ) (ix ix′ : List ℕ) (c : Checke
     (h : (c ≡ checked (parsePool (part s a e))) × (ix′ ≡ sets ix 0 (startsOf (part s a e)))) where
   pub pool-refused : (n : ℕ) → c ≡ Unpooled n → TookPool s k a e ix ix′ (Refused n)
   unfolding poolKept
-  pool-refused n q = record { means = λ fl mk y l st fr. go fl mk y (parsePool (part s a e)) (sym q ∙ h .0) }
+  pool-refused n q = record { means = λ fl mk y st fr. go fl mk y (parsePool (part s a e)) (sym q ∙ h .0) }
     where
       go : (fl mk : List ℕ) (y : Memory) (p : Pool) → Unpooled n ≡ checked p → Says s ix′ fl mk (poolIn y p) (Refused n)
       go fl mk y (faulty m) r = cc
       go fl mk y (got ts q) r = let z : _≡_ {A = ℕ} 0 1 = cc in absurd (omega arith)
 
-  pub pool-kept : (n : ℕ) → c ≡ Strings n → a ≤ e → e ≤ length s
+  pub pool-kept : (n : ℕ) → c ≡ Strings n → a ≤ e → e ≤ length s → roomOf (part s a e) ≤ length ix
       → TookPool s k a e ix ix′ (Keep (record { start = a; end = e; count = n; text = k .text; len = k .len }))
   unfolding poolKept
-  pool-kept n q l₁ l₂ = record { means = λ fl mk y l st fr. go fl mk y l st fr (parsePool (part s a e)) refl (sym q ∙ h .0) }
+  pool-kept n q l₁ l₂ l₃ = record { means = λ fl mk y st fr. go fl mk y st fr (parsePool (part s a e)) refl (sym q ∙ h .0) }
     where
-      go : (fl mk : List ℕ) (y : Memory) → length ix ≡ 8192 → Stands s k fl mk y → Fresh fl mk y → (p : Pool) → parsePool (part s a e) ≡ p
+      go : (fl mk : List ℕ) (y : Memory) → Stands s k fl mk y → Fresh fl mk y → (p : Pool) → parsePool (part s a e) ≡ p
           → Strings n ≡ checked p
           → Says s ix′ fl mk (poolIn y p) (Keep (record { start = a; end = e; count = n; text = k .text; len = k .len }))
-      go fl mk y l st fr (faulty m) i r = let z : _≡_ {A = ℕ} 0 1 = cc in absurd (omega arith)
-      go fl mk y l st fr (got ts u) i r =
+      go fl mk y st fr (faulty m) i r = let z : _≡_ {A = ℕ} 0 1 = cc in absurd (omega arith)
+      go fl mk y st fr (got ts u) i r =
           let w : stringsOf (part s a e) ≡ ts = ap stringsIn i in
           let j : n ≡ length ts = cc in (
             record {
               first = l₁;
               last = l₂;
-              room = ap length (h .1) ∙ length-sets ix 0 (startsOf (part s a e)) ∙ l;
-              ready = ready (part s a e) ix ix′ (omega (arith, room-most (part s a e))) (h .1);
+              ready = ready (part s a e) ix ix′ l₃ (h .1);
               count = j ∙ sym (ap length w);
             },
             record { strings = sym w; ids = rw (fr .flags, fr .marks, fr .ids) (keeps-none _); text = st .text },
@@ -145,7 +144,7 @@ module _ (s : List ℕ) (k : Kept) (a e : ℕ) (l₁ : a ≤ e) (l₂ : e ≤ le
         record {
           means = λ ix fl mk y ind st.
               rw (sym h ∙ q, part-length s a e l₂, eq-eqb (b + n) (e - a) o) (
-                record { first = ind .first; last = ind .last; room = ind .room; ready = ind .ready; count = ind .count },
+                record { first = ind .first; last = ind .last; ready = ind .ready; count = ind .count },
                 record { strings = st .strings; ids = st .ids; text = rw (ne-eqb (a + b) 0 not-first) },
               );
         }
@@ -155,7 +154,7 @@ module _ (s : List ℕ) (k : Kept) (i a e : ℕ) (ix fl mk : List ℕ) where
   pub field-pool : (r : Taken) (ix′ : List ℕ) → i ≡ 0 → Indexed s k ix → TookPool s k a e ix ix′ r → TookField s k i a e ix fl mk ix′ fl mk r
   unfolding contentOf
   field-pool r ix′ q ind t =
-      record { means = λ y st fr. rw (eq-eqb i 0 q) (t .means fl mk y (ind .room) st (fr q)) }
+      record { means = λ y st fr. rw (eq-eqb i 0 q) (t .means fl mk y st (fr q)) }
 
   module _ (n₀ : i ≡ 0 → ⊥) where
     pub field-zone : (r : Taken) (fl′ mk′ : List ℕ) → i ≡ 1 → TookZone s k a e ix fl mk fl′ mk′ r → TookField s k i a e ix fl mk ix fl′ mk′ r

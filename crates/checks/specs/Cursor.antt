@@ -34,7 +34,6 @@ textOf k = pick (eqb (k .text) 0) nowhere (placed (k .text) (k .len))
 pub record Indexed (s : List ℕ) (k : Kept) (ix : List ℕ) : Type 0 where
   pub first : k .start ≤ k .end
   pub last : k .end ≤ length s
-  pub room : length ix ≡ 8192
   pub ready : Ready (poolOf s k) ix
   pub count : k .count ≡ length (stringsOf (poolOf s k))
 
@@ -59,7 +58,7 @@ Says s ix fl mk (keep y) (Refused m) = ⊥
 Says s ix fl mk (keep y) (Keep k) = Indexed s k ix × Stands s k fl mk y
 
 pub record TookPool (s : List ℕ) (k : Kept) (a e : ℕ) (ix ix′ : List ℕ) (r : Taken) : Type 0 where
-  pub means : (fl mk : List ℕ) (y : Memory) → length ix ≡ 8192 → Stands s k fl mk y → Fresh fl mk y
+  pub means : (fl mk : List ℕ) (y : Memory) → Stands s k fl mk y → Fresh fl mk y
       → Says s ix′ fl mk (poolKept y (part s a e)) r
 
 pub record TookZone (s : List ℕ) (k : Kept) (a e : ℕ) (ix fl mk fl′ mk′ : List ℕ) (r : Taken) : Type 0 where

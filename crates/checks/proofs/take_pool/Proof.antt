@@ -14,7 +14,7 @@ returns : tie.Need-returns
 returns c = pool-refused _ _ _ _ _ _ _ (c .before .before .before .check-pool .ensures) _ (c .before .c .given .1)
 
 returns-2 : tie.Need-returns-2
-returns-2 c = pool-kept _ _ _ _ _ _ _ (c .before .before .before .check-pool .ensures) _ (c .before .c2 .given .1) (c .before .before .before .before .before .before .before .pre .0) (c .before .before .before .before .before .before .before .pre .1)
+returns-2 c = pool-kept _ _ _ _ _ _ _ (c .before .before .before .check-pool .ensures) _ (c .before .c2 .given .1) (c .before .before .before .before .before .before .before .pre .0) (c .before .before .before .before .before .before .before .pre .1) (omega (arith, room-most (part (now (c .before .before .before .before .before .before .before .args .s)) (c .before .before .before .before .before .before .before .args .a) (c .before .before .before .before .before .before .before .args .e))))
 
 pub take-pool-spec : {M : Type 1} → statement M
 take-pool-spec =

@@ -2,11 +2,13 @@
 use base::Read;
 use base::Wrote;
 ghost use mathlib.Core.Path.{_≡_};
-ghost use Prim.Native.Nat.{max, _≤_};
-ghost use lib.ListN.{length, take};
+ghost use Prim.Native.Nat.{max, _+_, _≤_, _<_};
+ghost use lib.ListN.{length, take, drop};
+ghost use lib.Dec.{ltb, leb};
 ghost use mathlib.Core.Bool.{true};
+ghost use Rattle.base.specs.Pick.{both};
 ghost use Rattle.base.specs.Writing.{bytes, wrote, placed};
-ghost use Rattle.texts.specs.Utf8.{lead as leadOf, after as afterOf, utf8};
+ghost use Rattle.texts.specs.Utf8.{lead as leadOf, chars, utf8};
 ghost use Rattle.texts.specs.Ascii.{ascii};
 ghost use Rattle.texts.specs.Text.{readText, textBytes, writeText, textForm};
 
@@ -50,45 +52,69 @@ fn lead(b: u8) -> Due
     Due::Never
 }
 
-// What is due after b, where k bytes were due, the first of them from lo to hi.
-fn after(k: u8, lo: u8, hi: u8, b: u8) -> Due
-    ensures { λ r. ⌜ r ≡ afterOf k lo hi b ⌝ }
+// Whether b is from lo to hi.
+fn within(lo: u8, hi: u8, b: u8) -> bool
+    ensures { λ r. ⌜ r ≡ both (leb lo b) (leb b hi) ⌝ }
 {
-    if k == 0 {
-        return lead(b);
-    }
     if b < lo {
-        return Due::Never;
+        return false;
     }
-    if hi < b {
-        return Due::Never;
-    }
-    Due::Follow(k - 1, 0x80, 0xbf)
+    b <= hi
 }
 
-// Whether s is UTF-8, byte by byte.
+// Whether the n bytes from a place on end a character, the first of them from lo to hi.
+fn ends(s: &[u8], at: usize, n: usize, lo: u8, hi: u8) -> bool
+    requires { ⌜ at + n ≤ length (now s) ⌝ }
+    ensures { λ r. ⌜ chars n lo hi (drop at (now (s .entry))) ≡ both r (utf8 (drop (at + n) (now (s .entry)))) ⌝ }
+{
+    let mut i: usize = 0;
+    let mut l = lo;
+    let mut h = hi;
+    while i < n {
+        if within(l, h, s[at + i]) {
+            l = 0x80;
+            h = 0xbf;
+            i += 1;
+        } else {
+            return false;
+        }
+    }
+    true
+}
+
+// How many bytes the character at a place has, 0 where none stands there.
+fn size_at(s: &[u8], at: usize) -> usize
+    requires { ⌜ at < length (now s) ⌝ }
+    ensures { λ r. ⌜ (at + r ≤ length (now (s .entry))) × (utf8 (drop at (now (s .entry))) ≡ both (ltb 0 r) (utf8 (drop (at + r) (now (s .entry))))) ⌝ }
+{
+    match lead(s[at]) {
+        Due::Never => 0,
+        Due::Follow(k, lo, hi) => {
+            let n = k as usize;
+            if s.len() - at <= n {
+                return 0;
+            }
+            if ends(s, at + 1, n, lo, hi) {
+                return n + 1;
+            }
+            0
+        }
+    }
+}
+
+// Whether s is UTF-8, character by character.
 fn scan(s: &[u8]) -> bool
     ensures { λ r. ⌜ r ≡ utf8 (now (s .entry)) ⌝ }
 {
     let mut i: usize = 0;
-    let mut k: u8 = 0;
-    let mut lo: u8 = 0x80;
-    let mut hi: u8 = 0xbf;
     while i < s.len() {
-        let d = after(k, lo, hi, s[i]);
-        match d {
-            Due::Never => {
-                return false;
-            }
-            Due::Follow(n, l, h) => {
-                k = n;
-                lo = l;
-                hi = h;
-            }
+        let n = size_at(s, i);
+        if n == 0 {
+            return false;
         }
-        i += 1;
+        i += n;
     }
-    k == 0
+    true
 }
 
 pub fn larger(a: u8, b: u8) -> u8

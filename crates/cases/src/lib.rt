@@ -1,8 +1,6 @@
 // What the programs of stored cases share: numbers that a line spells, bytes that it spells in parts, and what is written.
 use libc::STDOUT_FILENO;
-ghost use mathlib.Core.Path.{_≡_};
-ghost use Prim.Native.Nat.{_≤_, _<_};
-ghost use lib.ListN.{length};
+ghost use Prim.Native.Nat.{_<_};
 ghost use Rattle.io.specs.Counts.{Counts};
 
 pub fn say(word: &[u8]) {

@@ -1,7 +1,6 @@
 // The program's question lines and the lines that it writes (01, "One whole file"), and lines out of blocks of input.
 ghost use mathlib.Core.Path.{_≡_};
 ghost use Prim.Native.Nat.{_+_, _≤_};
-ghost use lib.IntN.{natAbs};
 ghost use lib.ListN.{length};
 ghost use lib.Seq.{sets};
 ghost use Rattle.base.specs.Writing.{bytes, wrote, placed};

@@ -3,7 +3,7 @@ ghost use mathlib.Core.Path.{_≡_};
 ghost use Prim.Native.Nat.{_≤_};
 ghost use lib.ListN.{length};
 ghost use Rattle.base.specs.Writing.{bytes, wrote, placed};
-ghost use Rattle.query.specs.Output.{replyOf, replyTo, lineOf, askedBy};
+ghost use Rattle.query.specs.Output.{replyOf, lineOf, askedBy};
 use base::Wrote;
 use lines::Gathered;
 use lines::Kind;

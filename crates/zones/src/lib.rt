@@ -7,7 +7,7 @@ use intervals::ScanRead;
 use tails::NamedTail;
 use tails::TailRead;
 ghost use mathlib.Core.Path.{_≡_};
-ghost use Prim.Native.Nat.{ℕ, _≤_};
+ghost use Prim.Native.Nat.{_≤_};
 ghost use lib.ListN.{length, drop};
 ghost use Rattle.base.specs.Moment.{Finite};
 ghost use Rattle.recurrence.specs.Tails.{TailOk};

@@ -35,7 +35,7 @@ use Rattle.checks.proofs.VersionLaws.{text-of-field}
 use Rattle.questions.specs.Question.{Pool, noPool, question, finish, ask}
 use Rattle.questions.specs.declared.Mark.{Mark}
 use Rattle.questions.specs.declared.Found.{Found}
-use Rattle.questions.proofs.AskLaws.{instant-finite}
+use Rattle.signed.proofs.IntegerLaws.{instant-finite}
 use Rattle.demands.proofs.Names.{name-inside}
 use Rattle.capi.specs.Small.{SmallAnswer, SmallVersion, SmallRead, SmallNumber, SmallText}
 

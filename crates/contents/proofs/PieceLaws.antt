@@ -92,7 +92,7 @@ short-end s n place h d =
     end-details s place n _ h (on (d .name) parseWall _ _ _ refl (on (d .wall) (λ w q. parse readSum q) _ _ _ refl (d .savings)))
 
 module _ (s : List ℕ) (prev place m : ℕ) where
-  pub short-some : (n : ℕ) → (n ≡ 0 → ⊥) → ShortAt s place prev m → ShortPiece s n prev place m
+  pub short-some : (n : ℕ) → (n ≡ 0 → ⊥) → ShortAt s place 2 prev m → ShortPiece s n prev place m
   short-some n h x =
       let five : place + 2 + 3 ≡ place + 5 = omega arith in
       record {

@@ -57,7 +57,7 @@ fn short_piece(s: &[u8], at: usize, prev: u64, n: u64) -> u64
     ensures { λ r. ⌜ ShortPiece (now (s .entry)) n prev at r ⌝ }
 {
     if 0 < n {
-        return places::short_at(s, at, prev);
+        return places::short_at(s, at, 2, prev);
     }
     0
 }

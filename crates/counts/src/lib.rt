@@ -134,7 +134,7 @@ pub fn write_signed_count(v: i64, out: &mut [u8]) -> Wrote
 }
 
 // The number of the first `n` bytes of `s`, high first, behind the bits of `high`.
-fn fixed_from(s: &[u8], n: usize, high: u64) -> u64
+pub fn fixed_from(s: &[u8], n: usize, high: u64) -> u64
     requires { ⌜ (n ≤ length (now s)) × ((high + 1) * 256 ^ n ≤ 2 ^ 64) ⌝ }
     ensures { λ r. ⌜ r ≡ fixedFrom n high (now (s .entry)) ⌝ }
 {

@@ -30,7 +30,7 @@ use Rattle.base.proofs.AllLaws.{all-head, all-tail}
 use Rattle.frames.proofs.ChainLaws.{listing-chain, chain-fields}
 use Rattle.frames.proofs.WalkLaws.{walk-pass}
 use Rattle.questions.specs.Question.{Pool, noPool, answered, poolSays, zoneSays, says, question, finish, ask, nameOf}
-use Rattle.questions.proofs.AskLaws.{instant-finite}
+use Rattle.signed.proofs.IntegerLaws.{instant-finite}
 use Rattle.questions.specs.declared.Mark.the-variants.{More}
 use Rattle.questions.specs.declared.Found.{Found}
 use Rattle.questions.specs.declared.Answer.the-variants.{In, Refused}

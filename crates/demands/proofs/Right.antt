@@ -32,7 +32,7 @@ use Rattle.frames.proofs.PassLaws.{pass-first, pass-head, lockstep}
 use Rattle.frames.proofs.PartLaws.{walk-ended, walk-answer}
 use Rattle.questions.specs.Question.{Pool, noPool, answered, says, question, finish, nameOf}
 use Rattle.questions.specs.declared.Mark.the-variants.{All as Whole}
-use Rattle.questions.proofs.AskLaws.{instant-finite}
+use Rattle.signed.proofs.IntegerLaws.{instant-finite}
 use Rattle.checks.specs.Check.{Memory, start, job, contentOf, WellFormed, filePool, HasId}
 use Rattle.checks.proofs.ZoneIdLaws.{one-zone, each-zone}
 use Rattle.demands.specs.Zones.{InRange, ZoneIn, Asked}

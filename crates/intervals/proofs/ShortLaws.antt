@@ -1,4 +1,4 @@
--- An interval in five bytes. Assumes nothing.
+-- An interval whose codes behind its start take a byte each. Assumes nothing.
 use mathlib.Core.Path.{_≡_, refl}
 use mathlib.Core.Bool.{true}
 use mathlib.Core.List.{List}
@@ -15,35 +15,33 @@ use Rattle.places.proofs.PlaceLaws.{on, here, stands-if, name-in}
 use Rattle.intervals.specs.Interval.{intervalOf, afterWall, afterName, parseDetails, rises, afterStart, parseInterval}
 use Rattle.intervals.specs.Short.{shortInterval, ShortStart}
 
-module _ (s : List ℕ) (pool place prev m : ℕ) where
-  later : Short s place prev m → rises prev m ≡ true
+module _ (s : List ℕ) (pool place n prev m : ℕ) where
+  later : Short s place n prev m → rises prev m ≡ true
   later h = rw (ne-eqb prev endOfTime (λ e. omega (arith, h .previous .high)), lt-ltb prev m (h .rises), lt-ltb m endOfTime (omega (arith, h .instant .high)))
 
-  interval-at : Short s place prev m → getD s (place + 2) 0 < pool
-      → Stands s (parseInterval pool prev (drop place s)) (at (shortInterval s place m) (place + 5))
+  interval-at : Short s place n prev m → getD s (place + n) 0 < pool
+      → Stands s (parseInterval pool prev (drop place s)) (at (shortInterval s (place + n) m) (place + (n + 3)))
   unfolding parseInterval afterStart parseDetails parseName afterName afterWall
   interval-at h l =
-      let three : place + 2 + 1 ≡ place + 3 = omega arith in
-      let four : place + 2 + 2 ≡ place + 4 = omega arith in
-      let five : place + 2 + 3 ≡ place + 5 = omega arith in
+      let e : place + n + 3 ≡ place + (n + 3) = omega arith in
       let d = h .details in
-      rw (three, four, five) at
-      (on (h .moment) (afterStart pool prev) m (place + 2) _ refl
+      rw e at
+      (on (h .moment) (afterStart pool prev) m (place + n) _ refl
       (stands-if s (rises prev m) _ (bad 10) _ (later h)
       (on (on (d .name) (judgeName pool) _ _ _ refl (name-in s pool _ _ l (d .name .within))) (afterName m) _ _ _ refl
       (on (d .wall) (afterWall m _) _ _ _ refl
       (on (d .savings) (intervalOf m _ _) _ _ _ refl
       (here s _ _ _ refl (d .savings .within)))))))
 
-  pub short-some : ShortAt s place prev m → (m ≡ 0 → ⊥) → getD s (place + 2) 0 < pool → ShortStart s pool place prev m
-  short-some h n l = record { means = λ z. interval-at (h .means n) l }
+  pub short-some : ShortAt s place n prev m → (m ≡ 0 → ⊥) → getD s (place + n) 0 < pool → ShortStart s pool place n prev m
+  short-some h z l = record { means = λ z. interval-at (h .means z) l }
 
-  pub short-room : ShortAt s place prev m → (m ≡ 0 → ⊥) → place + 5 ≤ length s
-  short-room h n = omega (arith, h .means n .details .savings .within)
+  pub short-room : ShortAt s place n prev m → (m ≡ 0 → ⊥) → place + n + 3 ≤ length s
+  short-room h z = h .means z .details .savings .within
 
-pub short-none : (s : List ℕ) (pool place prev : ℕ) → ShortStart s pool place prev 0
-short-none s pool place prev = record { means = λ n. absurd (n refl) }
+  -- where one stands, the code has room to look at it
+  pub start-room : ShortStart s pool place n prev m → (m ≡ 0 → ⊥) → place + (n + 3) ≤ length s
+  start-room h z = h .means z .within
 
--- where one stands, the code has room to look at it
-pub start-room : (s : List ℕ) (pool place prev m : ℕ) → ShortStart s pool place prev m → (m ≡ 0 → ⊥) → place + 5 ≤ length s
-start-room s pool place prev m h n = h .means n .within
+pub short-none : (s : List ℕ) (pool place n prev : ℕ) → ShortStart s pool place n prev 0
+short-none s pool place n prev = record { means = λ z. absurd (z refl) }

@@ -76,7 +76,7 @@ fn read_details(s: &[u8], at: usize, pool: u64, m: u64) -> IntervalRead
     }
 }
 
-pub fn read_interval(s: &[u8], at: usize, pool: u64, prev: u64) -> IntervalRead
+fn read_any_interval(s: &[u8], at: usize, pool: u64, prev: u64) -> IntervalRead
     requires { ⌜ at ≤ length (now s) ⌝ }
     ensures { λ r. ⌜ Stands (now (s .entry)) (parseInterval pool prev (drop at (now (s .entry)))) (ofInterval r) ⌝ }
 {
@@ -89,6 +89,50 @@ pub fn read_interval(s: &[u8], at: usize, pool: u64, prev: u64) -> IntervalRead
             IntervalRead::Refused(10)
         }
     }
+}
+
+// The start of an interval whose start takes n bytes and whose other codes take one each, or 0 where other codes stand there.
+fn short_start(s: &[u8], at: usize, n: usize, pool: u64, prev: u64) -> u64
+    requires { ⌜ (at ≤ length (now s)) × (n ≤ 9) ⌝ }
+    ensures { λ r. ⌜ ShortStart (now (s .entry)) pool at n prev r ⌝ }
+{
+    let m = places::short_at(s, at, n, prev);
+    if m == 0 {
+        return 0;
+    }
+    if (s[at + n] as u64) < pool {
+        return m;
+    }
+    0
+}
+
+// An interval with the start m and the codes of a byte each at a place.
+fn short_interval(s: &[u8], at: usize, m: u64) -> Interval
+    requires { ⌜ at + 3 ≤ length (now s) ⌝ }
+    ensures { λ r. ⌜ r ≡ shortInterval (now (s .entry)) at m ⌝ }
+{
+    Interval {
+        start: m,
+        name: s[at] as u64,
+        wall: s[at + 1] as u64 * 1800000,
+        savings: s[at + 2] as u64 * 1800000,
+    }
+}
+
+// The same. One of twelve bytes, with its start in ticks, takes no call; its first byte tells, so that no other loses time on it.
+pub fn read_interval(s: &[u8], at: usize, pool: u64, prev: u64) -> IntervalRead
+    requires { ⌜ at ≤ length (now s) ⌝ }
+    ensures { λ r. ⌜ Stands (now (s .entry)) (parseInterval pool prev (drop at (now (s .entry)))) (ofInterval r) ⌝ }
+{
+    if at < s.len() {
+        if s[at] == 2 {
+            let m = short_start(s, at, 9, pool, prev);
+            if m != 0 {
+                return IntervalRead::Got(short_interval(s, at + 9, m), at + 12);
+            }
+        }
+    }
+    read_any_interval(s, at, pool, prev)
 }
 
 fn advance(t: u64, c: Scan, i: Interval) -> Scan
@@ -111,33 +155,6 @@ fn advance(t: u64, c: Scan, i: Interval) -> Scan
     }
 }
 
-// The start of an interval in five bytes, or 0 where other codes stand there.
-fn short_start(s: &[u8], at: usize, pool: u64, prev: u64) -> u64
-    requires { ⌜ at ≤ length (now s) ⌝ }
-    ensures { λ r. ⌜ ShortStart (now (s .entry)) pool at prev r ⌝ }
-{
-    let m = places::short_at(s, at, prev);
-    if m == 0 {
-        return 0;
-    }
-    if (s[at + 2] as u64) < pool {
-        return m;
-    }
-    0
-}
-
-fn short_interval(s: &[u8], at: usize, m: u64) -> Interval
-    requires { ⌜ at + 5 ≤ length (now s) ⌝ }
-    ensures { λ r. ⌜ r ≡ shortInterval (now (s .entry)) at m ⌝ }
-{
-    Interval {
-        start: m,
-        name: s[at + 2] as u64,
-        wall: s[at + 3] as u64 * 1800000,
-        savings: s[at + 4] as u64 * 1800000,
-    }
-}
-
 // n intervals from the place at on. One of five bytes, the usual one, takes no call.
 pub fn read_intervals(s: &[u8], at: usize, pool: u64, n: u64, t: u64) -> ScanRead
     requires { ⌜ at ≤ length (now s) ⌝ }
@@ -156,9 +173,9 @@ pub fn read_intervals(s: &[u8], at: usize, pool: u64, n: u64, t: u64) -> ScanRea
         last: END,
     };
     while 0 < left {
-        let m = short_start(s, place, pool, c.last);
+        let m = short_start(s, place, 2, pool, c.last);
         if m != 0 {
-            let i = short_interval(s, place, m);
+            let i = short_interval(s, place + 2, m);
             left -= 1;
             place += 5;
             c = advance(t, c, i);

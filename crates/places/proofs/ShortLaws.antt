@@ -1,16 +1,17 @@
 -- The short ways: codes of one and two bytes at a place, and an interval of them. Assumes nothing.
 use mathlib.Core.Path.{_≡_, refl, sym, _∙_}
 use mathlib.Core.List.{List}
-use Prim.Native.Nat.{ℕ, suc, _+_, _*_, _%_, _≤_, _<_}
+use Prim.Native.Nat.{ℕ, suc, _+_, _-_, _*_, _%_, _≤_, _<_}
 use native.Mathlib.Omega.{arith}
 use native.Mathlib.Numerals.{add-one}
 use native.Mathlib.Nat.{mod-eq-of-lt}
-use lib.ListN.{length, drop, getD, drop-of-length-le}
+use lib.ListN.{length, take, drop, getD, drop-of-length-le}
 use lib.Seq.{drop-drop, drop-cons}
 use borrow.Author.Tests.{lt-ltb, le-ltb, ne-eqb}
 use Rattle.base.specs.Parsed.{parse}
 use Rattle.base.specs.declared.Read.{Read}
 use Rattle.base.specs.declared.Read.the-variants.{Value, Refused}
+use Rattle.base.proofs.Parts.{part-from}
 use Rattle.base.proofs.MomentLaws.{finite-yes}
 use Rattle.counts.specs.Groups.{readGroups}
 use Rattle.counts.specs.Count.{readCount}
@@ -18,8 +19,9 @@ use Rattle.counts.proofs.CountLaws.{byte-count}
 use Rattle.offsets.specs.Offset.{readSum}
 use Rattle.offsets.proofs.OffsetLaws.{fine-of}
 use Rattle.transitions.specs.Transition.{fromCount, readMoment}
+use Rattle.transitions.specs.Later.{Later}
 use Rattle.places.specs.Placed.{at, no, Stands}
-use Rattle.places.specs.Short.{TwoBytes, HoursAfter, HalfHours, ShortDetails, ShortAt}
+use Rattle.places.specs.Short.{HoursAfter, HalfHours, ShortDetails, ShortAt}
 
 -- what reads at a place stands there
 pub reads : (read : List ℕ → Read) (s : List ℕ) (place v n : ℕ) → read (drop place s) ≡ Value v n → place + n ≤ length s
@@ -49,27 +51,20 @@ module _ (s : List ℕ) (place : ℕ) where
         rw (drop-cons s place 0 h, lt-ltb (getD s place 0) 128 (omega arith))
         (fine-of 1 172800000 (getD s place 0 * 1800000) (record { least = omega arith; most = omega arith; fine = λ e. omega (arith, sym (mod-eq-of-lt {n = getD s place 0 * 1800000} {m = 172800000} (omega arith)) ∙ e) }))
 
-  pub two-bytes : place + 2 ≤ length s → 128 ≤ getD s place 0 → getD s (place + 1) 0 < 128
-      → TwoBytes s place (getD s place 0 % 128 + 128 * getD s (place + 1) 0)
+  pub two-bytes : place + 2 ≤ length s → 128 ≤ getD s place 0 → getD s (place + 1) 0 < 128 → 128 ≤ getD s place 0 % 128 + 128 * getD s (place + 1) 0
+      → readCount (drop place s) ≡ Value (getD s place 0 % 128 + 128 * getD s (place + 1) 0) 2
   unfolding readGroups
-  two-bytes h l m = record { room = λ k. h; count = count }
-    where
-      count : 128 ≤ getD s place 0 % 128 + 128 * getD s (place + 1) 0
-          → readCount (drop place s) ≡ Value (getD s place 0 % 128 + 128 * getD s (place + 1) 0) 2
-      count k =
-          let n : getD s (suc place) 0 < 128 = rw (add-one place) at m in
-          let o : getD s (suc place) 0 ≡ 0 → ⊥ = λ e. omega (arith, rw (add-one place) at k) in
-          rw (
-            drop-cons s place 0 (omega arith),
-            le-ltb (getD s place 0) 128 l,
-            add-one place,
-            drop-cons s (suc place) 0 (omega arith),
-            lt-ltb (getD s (suc place) 0) 128 n,
-            ne-eqb (getD s (suc place) 0) 0 o,
-          )
-
-pub no-two-bytes : (s : List ℕ) (place : ℕ) → TwoBytes s place 0
-no-two-bytes s place = record { room = λ k. absurd (omega arith); count = λ k. absurd (omega arith) }
+  two-bytes h l m k =
+      let n : getD s (suc place) 0 < 128 = rw (add-one place) at m in
+      let o : getD s (suc place) 0 ≡ 0 → ⊥ = λ e. omega (arith, rw (add-one place) at k) in
+      rw (
+        drop-cons s place 0 (omega arith),
+        le-ltb (getD s place 0) 128 l,
+        add-one place,
+        drop-cons s (suc place) 0 (omega arith),
+        lt-ltb (getD s (suc place) 0) 128 n,
+        ne-eqb (getD s (suc place) 0) 0 o,
+      )
 
 hours-from : (prev v t : ℕ) → HoursAfter prev v t → 0 < t → fromCount prev v 2 ≡ Value t 2
 unfolding fromCount
@@ -86,12 +81,20 @@ hours-from prev v t h n =
       finite-yes t (h .instant n),
     )
 
-hours-read : (prev : ℕ) (s : List ℕ) (place v t : ℕ) → TwoBytes s place v → HoursAfter prev v t → 0 < t
-    → readMoment prev (drop place s) ≡ Value t 2
+-- in two bytes, and in nine
+pub hours-later : (prev : ℕ) (s : List ℕ) (n v t : ℕ) → n ≡ 2 → (128 ≤ v → readCount s ≡ Value v 2) → HoursAfter prev v t → Later prev s n t
 unfolding readMoment
-hours-read prev s place v t w h n =
-    let l : 128 ≤ v = h .low n in
-    rw (w .count l, ne-eqb v 2 (λ e. omega arith)) (hours-from prev v t h n)
+hours-later prev s n v t e w h =
+    rw e
+    (record {
+      previous = h .previous;
+      rises = λ l. omega (arith, h .low l, h .sum l);
+      instant = h .instant;
+      moment = λ l. rw (w (h .low l), ne-eqb v 2 (λ e. omega (arith, h .low l))) (hours-from prev v t h l);
+    })
+
+pub ticks-at : (prev : ℕ) (s : List ℕ) (place n t : ℕ) → n ≡ 9 → Later prev (take (length s - place) (drop place s)) 9 t → Later prev (drop place s) n t
+ticks-at prev s place n t e h = rw e (rw (part-from place s) at h)
 
 -- an offset of half hours at a place
 half-hours-at : (s : List ℕ) (place : ℕ) → place < length s → HalfHours (getD s place 0)
@@ -109,20 +112,20 @@ details-at s place l n w v =
       savings = rw (← three) (half-hours-at s (place + 2) (omega arith) v);
     }
 
--- behind a transition of two bytes, which is hours after the previous one
-pub short-is : (s : List ℕ) (place prev v t : ℕ) → TwoBytes s place v → HoursAfter prev v t → ShortDetails s (place + 2) → ShortAt s place prev t
-short-is s place prev v t w h d =
+-- behind an instant after prev
+pub short-is : (s : List ℕ) (place n prev t : ℕ) → Later prev (drop place s) n t → ShortDetails s (place + n) → ShortAt s place n prev t
+short-is s place n prev t h d =
     record {
-      means = λ n.
+      means = λ z.
           let l : 0 < t = omega arith in
           record {
             previous = h .previous l;
-            rises = omega (arith, h .low l, h .sum l);
+            rises = h .rises l;
             instant = h .instant l;
-            moment = reads (readMoment prev) s place t 2 (hours-read prev s place v t w h l) (w .room (h .low l));
+            moment = reads (readMoment prev) s place t n (h .moment l) (omega (arith, d .savings .within));
             details = d;
           };
     }
 
-pub not-short : (s : List ℕ) (place prev : ℕ) → ShortAt s place prev 0
-not-short s place prev = record { means = λ n. absurd (n refl) }
+pub not-short : (s : List ℕ) (place n prev : ℕ) → ShortAt s place n prev 0
+not-short s place n prev = record { means = λ z. absurd (z refl) }

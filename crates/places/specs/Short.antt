@@ -2,19 +2,13 @@
 use Prim.Native.Nat.{ℕ, _+_, _*_, _≤_, _<_}
 use mathlib.Core.Path.{_≡_}
 use mathlib.Core.List.{List}
-use lib.ListN.{length, drop, getD}
+use lib.ListN.{drop, getD}
 use Rattle.base.specs.Moment.{Finite}
 use Rattle.base.specs.Parsed.{parse}
-use Rattle.base.specs.declared.Read.the-variants.{Value}
 use Rattle.counts.specs.Count.{readCount}
 use Rattle.offsets.specs.Offset.{readSum}
 use Rattle.transitions.specs.Transition.{hour, readMoment}
 use Rattle.places.specs.Placed.{at, Stands}
-
--- v from 128 on is the count of two bytes at a place
-pub record TwoBytes (s : List ℕ) (place v : ℕ) : Type 0 where
-  pub room : 128 ≤ v → place + 2 ≤ length s
-  pub count : 128 ≤ v → readCount (drop place s) ≡ Value v 2
 
 -- t, where it is not 0, is the instant v hours after the instant prev
 pub record HoursAfter (prev v t : ℕ) : Type 0 where
@@ -35,14 +29,14 @@ pub record ShortDetails (s : List ℕ) (place : ℕ) : Type 0 where
   pub wall : Stands s (parse readSum (drop (place + 1) s)) (at (getD s (place + 1) 0 * 1800000) (place + 2))
   pub savings : Stands s (parse readSum (drop (place + 2) s)) (at (getD s (place + 2) 0 * 1800000) (place + 3))
 
--- they stand behind the instant m, which is hours after the instant prev, in two bytes
-pub record Short (s : List ℕ) (place prev m : ℕ) : Type 0 where
+-- they stand behind the instant m, which is after the instant prev and takes n bytes
+pub record Short (s : List ℕ) (place n prev m : ℕ) : Type 0 where
   pub previous : Finite prev
   pub rises : prev < m
   pub instant : Finite m
-  pub moment : Stands s (parse (readMoment prev) (drop place s)) (at m (place + 2))
-  pub details : ShortDetails s (place + 2)
+  pub moment : Stands s (parse (readMoment prev) (drop place s)) (at m (place + n))
+  pub details : ShortDetails s (place + n)
 
 -- so it is where m is not 0
-pub record ShortAt (s : List ℕ) (place prev m : ℕ) : Type 0 where
-  pub means : (m ≡ 0 → ⊥) → Short s place prev m
+pub record ShortAt (s : List ℕ) (place n prev m : ℕ) : Type 0 where
+  pub means : (m ≡ 0 → ⊥) → Short s place n prev m

@@ -5,12 +5,14 @@ ghost use mathlib.Core.Path.{_≡_};
 ghost use mathlib.Core.Bool.{true};
 ghost use lib.ListN.{length, drop};
 ghost use Rattle.base.specs.Parsed.{parse, parseByte};
+ghost use Rattle.base.specs.declared.Read.the-variants.{Value};
 ghost use Rattle.counts.specs.Count.{readCount};
 ghost use Rattle.offsets.specs.Offset.{readSum};
 ghost use Rattle.transitions.specs.Transition.{readMoment};
+ghost use Rattle.transitions.specs.Later.{Later};
 ghost use Rattle.places.specs.Placed.{Stands, ofRead};
 ghost use Rattle.places.specs.Name.{readZigzag, parseName};
-ghost use Rattle.places.specs.Short.{TwoBytes, HoursAfter, HalfHours, ShortDetails, ShortAt};
+ghost use Rattle.places.specs.Short.{HoursAfter, HalfHours, ShortDetails, ShortAt};
 
 const FIRST: u64 = 126227808000000000;
 
@@ -105,7 +107,7 @@ pub fn moment_at(s: &[u8], at: usize, prev: u64) -> Read
 // The count of two bytes at a place, 0 where there is none.
 fn two_bytes_at(s: &[u8], at: usize) -> u64
     requires { ⌜ at ≤ length (now s) ⌝ }
-    ensures { λ r. ⌜ TwoBytes (now (s .entry)) at r ⌝ }
+    ensures { λ r. ⌜ (128 ≤ r → readCount (drop at (now (s .entry))) ≡ Value r 2) ⌝ }
 {
     if s.len() - at < 2 {
         return 0;
@@ -168,18 +170,32 @@ pub fn short_details(s: &[u8], at: usize) -> bool
     false
 }
 
-// The start of an interval in five bytes, the usual one: two of hours after prev, and one each of name, wall offset and savings. 0 where
-// other codes stand there.
-pub fn short_at(s: &[u8], at: usize, prev: u64) -> u64
-    requires { ⌜ at ≤ length (now s) ⌝ }
-    ensures { λ r. ⌜ ShortAt (now (s .entry)) at prev r ⌝ }
+// The instant after prev at a place, in two bytes of hours or in nine of ticks; 0 where no such stands there.
+fn instant_after(s: &[u8], at: usize, n: usize, prev: u64) -> u64
+    requires { ⌜ at + n ≤ length (now s) ⌝ }
+    ensures { λ r. ⌜ Later prev (drop at (now (s .entry))) n r ⌝ }
 {
-    if s.len() - at < 5 {
-        return 0;
-    }
-    if short_details(s, at + 2) {
+    if n == 2 {
         let v = two_bytes_at(s, at);
         return hours_after(prev, v);
+    }
+    if n == 9 {
+        return transitions::ticks_after(prev, &s[at..]);
+    }
+    0
+}
+
+// The start of an interval whose start takes n bytes, as instant_after has it, and whose name, wall offset and savings take one each, as is
+// usual. 0 where other codes stand there.
+pub fn short_at(s: &[u8], at: usize, n: usize, prev: u64) -> u64
+    requires { ⌜ (at ≤ length (now s)) × (n ≤ 9) ⌝ }
+    ensures { λ r. ⌜ ShortAt (now (s .entry)) at n prev r ⌝ }
+{
+    if s.len() - at < n + 3 {
+        return 0;
+    }
+    if short_details(s, at + n) {
+        return instant_after(s, at, n, prev);
     }
     0
 }

@@ -1,15 +1,12 @@
 -- The question, by the walk's outcome and the mark. Assumes nothing.
-use mathlib.Core.Path.{_≡_, refl, sym, ap, _∙_, subst⁻¹}
-use mathlib.Core.Logic.{_⊎_, inl, inr}
+use mathlib.Core.Path.{_≡_, refl, sym, ap, _∙_}
 use mathlib.Core.List.{List, []}
 use Prim.Native.Nat.{ℕ, _+_, _-_, _≤_, _<_}
 use native.Mathlib.Omega.{arith}
 use lib.IntN.{ℤ}
 use lib.ListN.{length, take, drop}
 use borrow.Author.Tests.{eq-eqb, ne-eqb, le-leb, lt-leb}
-use Rattle.base.specs.Moment.{Finite}
 use Rattle.signed.specs.Instant.{instantOf}
-use Rattle.signed.proofs.IntegerLaws.{finite-or-none}
 use Rattle.frames.specs.Machine.{Out, found, refused, cut, ended, walk}
 use Rattle.questions.specs.Question.{Pool, noPool, question, finish, ask, nameOf}
 use Rattle.questions.specs.View.{outcomeOf, answerOf}
@@ -46,11 +43,3 @@ module _ (bs : List ℕ) (x : Found) where
   name-in h =
       let e : x .name + x .length - x .name ≡ x .length = omega arith in
       rw (le-leb (x .name + x .length) (length bs) h, e)
-
--- what is not 0 is an instant
-pub instant-finite : (t : ℕ) (z : ℤ) → t ≡ instantOf z → (t ≡ 0 → ⊥) → Finite t
-instant-finite t z e h = go (finite-or-none z)
-  where
-    go : (instantOf z ≡ 0) ⊎ Finite (instantOf z) → Finite t
-    go (inl k) = absurd (h (e ∙ k))
-    go (inr f) = subst⁻¹ Finite e f

@@ -1,5 +1,5 @@
 -- All of the integers' arithmetic, by cases on the sign. Assumes nothing.
-use mathlib.Core.Path.{_≡_, refl, ap, _∙_}
+use mathlib.Core.Path.{_≡_, refl, ap, _∙_, subst⁻¹}
 use mathlib.Core.Bool.{Bool, true, false}
 use mathlib.Core.Logic.{_⊎_, inl, inr}
 use Prim.Native.Nat.{ℕ, zero, suc, _+_, _-_, _*_, _/_, _%_, _^_, _≤_, _<_}
@@ -117,12 +117,20 @@ instant-ticks b h =
     rw (ne-eqb b 0 (omega arith), lt-ltb b endOfTime (omega arith))
     (biased-back epoch 621355967999999999 2534023007999999999 (omega arith) b (omega arith) (omega arith))
 
-pub finite-or-none : (t : ℤ) → (instantOf t ≡ 0) ⊎ Finite (instantOf t)
+finite-or-none : (t : ℤ) → (instantOf t ≡ 0) ⊎ Finite (instantOf t)
 finite-or-none t = go (biased-range epoch 621355967999999999 2534023007999999999 (omega arith) t)
   where
     go : (instantOf t ≡ 0) ⊎ InRange epoch 621355967999999999 2534023007999999999 (instantOf t) → (instantOf t ≡ 0) ⊎ Finite (instantOf t)
     go (inl e) = inl e
     go (inr r) = inr (record { low = omega arith; high = omega arith })
+
+-- what is not 0 is an instant
+pub instant-finite : (t : ℕ) (z : ℤ) → t ≡ instantOf z → (t ≡ 0 → ⊥) → Finite t
+instant-finite t z e h = go (finite-or-none z)
+  where
+    go : (instantOf z ≡ 0) ⊎ Finite (instantOf z) → Finite t
+    go (inl k) = absurd (h (e ∙ k))
+    go (inr f) = subst⁻¹ Finite e f
 
 pub ticks-instant : (t : ℤ) → Finite (instantOf t) → ticksOf (instantOf t) ≡ t
 ticks-instant t h =

@@ -1,6 +1,6 @@
 -- Laws of the transition code's reader, over moments: its ways out, what a moment that reads is, the counts that name an instant,
 -- that a moment that was written is read back, and that its written form is shorter than any other. Assumes nothing.
-use mathlib.Core.Path.{_≡_, refl, ap, sym, _∙_, subst⁻¹}
+use mathlib.Core.Path.{_≡_, refl, ap, sym, _∙_, subst, subst⁻¹}
 use mathlib.Core.List.{List, [], _∷_, _++_}
 use mathlib.Core.Bool.{Bool, true, false}
 use mathlib.Core.Logic.{_⊎_, inl, inr}
@@ -8,7 +8,7 @@ use Prim.Native.Nat.{ℕ, _+_, _*_, _-_, _/_, _%_, _≤_, _<_}
 use native.Mathlib.Omega.{arith}
 use native.Mathlib.Nat.{div-add-mod', mul-div-cancel, mul-mod-left}
 use lib.Dec.{ltb, leb, eqb}
-use lib.ListN.{length, take, drop, length-drop}
+use lib.ListN.{length, take, drop, getD, length-drop}
 use lib.Seq.{drop-drop}
 use mir.Syntax.{w64}
 use mir.Val.{toZ}
@@ -25,10 +25,11 @@ use Rattle.counts.specs.Groups.{readGroups, writeGroups}
 use Rattle.counts.specs.Count.{readCount, writeCount}
 use Rattle.counts.specs.Fixed.{fixedFrom, readFixed, fixedBytes}
 use Rattle.counts.proofs.GroupWriteLaws.{write-most, write-least}
-use Rattle.counts.proofs.CountLaws.{Counted, counted, count-written, count-form, count-size, count-bytes}
+use Rattle.counts.proofs.CountLaws.{byte-count, Counted, counted, count-written, count-form, count-size, count-bytes}
 use Rattle.counts.proofs.FixedLaws.{fixed-between, fixed-form, length-fixed, fixed-bytes, read-fixed-written}
 use Rattle.signed.specs.Instant.{fromRaw, rawOf}
-use Rattle.signed.proofs.IntegerLaws.{finite-or-none, raw-fits, instant-raw, raw-instant}
+use Rattle.signed.proofs.IntegerLaws.{instant-finite, raw-fits, instant-raw, raw-instant}
+use Rattle.transitions.specs.Later.{Later}
 use Rattle.transitions.specs.Transition.{hour, minute, year1800, inRange, hoursAfter, fromCount, fromTicks, afterCount, readMoment, unitsTo, hoursTo, minutesTo, countTo, writeMoment}
 
 -- ways out of the reader
@@ -51,11 +52,32 @@ pub ticks-none : (n raw t : ℕ) → t ≡ fromRaw raw → t ≡ 0 → Refused 7
 ticks-none n raw t e z = let q : fromRaw raw ≡ 0 = sym e ∙ z in rw q
 
 pub ticks-some : (n raw t : ℕ) → t ≡ fromRaw raw → (t ≡ 0 → ⊥) → Value t n ≡ inRange n (fromRaw raw)
-ticks-some n raw t e z = go (finite-or-none (toZ w64 raw))
-  where
-    go : (fromRaw raw ≡ 0) ⊎ Finite (fromRaw raw) → Value t n ≡ inRange n (fromRaw raw)
-    go (inl q) = absurd (z (e ∙ q))
-    go (inr f) = ap (λ (x : ℕ). Value x n) e ∙ range-in n (fromRaw raw) f
+ticks-some n raw t e z = ap (λ (x : ℕ). Value x n) e ∙ range-in n (fromRaw raw) (subst Finite e (instant-finite t (toZ w64 raw) e z))
+
+-- where the count is 2 and eight bytes follow
+module _ (prev : ℕ) (s : List ℕ) where
+  ticks-read : (t : ℕ) → 9 ≤ length s → getD s 0 0 ≡ 2 → t ≡ fromRaw (fixedFrom 8 0 (drop 1 s)) → (t ≡ 0 → ⊥) → readMoment prev s ≡ Value t 9
+  unfolding readMoment
+  ticks-read t l e f z =
+      rw (byte-count s 0 (omega arith) (omega arith), e, le-leb 8 (length (drop 1 s)) (rw length-drop (omega arith)))
+      (sym (ticks-some 9 (fixedFrom 8 0 (drop 1 s)) t f z))
+
+  pub ticks-later : (raw t : ℕ) → 9 ≤ length s → getD s 0 0 ≡ 2 → firstInstant ≤ prev → raw ≡ fixedFrom 8 0 (take (length s - 1) (drop 1 s)) → t ≡ fromRaw raw
+      → prev < t → Later prev s 9 t
+  ticks-later raw t l e p g u h =
+      let f : t ≡ fromRaw (fixedFrom 8 0 (drop 1 s)) = u ∙ ap fromRaw (rw (part-from 1 s) at g) in
+      let n : t ≡ 0 → ⊥ = λ z. omega arith in
+      let i : Finite t = instant-finite t _ f n in
+      record {
+        previous = λ z. record { low = p; high = omega (arith, i .high) };
+        rises = λ z. h;
+        instant = λ z. i;
+        moment = λ z. ticks-read t l e f n;
+      }
+
+  pub not-later : (n : ℕ) → Later prev s n 0
+  not-later n =
+      record { previous = λ z. absurd (omega arith); rises = λ z. absurd (omega arith); instant = λ z. absurd (omega arith); moment = λ z. absurd (omega arith) }
 
 pub by-start : (p v n : ℕ) → v ≡ 0 → Value startOfTime n ≡ fromCount p v n
 unfolding fromCount

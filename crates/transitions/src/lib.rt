@@ -9,6 +9,7 @@ ghost use lib.ListN.{length};
 ghost use Rattle.base.specs.Moment.{firstInstant};
 ghost use Rattle.base.specs.Writing.{bytes, wrote, placed};
 ghost use Rattle.counts.specs.Fixed.{readFixed, fixedBytes};
+ghost use Rattle.transitions.specs.Later.{Later};
 ghost use Rattle.transitions.specs.Transition.{inRange, hoursAfter, fromCount, fromTicks, readMoment, unitsTo, hoursTo, countTo, writeMoment, momentForm, readTransition, transitionForm};
 
 const FIRST: u64 = 126227808000000000;
@@ -98,6 +99,27 @@ pub fn read_moment(previous: u64, s: &[u8]) -> Read
         }
         Read::Refused(k) => Read::Refused(k),
     }
+}
+
+// The instant in ticks at the front of `s`, where it is after the instant `previous`; else 0.
+pub fn ticks_after(previous: u64, s: &[u8]) -> u64
+    ensures { λ r. ⌜ Later previous (now (s .entry)) 9 r ⌝ }
+{
+    if s.len() < 9 {
+        return 0;
+    }
+    if s[0] != 2 {
+        return 0;
+    }
+    if previous < FIRST {
+        return 0;
+    }
+    let raw = counts::fixed_from(&s[1..], 8, 0);
+    let t = signed::from_raw(raw);
+    if previous < t {
+        return t;
+    }
+    0
 }
 
 // The transition at the front of `s`, in ticks since 1970: the least number for start of time, the largest for end of time.

@@ -18,16 +18,16 @@ loop-holds : tie.Need-loop-holds Inv-loop μ-loop
 loop-holds c = scanning-start _ _ _ _ _ (c .before .pre)
 
 short-start-requires : tie.Need-short-start-requires Inv-loop μ-loop
-short-start-requires c κs = scanning-in _ _ _ _ _ _ _ _ (c .before .loop .inv)
+short-start-requires c κs = (scanning-in _ _ _ _ _ _ _ _ (c .before .loop .inv), omega arith)
 
 short-interval-requires : tie.Need-short-interval-requires Inv-loop μ-loop
-short-interval-requires c κs = start-room _ _ _ _ _ (c .before .short-start .ensures) (c .if1 .taken)
+short-interval-requires c κs = omega (arith, start-room _ _ _ _ _ _ (c .before .short-start .ensures) (c .if1 .taken))
 
 sub-left : tie.Need-sub-left Inv-loop μ-loop
 sub-left c = omega arith
 
 add-place : tie.Need-add-place Inv-loop μ-loop
-add-place c = omega (arith, start-room _ _ _ _ _ (c .before .before .short-start .ensures) (c .before .if1 .taken))
+add-place c = omega (arith, start-room _ _ _ _ _ _ (c .before .before .short-start .ensures) (c .before .if1 .taken))
 
 loop-less : tie.Need-loop-less Inv-loop μ-loop
 loop-less c = omega arith
@@ -69,6 +69,7 @@ read-intervals-spec =
     μ-loop
     loop-holds
     short-start-requires
+    (λ c. search needs)
     short-interval-requires
     sub-left
     add-place

@@ -1,6 +1,7 @@
 use mathlib.Core.Path.{_∙_}
 use mir.Facts.{toZ-ofZ}
-use Rattle.questions.proofs.AskLaws.{ask-outside, ask-inside, instant-finite}
+use Rattle.signed.proofs.IntegerLaws.{instant-finite}
+use Rattle.questions.proofs.AskLaws.{ask-outside, ask-inside}
 use borrow.Author.Needs.{needs}
 use Rattle.questions.proofs.ask.Statement.{statement}
 use Rattle.questions.proofs.ask.Tie as tie

@@ -43,7 +43,7 @@ fn main() -> ExitCode {
         eprintln!("bench: {fault}");
         return ExitCode::FAILURE;
     }
-    println!("Processor time of one call, median of {SAMPLES} samples, ours and the peer's taken in turn.");
+    println!("Processor time of one call, the least of {SAMPLES} samples, ours and the peer's taken in turn.");
     println!("Ratio above {WANTED_RATIO:.1} in {} of {} rows of the first table,", ratio.above, ratio.all);
     println!("growth above {WANTED_GROWTH:.1} in {} of {} steps of the second.", growth.above, growth.all);
     ExitCode::SUCCESS

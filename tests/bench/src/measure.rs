@@ -2,7 +2,7 @@
 
 use crate::clock::now;
 
-/// Samples of each piece; the median is taken.
+/// Samples of each piece; the least is taken: what else the machine does, and a lower clock, only add to it.
 pub const SAMPLES: usize = 31;
 /// A sample repeats the work until it takes about this long, in nanoseconds.
 const SAMPLE: u64 = 500_000;
@@ -10,19 +10,19 @@ const SAMPLE: u64 = 500_000;
 /// A piece of work.
 pub type Piece<'a> = Box<dyn FnMut() + 'a>;
 
-/// The median time of each piece, in nanoseconds. Samples are taken in turn, so that what else the machine does meets
+/// The least time of each piece, in nanoseconds. Samples are taken in turn, so that what else the machine does meets
 /// all of them alike.
 pub fn measure(pieces: &mut [Piece]) -> Vec<f64> {
     let runs: Vec<u32> = pieces.iter_mut().map(runs).collect();
-    let mut samples = vec![Vec::new(); pieces.len()];
+    let mut least = vec![f64::INFINITY; pieces.len()];
     for _ in 0..SAMPLES {
         for (number, piece) in pieces.iter_mut().enumerate() {
             // Not measured: what the piece before left in the caches is no part of this one.
             piece();
-            samples[number].push(sample(piece, runs[number]) as f64 / f64::from(runs[number]));
+            least[number] = least[number].min(sample(piece, runs[number]) as f64 / f64::from(runs[number]));
         }
     }
-    samples.into_iter().map(median).collect()
+    least
 }
 
 /// How many runs fill a sample. The runs made to find out warm up what there is to be warmed up.
@@ -40,9 +40,4 @@ fn sample(piece: &mut Piece, runs: u32) -> u64 {
         piece();
     }
     now() - start
-}
-
-fn median(mut samples: Vec<f64>) -> f64 {
-    samples.sort_by(f64::total_cmp);
-    samples[samples.len() / 2]
 }

@@ -76,6 +76,7 @@ fn read_details(s: &[u8], at: usize, pool: u64, m: u64) -> IntervalRead
     }
 }
 
+// An interval after the start prev, code by code.
 fn read_any_interval(s: &[u8], at: usize, pool: u64, prev: u64) -> IntervalRead
     requires { ⌜ at ≤ length (now s) ⌝ }
     ensures { λ r. ⌜ Stands (now (s .entry)) (parseInterval pool prev (drop at (now (s .entry)))) (ofInterval r) ⌝ }
@@ -119,7 +120,8 @@ fn short_interval(s: &[u8], at: usize, m: u64) -> Interval
     }
 }
 
-// The same. One of twelve bytes, with its start in ticks, takes no call; its first byte tells, so that no other loses time on it.
+// An interval, as read_any_interval has it. One of twelve bytes, with its start in ticks, takes no call; its first byte tells, so that no
+// other loses time on it.
 pub fn read_interval(s: &[u8], at: usize, pool: u64, prev: u64) -> IntervalRead
     requires { ⌜ at ≤ length (now s) ⌝ }
     ensures { λ r. ⌜ Stands (now (s .entry)) (parseInterval pool prev (drop at (now (s .entry)))) (ofInterval r) ⌝ }

@@ -20,9 +20,9 @@ use Rattle.counts.proofs.CountLaws.{count-size}
 use Rattle.counts.proofs.FixedLaws.{length-fixed}
 use Rattle.offsets.specs.Offset.{inDay, writeSum, offsetForm}
 use Rattle.transitions.specs.Transition.{countTo, isMoment, writeMoment, momentForm}
-use Rattle.texts.specs.Utf8.{utf8}
+use Rattle.utf8.specs.Utf8.{utf8}
 use Rattle.texts.specs.Text.{writeText, textForm}
-use Rattle.capi.specs.Small.{SmallWrote}
+use Rattle.replies.specs.Small.{SmallWrote}
 use Rattle.capi.specs.Functions.{integerForm}
 
 abbrev FormTo : Form → Type 0

@@ -16,17 +16,19 @@ use Rattle.frames.specs.declared.Frame.the-variants.{End, Cut, Refused as Unfra
 use Rattle.frames.proofs.StepLaws.{whole-room, version-room}
 use Rattle.frames.proofs.WalkLaws.{from-ind, from-stop, from-next}
 use Rattle.signed.specs.Instant.{instantOf}
-use Rattle.checks.specs.Check.{TextPlace, nowhere, placed, Memory, start, job, concluded, concludes, conclusion, verdictOf, checkOf, textGiven, versionOf}
-use Rattle.checks.specs.declared.Conclusion.{Conclusion}
-use Rattle.checks.specs.declared.Conclusion.the-variants.{Refused as Ill, Bare, WithText}
-use Rattle.checks.specs.declared.Verdict.{Verdict}
-use Rattle.checks.specs.declared.Verdict.the-variants.{Good, Refused as IllFormed}
-use Rattle.capi.specs.Small.{SmallReply}
+use Rattle.field_checks.specs.Check.{TextPlace, nowhere, placed, Memory, start, job, concluded, concludes, conclusion, verdictOf, checkOf, textGiven, versionOf}
+use Rattle.field_checks.specs.declared.Conclusion.{Conclusion}
+use Rattle.field_checks.specs.declared.Conclusion.the-variants.{Refused as Ill, Bare, WithText}
+use Rattle.field_checks.specs.declared.Verdict.{Verdict}
+use Rattle.field_checks.specs.declared.Verdict.the-variants.{Good, Refused as IllFormed}
+use Rattle.replies.specs.Small.{SmallReply}
 use Rattle.capi.specs.Functions.{answerReply, versionReply}
-use Rattle.questions.specs.Question.{Pool, noPool, question, finish, ask}
-use Rattle.questions.specs.declared.Mark.{Mark}
-use Rattle.questions.specs.declared.Found.{Found}
-use Rattle.questions.specs.declared.Answer.{Answer}
+use Rattle.answers.specs.Answers.{Pool, noPool}
+use Rattle.walks.specs.Walk.{question}
+use Rattle.questions.specs.Question.{finish, ask}
+use Rattle.answers.specs.declared.Mark.{Mark}
+use Rattle.answers.specs.declared.Found.{Found}
+use Rattle.answers.specs.declared.Answer.{Answer}
 
 abbrev NearTo : {M A : Type 0} → Out M A → Type 0
 NearTo (found v p) = Unit {0}

@@ -13,8 +13,8 @@ use Rattle.base.specs.Writing.{Form, wrote, placed}
 use Rattle.base.specs.declared.Wrote.{Wrote}
 use Rattle.base.proofs.Tests.{never}
 use Rattle.base.proofs.WriteLaws.{Writes}
-use Rattle.capi.specs.Small.{SmallWrote}
-use Rattle.capi.specs.Reply.{writtenOf, Puts}
+use Rattle.replies.specs.Small.{SmallWrote}
+use Rattle.replies.specs.Reply.{writtenOf, Puts}
 use Rattle.capi.specs.Functions.{integerForm}
 use Rattle.capi.proofs.FormLaws.{SmallForm, wrote-small}
 

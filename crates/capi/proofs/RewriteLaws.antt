@@ -8,10 +8,10 @@ use lib.ListN.{length}
 use lib.Dec.{leb}
 use Rattle.base.specs.Pick.{pick}
 use Rattle.base.proofs.Parts.{Bytes}
-use Rattle.checks.specs.Check.{checkOf}
-use Rattle.checks.specs.declared.Verdict.{Verdict}
-use Rattle.checks.specs.declared.Verdict.the-variants.{Good, Refused as Ill}
-use Rattle.checks.proofs.WellFormedLaws.{good-well-formed}
+use Rattle.field_checks.specs.Check.{checkOf}
+use Rattle.field_checks.specs.declared.Verdict.{Verdict}
+use Rattle.field_checks.specs.declared.Verdict.the-variants.{Good, Refused as Ill}
+use Rattle.field_checks.proofs.WellFormedLaws.{good-well-formed}
 use Rattle.rewrite.specs.Preferred.{preferred, given, rewriteOf}
 use Rattle.rewrite.specs.declared.Rewritten.{Rewritten}
 use Rattle.rewrite.specs.declared.Rewritten.the-variants.{Length, Refused}

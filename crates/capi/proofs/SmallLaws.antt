@@ -28,16 +28,19 @@ use Rattle.texts.specs.declared.Text.{Text}
 use Rattle.texts.specs.declared.Text.the-variants.{Part, Refused as Untext}
 use Rattle.texts.proofs.TextLaws.{held}
 use Rattle.frames.specs.Machine.{Out, found, refused, cut, ended, walk}
-use Rattle.checks.specs.Check.{versionOf}
-use Rattle.checks.specs.declared.VersionText.{VersionText}
-use Rattle.checks.specs.declared.VersionText.the-variants.{Part as TextPart, Refused as NoText}
-use Rattle.checks.proofs.VersionLaws.{text-of-field}
-use Rattle.questions.specs.Question.{Pool, noPool, question, finish, ask}
-use Rattle.questions.specs.declared.Mark.{Mark}
-use Rattle.questions.specs.declared.Found.{Found}
+use Rattle.field_checks.specs.Check.{versionOf}
+use Rattle.field_checks.specs.declared.VersionText.{VersionText}
+use Rattle.field_checks.specs.declared.VersionText.the-variants.{Part as TextPart, Refused as NoText}
+use Rattle.field_checks.proofs.VersionLaws.{text-of-field}
+use Rattle.answers.specs.Answers.{Pool, noPool}
+use Rattle.walks.specs.Walk.{question}
+use Rattle.questions.specs.Question.{finish, ask}
+use Rattle.answers.specs.declared.Mark.{Mark}
+use Rattle.answers.specs.declared.Found.{Found}
 use Rattle.signed.proofs.IntegerLaws.{instant-finite}
 use Rattle.demands.proofs.Names.{name-inside}
-use Rattle.capi.specs.Small.{SmallAnswer, SmallVersion, SmallRead, SmallNumber, SmallText}
+use Rattle.replies.specs.Small.{SmallRead, SmallNumber, SmallText}
+use Rattle.capi.specs.Small.{SmallAnswer, SmallVersion}
 
 pub count-small : (s : List ℕ) (c : Read) → c ≡ readCount s → SmallRead c
 count-small s (Value v n) e = let x = counted s e in record { to = (omega arith, omega arith) }

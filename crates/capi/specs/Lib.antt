@@ -1,3 +1,2 @@
-pub mod Reply
 pub mod Functions
 pub mod Small

@@ -1,30 +1,10 @@
 -- What the inner functions ask: that each number fits where it goes. The C functions ask nothing. Assumes nothing: these are
 -- definitions.
-use Prim.Native.Nat.{ℕ, _≤_, _<_, _^_}
-use Rattle.base.specs.declared.Read.{Read}
-use Rattle.base.specs.declared.Read.the-variants.{Value, Refused as Unread}
-use Rattle.base.specs.declared.Wrote.{Wrote}
-use Rattle.base.specs.declared.Wrote.the-variants.{Length, Refused as Unwritten}
-use Rattle.signed.specs.declared.Number.{Number}
-use Rattle.signed.specs.declared.Number.the-variants.{Value as Signed, Refused as NoNumber}
-use Rattle.texts.specs.declared.Text.{Text}
-use Rattle.texts.specs.declared.Text.the-variants.{Part, Refused as Untext}
-use Rattle.checks.specs.declared.VersionText.{VersionText}
-use Rattle.checks.specs.declared.VersionText.the-variants.{Part as TextPart, Refused as NoText}
-use Rattle.questions.specs.declared.Answer.{Answer}
-use Rattle.questions.specs.declared.Answer.the-variants.{In, Refused as Denied}
-use Rattle.capi.specs.declared.Reply.{Reply}
-use Rattle.capi.specs.declared.Reply.the-variants.{Two, Three, Six, Refused}
-
-abbrev pub ReplyTo : ℕ → Reply → Type 0
-ReplyTo k (Two a b) = 2 ≤ k
-ReplyTo k (Three a b c) = 3 ≤ k
-ReplyTo k (Six a b c d e f) = 6 ≤ k
-ReplyTo k (Refused n p) = p ≤ 4194304
-
--- room for the numbers of a reply, or a place that no file passes
-pub record SmallReply (k : ℕ) (x : Reply) : Type 0 where
-  pub to : ReplyTo k x
+use Prim.Native.Nat.{_<_, _^_}
+use Rattle.field_checks.specs.declared.VersionText.{VersionText}
+use Rattle.field_checks.specs.declared.VersionText.the-variants.{Part as TextPart, Refused as NoText}
+use Rattle.answers.specs.declared.Answer.{Answer}
+use Rattle.answers.specs.declared.Answer.the-variants.{In, Refused as Denied}
 
 abbrev pub AnswerTo : Answer → Type 0
 AnswerTo (In x) = (x .name < 2 ^ 63) × (x .length < 2 ^ 63)
@@ -39,31 +19,3 @@ VersionTo (NoText n p) = Unit {0}
 
 pub record SmallVersion (t : VersionText) : Type 0 where
   pub to : VersionTo t
-
-abbrev pub ReadTo : Read → Type 0
-ReadTo (Value v n) = (v < 2 ^ 63) × (n < 2 ^ 63)
-ReadTo (Unread k) = Unit {0}
-
-pub record SmallRead (c : Read) : Type 0 where
-  pub to : ReadTo c
-
-abbrev pub NumberTo : Number → Type 0
-NumberTo (Signed z n) = n < 2 ^ 63
-NumberTo (NoNumber k) = Unit {0}
-
-pub record SmallNumber (c : Number) : Type 0 where
-  pub to : NumberTo c
-
-abbrev pub TextTo : Text → Type 0
-TextTo (Part a n) = (a < 2 ^ 63) × (n < 2 ^ 63)
-TextTo (Untext k) = Unit {0}
-
-pub record SmallText (t : Text) : Type 0 where
-  pub to : TextTo t
-
-abbrev pub WroteTo : Wrote → Type 0
-WroteTo (Length n) = n ≤ 4194304
-WroteTo (Unwritten k) = Unit {0}
-
-pub record SmallWrote (w : Wrote) : Type 0 where
-  pub to : WroteTo w

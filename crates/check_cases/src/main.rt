@@ -4,11 +4,11 @@
 // For each it writes the check's number and place, `0 0` for a well-formed file; the version text's number and place, with its length behind a
 // 0; and the plain question's number and place, or 0, wall offset, savings, start, end and name, the name in hexadecimal.
 // The stored output comes from tests/check_cases/make.py.
-use checks::Verdict;
-use checks::VersionText;
+use answers::Answer;
+use answers::Found;
+use field_checks::Verdict;
+use field_checks::VersionText;
 use libc::STDIN_FILENO;
-use questions::Answer;
-use questions::Found;
 
 // An offset, in milliseconds.
 fn offset(ms: i64) {
@@ -47,7 +47,7 @@ fn show_found(s: &[u8], x: Found) {
     moment(x.start);
     moment(x.end);
     cases::say(b" ");
-    cases::say_bytes(questions::name_of(s, x));
+    cases::say_bytes(answers::name_of(s, x));
 }
 
 fn show_answer(s: &[u8], a: Answer) {

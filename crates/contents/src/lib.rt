@@ -4,74 +4,18 @@ use base::Read;
 use base::Wrote;
 ghost use mathlib.Core.Path.{_≡_};
 ghost use mathlib.Core.List.{_++_};
-ghost use Prim.Native.Nat.{_*_, _-_, _≤_};
+ghost use Prim.Native.Nat.{_-_, _≤_};
 ghost use lib.Dec.{eqb};
-ghost use lib.ListN.{length, drop};
+ghost use lib.ListN.{length};
 ghost use Rattle.base.specs.Moment.{endOfTime};
 ghost use Rattle.base.proofs.MomentLaws.{Moment};
 ghost use Rattle.counts.specs.Count.{writeCount};
 ghost use Rattle.transitions.specs.Transition.{writeMoment};
-ghost use Rattle.places.specs.Placed.{Stands, ofRead};
-ghost use Rattle.contents.specs.Content.{pieceEnd, afterFlag, parseHead, printPieces, contentOf, print};
-ghost use Rattle.contents.specs.View.{EndAt, ShortPiece, HasPieces, HasContent, piecesAt, Put};
+ghost use Rattle.pieces.specs.Content.{printPieces, contentOf, print};
+ghost use Rattle.pieces.specs.View.{HasPieces, HasContent, piecesAt, Put};
 
 // The mark end of time, as a moment.
 const END: u64 = 3281606784000000000;
-
-// The place behind an interval's name, wall offset and savings.
-fn behind_details(s: &[u8], at: usize) -> Read
-    requires { ⌜ at ≤ length (now s) ⌝ }
-    ensures { λ r. ⌜ Stands (now (s .entry)) (pieceEnd 1 (drop at (now (s .entry)))) (ofRead r) ⌝ }
-{
-    match places::count_at(s, at) {
-        Read::Refused(k) => Read::Refused(k),
-        Read::Value(_, a) => match places::sum_at(s, a) {
-            Read::Refused(k) => Read::Refused(k),
-            Read::Value(_, b) => places::sum_at(s, b),
-        },
-    }
-}
-
-// Where the bytes end that follow a transition, with n more transitions behind it: an interval's details, or all the rest.
-fn piece_end(s: &[u8], at: usize, n: u64) -> usize
-    requires { ⌜ at ≤ length (now s) ⌝ }
-    ensures { λ r. ⌜ EndAt (now (s .entry)) n at r ⌝ }
-{
-    if n == 0 {
-        return s.len();
-    }
-    if 3 <= s.len() - at {
-        if places::short_details(s, at) {
-            return at + 3;
-        }
-    }
-    match behind_details(s, at) {
-        Read::Refused(_) => s.len(),
-        Read::Value(_, e) => e,
-    }
-}
-
-// The moment of a piece in five bytes, the usual one, with n more pieces behind it; 0 where other codes stand there.
-fn short_piece(s: &[u8], at: usize, prev: u64, n: u64) -> u64
-    requires { ⌜ at ≤ length (now s) ⌝ }
-    ensures { λ r. ⌜ ShortPiece (now (s .entry)) n prev at r ⌝ }
-{
-    if 0 < n {
-        return places::short_at(s, at, 2, prev);
-    }
-    0
-}
-
-// The length of a transition's preferred form, where its code took k bytes: one of at most three is preferred.
-fn code_size(prev: u64, m: u64, k: usize) -> usize
-    requires { ⌜ (k ≤ 3 → length (writeMoment prev m) ≡ k) ⌝ }
-    ensures { λ r. ⌜ r ≡ length (writeMoment prev m) ⌝ }
-{
-    if k <= 3 {
-        return k;
-    }
-    transitions::moment_size(prev, m)
-}
 
 // The length of n pieces from a place on, in their preferred form.
 fn pieces_size(s: &[u8], at: usize, n: u64) -> usize
@@ -90,8 +34,8 @@ fn pieces_size(s: &[u8], at: usize, n: u64) -> usize
                 return 0;
             }
             Read::Value(m, a) => {
-                let e = piece_end(s, a, left);
-                size += code_size(prev, m, a - place) + (e - a);
+                let e = pieces::piece_end(s, a, left);
+                size += pieces::code_size(prev, m, a - place) + (e - a);
                 place = e;
                 prev = m;
             }
@@ -110,7 +54,7 @@ fn pieces_preferred(s: &[u8], at: usize, n: u64) -> bool
     let mut prev = END;
     while 0 < left {
         left -= 1;
-        let m = short_piece(s, place, prev, left);
+        let m = pieces::short_piece(s, place, prev, left);
         if m != 0 {
             place += 5;
             prev = m;
@@ -121,9 +65,9 @@ fn pieces_preferred(s: &[u8], at: usize, n: u64) -> bool
                     return false;
                 }
                 Read::Value(m, a) => {
-                    let e = piece_end(s, a, left);
+                    let e = pieces::piece_end(s, a, left);
                     let k = a - place;
-                    if code_size(prev, m, k) != k {
+                    if pieces::code_size(prev, m, k) != k {
                         return false;
                     }
                     place = e;
@@ -163,7 +107,7 @@ fn write_pieces(s: &[u8], at: usize, n: u64, out: &mut [u8]) -> usize
                 return w;
             }
             Read::Value(m, a) => {
-                let e = piece_end(s, a, left);
+                let e = pieces::piece_end(s, a, left);
                 w += write_piece(prev, m, &s[a..e], &mut out[w..]);
                 place = e;
                 prev = m;
@@ -173,39 +117,12 @@ fn write_pieces(s: &[u8], at: usize, n: u64, out: &mut [u8]) -> usize
     w
 }
 
-// How many transitions a zone with a flag has, and the place of the first.
-fn behind_flag(s: &[u8], at: usize, flag: u64) -> Read
-    requires { ⌜ at ≤ length (now s) ⌝ }
-    ensures { λ r. ⌜ Stands (now (s .entry)) (afterFlag flag (drop at (now (s .entry)))) (ofRead r) ⌝ }
-{
-    if flag != 2 {
-        return Read::Value(0, s.len());
-    }
-    match places::count_at(s, at) {
-        Read::Refused(k) => Read::Refused(k),
-        Read::Value(n, e) => Read::Value(n + 1, e),
-    }
-}
-
-// The same from the front of the zone's data on.
-fn read_head(s: &[u8]) -> Read
-    ensures { λ r. ⌜ Stands (now (s .entry)) (parseHead (now (s .entry))) (ofRead r) ⌝ }
-{
-    match places::count_at(s, 0) {
-        Read::Refused(k) => Read::Refused(k),
-        Read::Value(_, a) => match places::byte_at(s, a) {
-            Read::Refused(k) => Read::Refused(k),
-            Read::Value(flag, e) => behind_flag(s, e, flag),
-        },
-    }
-}
-
 // The length of a zone's data in their preferred form.
 fn zone_size(s: &[u8]) -> usize
     requires { ⌜ HasContent (now s) ⌝ }
     ensures { λ r. ⌜ r ≡ length (print (contentOf 1 (now (s .entry)))) ⌝ }
 {
-    match read_head(s) {
+    match pieces::read_head(s) {
         Read::Refused(_) => 0,
         Read::Value(n, a) => a + pieces_size(s, a, n),
     }
@@ -216,7 +133,7 @@ pub fn write_zone(s: &[u8], out: &mut [u8]) -> usize
     requires { ⌜ HasContent (now s) × (length (print (contentOf 1 (now s))) ≤ length (now out)) ⌝ }
     ensures { λ r. ⌜ Put (print (contentOf 1 (now (s .entry)))) (now (out .entry)) r (now (out .exit)) ⌝ }
 {
-    match read_head(s) {
+    match pieces::read_head(s) {
         Read::Refused(_) => 0,
         Read::Value(n, a) => {
             let k = bytes::copy(&s[..a], out);
@@ -241,7 +158,7 @@ fn zone_preferred(s: &[u8]) -> bool
     requires { ⌜ HasContent (now s) ⌝ }
     ensures { λ r. ⌜ r ≡ eqb (length (print (contentOf 1 (now (s .entry))))) (length (now (s .entry))) ⌝ }
 {
-    match read_head(s) {
+    match pieces::read_head(s) {
         Read::Refused(_) => false,
         Read::Value(n, a) => pieces_preferred(s, a, n),
     }
@@ -258,28 +175,16 @@ pub fn is_preferred(i: u8, d: &[u8]) -> bool
     true
 }
 
-// The least length that m bytes with n transitions have in their preferred form: no form saves more than eight bytes.
-fn least(m: u64, n: u64) -> u64
-    requires { ⌜ n ≤ 2147483648 ⌝ }
-    ensures { λ r. ⌜ r ≡ m - 8 * n ⌝ }
-{
-    let saved = 8 * n;
-    if m < saved {
-        return 0;
-    }
-    m - saved
-}
-
 // How many bytes the size of a zone's preferred data takes. Most often the longest and the shortest that they can be tell.
 pub fn size_length(s: &[u8]) -> usize
     requires { ⌜ HasContent (now s) ⌝ }
     ensures { λ r. ⌜ r ≡ length (writeCount (length (print (contentOf 1 (now (s .entry)))))) ⌝ }
 {
-    match read_head(s) {
+    match pieces::read_head(s) {
         Read::Refused(_) => 0,
         Read::Value(n, _) => {
             let most = counts::count_size(s.len() as u64);
-            if counts::count_size(least(s.len() as u64, n)) == most {
+            if counts::count_size(pieces::least(s.len() as u64, n)) == most {
                 return most;
             }
             counts::count_size(zone_size(s) as u64)

@@ -18,9 +18,10 @@ use Rattle.zones.specs.Parse.{parseZone}
 use Rattle.frames.specs.Frame.{Field}
 use Rattle.frames.specs.Fields.{fields}
 use Rattle.base.specs.All.{All, all-none, all-also}
-use Rattle.questions.specs.Question.{numberOf, ask, askPlain}
-use Rattle.questions.specs.declared.Mark.the-variants.{All as Whole}
-use Rattle.checks.specs.Check.{WellFormed, filePool, HasId}
+use Rattle.answers.specs.Answers.{numberOf}
+use Rattle.questions.specs.Question.{ask, askPlain}
+use Rattle.answers.specs.declared.Mark.the-variants.{All as Whole}
+use Rattle.field_checks.specs.Check.{WellFormed, filePool, HasId}
 use Rattle.demands.specs.Zones.{InRange, Asked, NoZone}
 use Rattle.demands.proofs.Exact.{zone-there, missing-number}
 

@@ -20,8 +20,9 @@ use Rattle.zones.proofs.SoundLaws.{zone-sound}
 use Rattle.ids.specs.Ids.{among}
 use Rattle.frames.specs.Frame.{Field}
 use Rattle.frames.specs.Machine.{Content, bad as fault, answer, keep}
-use Rattle.questions.specs.Question.{Pool, answered, poolSays, zoneSays, says}
-use Rattle.checks.specs.Check.{Memory, start, poolIn, poolKept, newId, withId, zoneIn, zoneKept, contentOf, HasId}
+use Rattle.answers.specs.Answers.{Pool, answered}
+use Rattle.walks.specs.Walk.{poolSays, zoneSays, says}
+use Rattle.field_checks.specs.Check.{Memory, start, poolIn, poolKept, newId, withId, zoneIn, zoneKept, contentOf, HasId}
 
 -- the check and the question remember the same pool, that of the file or none yet
 pub record Alike (ts : List (List ℕ)) (x : Memory) (y : Pool) : Type 0 where

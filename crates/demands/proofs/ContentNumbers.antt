@@ -19,7 +19,7 @@ use Rattle.counts.proofs.GroupLaws.{group-refused}
 use Rattle.offsets.specs.Offset.{inDay, offsetOf, inUnits, readSum}
 use Rattle.transitions.specs.Transition.{inRange, fromCount, fromTicks, afterCount as afterTransition, readMoment, hour, minute, year1800}
 use Rattle.signed.specs.Instant.{fromRaw}
-use Rattle.recurrence.specs.Fields.{byteOk, monthOk, dayOk, timeOk, ruleOf, sumOk}
+use Rattle.rules.specs.Fields.{byteOk, monthOk, dayOk, timeOk, ruleOf, sumOk}
 use Rattle.places.specs.Name.{readZigzag, judgeName, parseName}
 use Rattle.intervals.specs.declared.Interval.{Interval}
 use Rattle.intervals.specs.Interval.{rises, intervalOf, startOf, afterWall, afterName, parseDetails, afterStart, parseInterval}

@@ -25,10 +25,12 @@ use Rattle.frames.proofs.PassLaws.{pass-first, lockstep}
 use Rattle.frames.proofs.CapLaws.{stopAt}
 use Rattle.frames.proofs.PartLaws.{absent-beside, answer-beside, walk-ended, walk-fields}
 use Rattle.zones.specs.Lookup.{inBody}
-use Rattle.questions.specs.Question.{numberOf, Pool, noPool, answered, question, finish, ask}
-use Rattle.questions.specs.declared.Mark.{Mark}
-use Rattle.questions.specs.declared.Mark.the-variants.{More, All as Whole}
-use Rattle.checks.specs.Check.{start, job, WellFormed, filePool, HasId}
+use Rattle.answers.specs.Answers.{numberOf, Pool, noPool, answered}
+use Rattle.walks.specs.Walk.{question}
+use Rattle.questions.specs.Question.{finish, ask}
+use Rattle.answers.specs.declared.Mark.{Mark}
+use Rattle.answers.specs.declared.Mark.the-variants.{More, All as Whole}
+use Rattle.field_checks.specs.Check.{start, job, WellFormed, filePool, HasId}
 use Rattle.demands.specs.Zones.{InRange, Asked, NoZone}
 use Rattle.demands.specs.Parts.{There, Missing}
 use Rattle.demands.proofs.Standing.{waits}

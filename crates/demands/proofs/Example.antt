@@ -9,7 +9,7 @@ use Rattle.base.specs.Run.{iterate}
 use Rattle.base.specs.Parsed.{got, parseByte, ended, many}
 use Rattle.counts.specs.Groups.{readGroups}
 use Rattle.offsets.specs.Offset.{readSum}
-use Rattle.texts.specs.Utf8.{chars}
+use Rattle.utf8.specs.Utf8.{chars}
 use Rattle.texts.specs.Text.{sized as textSized}
 use Rattle.pool.specs.Pool.{allStrings, counted}
 use Rattle.base.specs.Equal.{equal}
@@ -22,7 +22,7 @@ use Rattle.frames.specs.Frame.{order, zeros, version, sized, field, frame, Fiel
 use Rattle.frames.specs.Machine.{act, step, walk}
 use Rattle.frames.specs.Fields.{scan, listing}
 use Rattle.base.specs.All.{all-none, all-also}
-use Rattle.checks.specs.Check.{placed, poolKept, newId, zoneKept, textKept, contentOf, WellFormed, filePool}
+use Rattle.field_checks.specs.Check.{placed, poolKept, newId, zoneKept, textKept, contentOf, WellFormed, filePool}
 use Rattle.demands.specs.Zones.{InRange, Asked, NoZone}
 use Rattle.demands.specs.Parts.{There, Missing}
 use Rattle.demands.proofs.Exact.{zone-there, zone-missing}

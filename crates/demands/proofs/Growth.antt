@@ -3,8 +3,8 @@ use mathlib.Core.List.{List}
 use Prim.Native.Nat.{ℕ, _≤_}
 use lib.IntN.{ℤ}
 use lib.ListN.{length}
-use Rattle.questions.specs.declared.Mark.{Mark}
-use Rattle.checks.specs.Check.{WellFormed}
+use Rattle.answers.specs.declared.Mark.{Mark}
+use Rattle.field_checks.specs.Check.{WellFormed}
 use Rattle.demands.specs.Zones.{InRange}
 use Rattle.demands.specs.Parts.{Standing, PartOf}
 use Rattle.demands.proofs.Standing.{standing}

@@ -29,11 +29,13 @@ use Rattle.base.specs.All.{All}
 use Rattle.base.proofs.AllLaws.{all-head, all-tail}
 use Rattle.frames.proofs.ChainLaws.{listing-chain, chain-fields}
 use Rattle.frames.proofs.WalkLaws.{walk-pass}
-use Rattle.questions.specs.Question.{Pool, noPool, answered, poolSays, zoneSays, says, question, finish, ask, nameOf}
+use Rattle.answers.specs.Answers.{Pool, noPool, answered, nameOf}
+use Rattle.walks.specs.Walk.{poolSays, zoneSays, says, question}
+use Rattle.questions.specs.Question.{finish, ask}
 use Rattle.signed.proofs.IntegerLaws.{instant-finite}
-use Rattle.questions.specs.declared.Mark.the-variants.{More}
-use Rattle.questions.specs.declared.Found.{Found}
-use Rattle.questions.specs.declared.Answer.the-variants.{In, Refused}
+use Rattle.answers.specs.declared.Mark.the-variants.{More}
+use Rattle.answers.specs.declared.Found.{Found}
+use Rattle.answers.specs.declared.Answer.the-variants.{In, Refused}
 
 no : {A : Type 0} → _≡_ {A = ℕ} 0 1 → A
 no e = absurd (omega arith)

@@ -33,17 +33,19 @@ use Rattle.frames.specs.Frame.{largest, once, order, zeros, version, sized, fie
 use Rattle.frames.specs.Machine.{Out, found, refused, cut, ended, Content, bad, answer, keep, Job, State, stateAt, fieldAt, verdict, onward, act, step, walk}
 use Rattle.frames.specs.declared.Frame.{Frame}
 use Rattle.frames.specs.declared.Frame.the-variants.{End, Cut, Refused, Version, Whole}
-use Rattle.checks.specs.Check.{TextPlace, nowhere, placed, Memory, start, withId, withText, poolIn, poolKept, newId, zoneIn, zoneKept, textIn, textKept, contentOf, job}
-use Rattle.checks.specs.Check.{concluded, concludes, conclusion, verdictOf, checkOf, WellFormed}
-use Rattle.checks.proofs.WellFormedLaws.{good-well-formed}
-use Rattle.checks.specs.declared.Conclusion.the-variants.{Refused as Unfit, Bare, WithText}
-use Rattle.checks.specs.declared.Verdict.{Verdict}
-use Rattle.checks.specs.declared.Verdict.the-variants.{Good, Refused as Ill}
-use Rattle.questions.specs.Question.{Pool, noPool, answered, poolSays, zoneSays, says, question, waiting, finish, ask}
-use Rattle.questions.specs.declared.Mark.{Mark}
-use Rattle.questions.specs.declared.Mark.the-variants.{More, All as Whole′}
-use Rattle.questions.specs.declared.Found.{Found}
-use Rattle.questions.specs.declared.Answer.the-variants.{Refused as No}
+use Rattle.field_checks.specs.Check.{TextPlace, nowhere, placed, Memory, start, withId, withText, poolIn, poolKept, newId, zoneIn, zoneKept, textIn, textKept, contentOf, job}
+use Rattle.field_checks.specs.Check.{concluded, concludes, conclusion, verdictOf, checkOf, WellFormed}
+use Rattle.field_checks.proofs.WellFormedLaws.{good-well-formed}
+use Rattle.field_checks.specs.declared.Conclusion.the-variants.{Refused as Unfit, Bare, WithText}
+use Rattle.field_checks.specs.declared.Verdict.{Verdict}
+use Rattle.field_checks.specs.declared.Verdict.the-variants.{Good, Refused as Ill}
+use Rattle.answers.specs.Answers.{Pool, noPool, answered, waiting}
+use Rattle.walks.specs.Walk.{poolSays, zoneSays, says, question}
+use Rattle.questions.specs.Question.{finish, ask}
+use Rattle.answers.specs.declared.Mark.{Mark}
+use Rattle.answers.specs.declared.Mark.the-variants.{More, All as Whole′}
+use Rattle.answers.specs.declared.Found.{Found}
+use Rattle.answers.specs.declared.Answer.the-variants.{Refused as No}
 use Rattle.demands.specs.Numbers.{OfContent, too-large, faulty, OfFile, OfCheck, check-cut, check-fault, second-zone, verdictNumber, InTable}
 use Rattle.demands.specs.Numbers.{OfQuestion, not-yet, question-cut, question-fault, no-zone, no-instant, AnswerInTable}
 use Rattle.demands.proofs.ContentNumbers.{Fine, zone-numbers}

@@ -22,11 +22,12 @@ use Rattle.frames.specs.Fields.{Listing, fields}
 use Rattle.base.specs.All.{All}
 use Rattle.base.proofs.AllLaws.{all-head, all-left, all-right}
 use Rattle.frames.proofs.ChainLaws.{listing-chain}
-use Rattle.questions.specs.Question.{numberOf, ask, askPlain}
-use Rattle.questions.specs.declared.Mark.the-variants.{All as Whole}
-use Rattle.questions.specs.declared.Answer.{Answer}
-use Rattle.questions.specs.declared.Answer.the-variants.{In, Refused}
-use Rattle.checks.specs.Check.{WellFormed, filePool, HasId}
+use Rattle.answers.specs.Answers.{numberOf}
+use Rattle.questions.specs.Question.{ask, askPlain}
+use Rattle.answers.specs.declared.Mark.the-variants.{All as Whole}
+use Rattle.answers.specs.declared.Answer.{Answer}
+use Rattle.answers.specs.declared.Answer.the-variants.{In, Refused}
+use Rattle.field_checks.specs.Check.{WellFormed, filePool, HasId}
 use Rattle.rewrite.specs.Preferred.{preferred}
 use Rattle.rewrite.proofs.KeptLaws.{FieldKept}
 use Rattle.rewrite.proofs.MovedLaws.{movedTo, moved}

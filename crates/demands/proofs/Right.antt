@@ -30,11 +30,13 @@ use Rattle.base.proofs.AllLaws.{all-head, all-tail, all-map, all-left}
 use Rattle.frames.proofs.ChainLaws.{listing-chain, chain-fields, chain-split}
 use Rattle.frames.proofs.PassLaws.{pass-first, pass-head, lockstep}
 use Rattle.frames.proofs.PartLaws.{walk-ended, walk-answer}
-use Rattle.questions.specs.Question.{Pool, noPool, answered, says, question, finish, nameOf}
-use Rattle.questions.specs.declared.Mark.the-variants.{All as Whole}
+use Rattle.answers.specs.Answers.{Pool, noPool, answered, nameOf}
+use Rattle.walks.specs.Walk.{says, question}
+use Rattle.questions.specs.Question.{finish}
+use Rattle.answers.specs.declared.Mark.the-variants.{All as Whole}
 use Rattle.signed.proofs.IntegerLaws.{instant-finite}
-use Rattle.checks.specs.Check.{Memory, start, job, contentOf, WellFormed, filePool, HasId}
-use Rattle.checks.proofs.ZoneIdLaws.{one-zone, each-zone}
+use Rattle.field_checks.specs.Check.{Memory, start, job, contentOf, WellFormed, filePool, HasId}
+use Rattle.field_checks.proofs.ZoneIdLaws.{one-zone, each-zone}
 use Rattle.demands.specs.Zones.{InRange, ZoneIn, Asked}
 use Rattle.demands.specs.Right.{Right, Answered}
 use Rattle.demands.proofs.Beside.{Alike, Passed, keeps, answers, zone-pool}

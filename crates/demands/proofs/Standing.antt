@@ -10,11 +10,13 @@ use Rattle.base.proofs.Tests.{never}
 use Rattle.signed.specs.Instant.{instantOf}
 use Rattle.frames.specs.Machine.{Out, found, refused, cut, ended, final, walk}
 use Rattle.frames.proofs.GrowthLaws.{walk-stable}
-use Rattle.questions.specs.Question.{numberOf, Pool, noPool, question, finish, ask}
-use Rattle.questions.specs.declared.Mark.{Mark}
-use Rattle.questions.specs.declared.Mark.the-variants.{More}
-use Rattle.questions.specs.declared.Found.{Found}
-use Rattle.questions.specs.declared.Answer.the-variants.{Refused}
+use Rattle.answers.specs.Answers.{numberOf, Pool, noPool}
+use Rattle.walks.specs.Walk.{question}
+use Rattle.questions.specs.Question.{finish, ask}
+use Rattle.answers.specs.declared.Mark.{Mark}
+use Rattle.answers.specs.declared.Mark.the-variants.{More}
+use Rattle.answers.specs.declared.Found.{Found}
+use Rattle.answers.specs.declared.Answer.the-variants.{Refused}
 
 -- what is not "not yet" is settled
 settled : (o : Out Pool Found) → (numberOf (finish More o) ≡ 1 → ⊥) → final o ≡ true

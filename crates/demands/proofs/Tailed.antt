@@ -11,11 +11,12 @@ use Rattle.signed.specs.Instant.{biasedOf}
 use Rattle.counts.specs.Groups.{readGroups}
 use Rattle.offsets.specs.Offset.{readSum}
 use Rattle.transitions.specs.Transition.{fromCount, readMoment}
-use Rattle.texts.specs.Utf8.{chars}
+use Rattle.utf8.specs.Utf8.{chars}
 use Rattle.texts.specs.Text.{sized as textSized}
 use Rattle.calendar.specs.Calendar.{leapDay, monthLength, daysBefore, yearStart, dayNumber, estimate, yearOf}
-use Rattle.recurrence.specs.Rules.{mostDay, monthDay, onOrAfter, onOrBefore, moved, fallsOn, occurrence, subtracted}
-use Rattle.recurrence.specs.Fields.{byteOk, monthOk, dayOk, timeOk, sumOk}
+use Rattle.rules.specs.Rules.{mostDay}
+use Rattle.occurrences.specs.Rules.{monthDay, onOrAfter, onOrBefore, moved, fallsOn, occurrence, subtracted}
+use Rattle.rules.specs.Fields.{byteOk, monthOk, dayOk, timeOk, sumOk}
 use Rattle.recurrence.specs.Search.{searchFrom, yearBefore, lastAt, nextAfter}
 use Rattle.recurrence.specs.Tails.{standardIn, daylightIn, lookup}
 use Rattle.pool.specs.Pool.{allStrings, counted}
@@ -32,11 +33,13 @@ use Rattle.ids.specs.Ids.{among}
 use Rattle.frames.specs.Frame.{order, zeros, version, sized, field, frame, Field}
 use Rattle.frames.specs.Machine.{act, step, walk}
 use Rattle.frames.specs.Fields.{scan, listing}
-use Rattle.checks.specs.Check.{poolKept, newId, zoneKept, contentOf, concluded, conclusion, WellFormed}
-use Rattle.checks.proofs.WellFormedLaws.{good-well-formed}
-use Rattle.questions.specs.Question.{says, ask, askPlain, nameOf}
-use Rattle.questions.specs.declared.Answer.{Answer}
-use Rattle.questions.specs.declared.Answer.the-variants.{In, Refused}
+use Rattle.field_checks.specs.Check.{poolKept, newId, zoneKept, contentOf, concluded, conclusion, WellFormed}
+use Rattle.field_checks.proofs.WellFormedLaws.{good-well-formed}
+use Rattle.walks.specs.Walk.{says}
+use Rattle.questions.specs.Question.{ask, askPlain}
+use Rattle.answers.specs.Answers.{nameOf}
+use Rattle.answers.specs.declared.Answer.{Answer}
+use Rattle.answers.specs.declared.Answer.the-variants.{In, Refused}
 use Rattle.demands.specs.Right.{Answered}
 use Rattle.demands.proofs.Right.{demand-2}
 

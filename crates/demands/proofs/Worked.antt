@@ -9,11 +9,12 @@ use Rattle.counts.specs.Groups.{readGroups, writeGroups}
 use Rattle.counts.specs.Fixed.{fixedFrom}
 use Rattle.offsets.specs.Offset.{readSum}
 use Rattle.transitions.specs.Transition.{fromCount, readMoment}
-use Rattle.texts.specs.Utf8.{chars}
+use Rattle.utf8.specs.Utf8.{chars}
 use Rattle.texts.specs.Text.{sized as textSized}
 use Rattle.calendar.specs.Calendar.{leapDay, monthLength, daysBefore, yearStart, dayNumber}
-use Rattle.recurrence.specs.Rules.{mostDay, monthDay, onOrAfter, onOrBefore, moved, fallsOn, occurrence, subtracted}
-use Rattle.recurrence.specs.Fields.{byteOk, monthOk, dayOk, timeOk}
+use Rattle.rules.specs.Rules.{mostDay}
+use Rattle.occurrences.specs.Rules.{monthDay, onOrAfter, onOrBefore, moved, fallsOn, occurrence, subtracted}
+use Rattle.rules.specs.Fields.{byteOk, monthOk, dayOk, timeOk}
 use Rattle.tails.specs.Tail.{afterTime, parseTime, afterDay, parseDay, afterMonth, parseMonth, afterByte, parseRule}
 use Rattle.pool.specs.Pool.{allStrings, counted}
 use Rattle.pool.specs.Index.{readStarts, startsIn}
@@ -23,7 +24,8 @@ use Rattle.zones.specs.Lookup.{inBody}
 use Rattle.zones.specs.Parse.{zoneOf, afterFixedOffset, parseFixed, afterFlag, afterId, parseZone}
 use Rattle.frames.specs.Frame.{order, zeros, version, sized, field, frame}
 use Rattle.frames.specs.Machine.{act, step, walk}
-use Rattle.questions.specs.Question.{says, ask}
+use Rattle.walks.specs.Walk.{says}
+use Rattle.questions.specs.Question.{ask}
 use Rattle.demands.specs.Cases.{Case, given, cases}
 
 pub worked : map (λ (c : Case). given (c .asked)) cases ≡ map (λ (c : Case). c .expected) cases

@@ -14,14 +14,15 @@ use Rattle.counts.specs.SignedCount.{readSignedCount}
 use Rattle.offsets.specs.Offset.{readOffset}
 use Rattle.transitions.specs.Transition.{readTransition}
 use Rattle.calendar.specs.Calendar.{dayNumber}
-use Rattle.recurrence.specs.declared.Rule.{Rule}
-use Rattle.recurrence.specs.Rules.{fallsOn, occurrence, subtracted}
+use Rattle.rules.specs.declared.Rule.{Rule}
+use Rattle.occurrences.specs.Rules.{fallsOn, occurrence, subtracted}
 use Rattle.tails.specs.Tail.{parseRule}
-use Rattle.questions.specs.Question.{ask, nameOf}
-use Rattle.questions.specs.declared.Mark.{Mark}
-use Rattle.questions.specs.declared.Mark.the-variants.{More, All}
-use Rattle.questions.specs.declared.Answer.{Answer}
-use Rattle.questions.specs.declared.Answer.the-variants.{In, Refused}
+use Rattle.questions.specs.Question.{ask}
+use Rattle.answers.specs.Answers.{nameOf}
+use Rattle.answers.specs.declared.Mark.{Mark}
+use Rattle.answers.specs.declared.Mark.the-variants.{More, All}
+use Rattle.answers.specs.declared.Answer.{Answer}
+use Rattle.answers.specs.declared.Answer.the-variants.{In, Refused}
 
 -- what is asked: a count written; a signed count, an offset or a transition (behind a previous one) read; a rule's bytes in a year, where
 -- both wall offsets are zero; a question of some bytes

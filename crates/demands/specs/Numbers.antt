@@ -1,10 +1,10 @@
 -- The numbers of document 01's table that the check and the question can give. Assumes nothing: these are definitions.
 use Prim.Native.Nat.{ℕ, _≤_}
 use mathlib.Core.Path.{_≡_}
-use Rattle.checks.specs.declared.Verdict.{Verdict}
-use Rattle.checks.specs.declared.Verdict.the-variants.{Good, Refused}
-use Rattle.questions.specs.declared.Answer.{Answer}
-use Rattle.questions.specs.declared.Answer.the-variants.{In, Refused as No}
+use Rattle.field_checks.specs.declared.Verdict.{Verdict}
+use Rattle.field_checks.specs.declared.Verdict.the-variants.{Good, Refused}
+use Rattle.answers.specs.declared.Answer.{Answer}
+use Rattle.answers.specs.declared.Answer.the-variants.{In, Refused as No}
 
 -- faults of a field's contents: a largest size passed, and 7 to 11
 pub data OfContent (n : ℕ) : Type 0 where

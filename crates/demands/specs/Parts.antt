@@ -8,11 +8,12 @@ use lib.IntN.{ℤ}
 use lib.ListN.{take}
 use Rattle.frames.specs.Frame.{Field}
 use Rattle.frames.specs.Fields.{fields, firstAbove}
-use Rattle.questions.specs.Question.{numberOf, ask, nameOf}
-use Rattle.questions.specs.declared.Mark.{Mark}
-use Rattle.questions.specs.declared.Mark.the-variants.{More, All}
-use Rattle.questions.specs.declared.Found.{Found}
-use Rattle.questions.specs.declared.Answer.the-variants.{In, Refused}
+use Rattle.answers.specs.Answers.{numberOf, nameOf}
+use Rattle.questions.specs.Question.{ask}
+use Rattle.answers.specs.declared.Mark.{Mark}
+use Rattle.answers.specs.declared.Mark.the-variants.{More, All}
+use Rattle.answers.specs.declared.Found.{Found}
+use Rattle.answers.specs.declared.Answer.the-variants.{In, Refused}
 use Rattle.demands.specs.Zones.{Asked, NoZone}
 
 -- "If that gives anything but 'not yet', then whatever bytes follow, the bytes so lengthened give the same answer or refusal, asked with

@@ -15,11 +15,12 @@ use Rattle.zones.specs.Intervals.{Holds, InBody}
 use Rattle.zones.specs.declared.Found.{Found as Interval}
 use Rattle.frames.specs.Frame.{Field}
 use Rattle.frames.specs.Fields.{fields}
-use Rattle.questions.specs.Question.{numberOf, ask, askPlain, nameOf}
-use Rattle.questions.specs.declared.Mark.{Mark}
-use Rattle.questions.specs.declared.Found.{Found}
-use Rattle.questions.specs.declared.Answer.the-variants.{In}
-use Rattle.checks.specs.Check.{filePool}
+use Rattle.answers.specs.Answers.{numberOf, nameOf}
+use Rattle.questions.specs.Question.{ask, askPlain}
+use Rattle.answers.specs.declared.Mark.{Mark}
+use Rattle.answers.specs.declared.Found.{Found}
+use Rattle.answers.specs.declared.Answer.the-variants.{In}
+use Rattle.field_checks.specs.Check.{filePool}
 use Rattle.demands.specs.Zones.{InRange}
 
 -- what is right of the answer at z of the file f to the ID bytes id, which are those of its zone w: of the plain question, and of the

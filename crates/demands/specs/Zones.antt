@@ -7,7 +7,7 @@ use Rattle.signed.specs.Instant.{instantOf}
 use Rattle.frames.specs.Frame.{Field}
 use Rattle.frames.specs.Fields.{fields}
 use Rattle.base.specs.All.{All}
-use Rattle.checks.specs.Check.{filePool, HasId}
+use Rattle.field_checks.specs.Check.{filePool, HasId}
 
 -- an instant from year 1 to year 9999 (in-range and range-in in proofs/RangeLaws.antt: these are its first and its last tick)
 abbrev pub InRange : ℤ → Type 0

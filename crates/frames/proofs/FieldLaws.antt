@@ -45,6 +45,28 @@ spans-wide a a′ b l h s =
       stops = stops-wide a a′ b (l .ending) h (s .stops);
     }
 
+-- what is left behind the first n bytes
+rest-short : (n k : ℕ) (r : List ℕ) → 0 < n → n ≤ length r → length r < suc k → length (drop n r) < k
+rest-short n k r a l f = rw length-drop (omega arith)
+
+rest-more : (n k : ℕ) (r e : List ℕ) → 0 < n → n ≤ length r → length (r ++ e) < suc k → length (drop n r ++ e) < k
+rest-more n k r e a l f = rw (length-append, length-drop) (omega (arith, rw length-append at f))
+
+rest-place : (n at : ℕ) (r : List ℕ) → n ≤ length r → at + n + length (drop n r) ≡ at + length r
+rest-place n at r l = rw length-drop (omega arith)
+
+some-bytes : (h n : ℕ) → 0 < h → 0 < h + n
+some-bytes h n l = omega arith
+
+head-inside : (h n b : ℕ) → h + n ≤ b → h ≤ b
+head-inside h n b l = omega arith
+
+data-inside : (h n : ℕ) (r : List ℕ) → h + n ≤ length r → n ≤ length (drop h r)
+data-inside h n r l = rw length-drop (omega arith)
+
+four : 0 < 4
+four = omega arith
+
 module _ (last : ℕ) where
   pub scan-spans : (k at : ℕ) (seen : Bool) (prev : ℕ) (r : List ℕ) → length r < k → Spans at (at + length r) (scan k last at seen prev r)
   unfolding scan
@@ -58,13 +80,9 @@ module _ (last : ℕ) where
       go Cut l rec = record { inside = all-none; stops = (omega arith, omega arith) }
       go (Refused n) l rec = record { inside = all-none; stops = (omega arith, omega (arith, l .by .0)) }
       go Version l rec =
-          let m : length (drop 4 r) < k = rw length-drop (omega (arith, l .by)) in
-          let e : at + 4 + length (drop 4 r) ≡ at + length r = rw length-drop (omega (arith, l .by)) in
-          spans-wide _ _ _ _ (omega arith) (rw e at (rec (at + 4) false 0 (drop 4 r) m))
+          spans-wide _ _ _ _ (omega arith) (rw (rest-place 4 at r (l .by .1)) at (rec (at + 4) false 0 (drop 4 r) (rest-short 4 k r four (l .by .1) fuel)))
       go (Whole i h n) l rec =
-          let m : length (drop (h + n) r) < k = rw length-drop (omega (arith, l .by)) in
-          let e : at + (h + n) + length (drop (h + n) r) ≡ at + length r = rw length-drop (omega (arith, l .by)) in
-          let s = spans-wide _ at _ _ (omega arith) (rw e at (rec (at + (h + n)) true i (drop (h + n) r) m)) in
+          let s = spans-wide _ at _ _ (omega arith) (rw (rest-place (h + n) at r (l .by .2)) at (rec (at + (h + n)) true i (drop (h + n) r) (rest-short (h + n) k r (some-bytes h n (l .by .0)) (l .by .2) fuel))) in
           let g : Between at (at + length r) (fieldAt at r i h n)
           = record { behind = omega arith; some = omega (arith, l .by); within = omega (arith, l .by) } in
           record { inside = all-also g (s .inside); stops = s .stops }
@@ -153,20 +171,20 @@ module _ (last : ℕ) (e : List ℕ) where
           (record { more = noField (refusedAt n at); joined = refl; ends = refl; same = λ h. refl; later = λ h. never refl h })
       go Version y d rec =
           let l : 4 ≤ length r = d .in-bytes .by .1 in
-          let m : length (drop 4 r) < k = rw length-drop (omega arith) in
-          let m′ : length (drop 4 r ++ e) < k′ = rw (length-append, length-drop) (omega (arith, rw length-append at fuel′)) in
-          let p : at + 4 + length (drop 4 r) ≡ at + length r = rw length-drop (omega arith) in
-          rw (d .same refl, drop-append-le 4 r e l) (rw p at (rec (at + 4) false 0 (drop 4 r) m m′))
+          rw (d .same refl, drop-append-le 4 r e l)
+          (rw (rest-place 4 at r l) at (rec (at + 4) false 0 (drop 4 r) (rest-short 4 k r four l fuel) (rest-more 4 k′ r e four l fuel′)))
       go (Whole i h n) y d rec =
           let b = d .in-bytes .by in
           let l : h + n ≤ length r = b .2 in
-          let j : h ≤ length r = omega arith in
-          let t : n ≤ length (drop h r) = rw length-drop (omega arith) in
-          let m : length (drop (h + n) r) < k = rw length-drop (omega arith) in
-          let m′ : length (drop (h + n) r ++ e) < k′ = rw (length-append, length-drop) (omega (arith, rw length-append at fuel′)) in
-          let p : at + (h + n) + length (drop (h + n) r) ≡ at + length r = rw length-drop (omega arith) in
-          rw (d .same refl, drop-append-le (h + n) r e l, drop-append-le h r e j, take-append-le n (drop h r) e t)
-          (grows-before _ _ _ _ (rw p at (rec (at + (h + n)) true i (drop (h + n) r) m m′)))
+          rw (
+            d .same refl,
+            drop-append-le (h + n) r e l,
+            drop-append-le h r e (head-inside h n _ l),
+            take-append-le n (drop h r) e (data-inside h n r l),
+          )
+          (grows-before _ _ _ _
+          (rw (rest-place (h + n) at r l) at
+          (rec (at + (h + n)) true i (drop (h + n) r) (rest-short (h + n) k r (some-bytes h n (b .0)) l fuel) (rest-more (h + n) k′ r e (some-bytes h n (b .0)) l fuel′))))
 
 -- of a whole file
 pub listing-spans : (last : ℕ) (bs : List ℕ) → Spans 0 (length bs) (listing last bs)

@@ -38,11 +38,11 @@ fn is_held(pool: &[u8], starts: &[u32], count: usize, seen: &[u32; 8192], k: usi
     requires { ⌜ Ready (now pool) (now starts) × (count ≡ length (stringsOf (now pool))) × (k < count) ⌝ }
     ensures { λ r. ⌜ r ≡ held (stringsOf (now (pool .entry))) (now (seen .entry)) (getD (stringsOf (now (pool .entry))) k []) ⌝ }
 {
-    let id = pool::text_by(pool, starts, k);
+    let id = strings::text_by(pool, starts, k);
     let mut j: usize = 0;
     while j < count {
         if seen[j] != 0 {
-            if pool::has_id(pool, starts, j, id) {
+            if strings::has_id(pool, starts, j, id) {
                 return true;
             }
         }
@@ -86,7 +86,7 @@ fn is_missing(
             return false;
         }
         let i = j - 1;
-        if pool::has_id(pool, starts, i, id) {
+        if strings::has_id(pool, starts, i, id) {
             return false;
         }
         let link = wide(seen[i]);
@@ -119,7 +119,7 @@ fn is_second(
         count,
         seen,
         from,
-        pool::text_by(pool, starts, k),
+        strings::text_by(pool, starts, k),
     ) {
         return false;
     }
@@ -138,7 +138,7 @@ pub fn take_id(
     requires { ⌜ Ready (now pool) (now starts) × (count ≡ length (stringsOf (now pool))) × (k < count) ⌝ }
     ensures { λ r. ⌜ Taken (stringsOf (now (pool .entry))) (getD (stringsOf (now (pool .entry))) k []) (now (seen .entry)) (now (marks .entry)) (now (seen .exit)) (now (marks .exit)) r ⌝ }
 {
-    let h = hash(pool::text_by(pool, starts, k));
+    let h = hash(strings::text_by(pool, starts, k));
     if is_second(pool, starts, count, &*seen, &*marks, k, h) {
         return true;
     }

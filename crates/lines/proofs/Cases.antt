@@ -4,10 +4,10 @@ use mathlib.Core.List.{List, [], _∷_}
 use Prim.Native.Nat.{ℕ}
 use lib.IntN.{pos, negsuc}
 use Rattle.bytes.specs.Bytes.{indexOf, indexAfter}
-use Rattle.lines.specs.Decimal.{decimalIn, decimal, signed}
+use Rattle.answer_lines.specs.Decimal.{decimalIn, decimal, signed}
 use Rattle.base.specs.Equal.{equal}
 use Rattle.lines.specs.Question.{ticksOf, marked, behindDigits, digits, ticks, parseLine}
-use Rattle.lines.specs.Reply.{answerLine, refusalLine}
+use Rattle.answer_lines.specs.Reply.{answerLine, refusalLine}
 use Rattle.lines.specs.Splitting.{lastLine, linesFrom, linesOf, blockLines, linesInBlocks}
 use Rattle.lines.specs.declared.Kind.the-variants.{Plain, Part, All}
 use Rattle.lines.specs.declared.Line.the-variants.{Ask, Unclear}

@@ -18,7 +18,7 @@ use Rattle.bytes.specs.Bytes.{indexOf, indexAfter, slice}
 use Rattle.base.specs.Equal.{equal}
 use Rattle.base.specs.Pick.{both}
 use Rattle.base.proofs.Tests.{pick-holds}
-use Rattle.lines.specs.Decimal.{digit}
+use Rattle.answer_lines.specs.Decimal.{digit}
 use Rattle.lines.specs.Question.{pastRange, ticksOf, marked, behindDigits, digits, ticks, parseLine}
 use Rattle.lines.specs.declared.Kind.{Kind}
 use Rattle.lines.specs.declared.Kind.the-variants.{Plain, Part, All}

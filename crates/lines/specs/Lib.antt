@@ -1,4 +1,2 @@
-pub mod Decimal
 pub mod Question
-pub mod Reply
 pub mod Splitting

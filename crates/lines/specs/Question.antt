@@ -10,7 +10,7 @@ use lib.ListN.{length, drop}
 use Rattle.bytes.specs.Bytes.{indexOf}
 use Rattle.base.specs.Pick.{pick, both}
 use Rattle.base.specs.Equal.{equal}
-use Rattle.lines.specs.Decimal.{digit}
+use Rattle.answer_lines.specs.Decimal.{digit}
 use Rattle.lines.specs.declared.Kind.the-variants.{Plain, Part, All}
 use Rattle.lines.specs.declared.Line.{Line}
 use Rattle.lines.specs.declared.Line.the-variants.{Ask, Unclear}

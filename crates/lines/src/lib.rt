@@ -1,14 +1,9 @@
-// The program's question lines and the lines that it writes (01, "One whole file"), and lines out of blocks of input.
+// The program's question lines (01, "One whole file"), and lines out of blocks of input.
 ghost use mathlib.Core.Path.{_≡_};
-ghost use Prim.Native.Nat.{_+_, _≤_};
-ghost use lib.ListN.{length};
-ghost use lib.Seq.{sets};
-ghost use Rattle.base.specs.Writing.{bytes, wrote, placed};
-ghost use Rattle.lines.specs.Decimal.{decimal, signed};
+ghost use Prim.Native.Nat.{_+_};
+ghost use Rattle.base.specs.Writing.{bytes};
 ghost use Rattle.lines.specs.Question.{parseLine, ticks, digits, behindDigits, marked, ticksOf};
-ghost use Rattle.lines.specs.Reply.{answerLine, refusalLine};
 ghost use Rattle.lines.specs.Splitting.{Keeps, Gathers};
-use base::Wrote;
 
 // The longest question line, without its line feed.
 const LONGEST: usize = 2048;
@@ -122,97 +117,6 @@ fn signed_ticks(minus: bool, v: u64) -> i64
         return v as i64;
     }
     9223372036854775807
-}
-
-// The line of an answer.
-pub fn write_answer(wall: i64, savings: i64, name: &[u8], out: &mut [u8]) -> Wrote
-    ensures { λ r. ⌜ (r ≡ wrote (bytes (answerLine wall savings (now (name .entry)))) (now (out .entry))) × (now (out .exit) ≡ placed (bytes (answerLine wall savings (now (name .entry)))) (now (out .entry))) ⌝ }
-{
-    let room = 5 + signed_length(wall) + signed_length(savings) + name.len();
-    if out.len() < room {
-        return Wrote::Refused(15);
-    }
-    let a = put_decimal(0, out, 0);
-    out[a] = b' ';
-    let b = put_signed(wall, out, a + 1);
-    out[b] = b' ';
-    let c = put_signed(savings, out, b + 1);
-    out[c] = b' ';
-    let d = put_bytes(name, out, c + 1);
-    out[d] = b'\n';
-    Wrote::Length(d + 1)
-}
-
-// The line of a refusal.
-pub fn write_refusal(number: u8, place: u64, out: &mut [u8]) -> Wrote
-    ensures { λ r. ⌜ (r ≡ wrote (bytes (refusalLine number place)) (now (out .entry))) × (now (out .exit) ≡ placed (bytes (refusalLine number place)) (now (out .entry))) ⌝ }
-{
-    let room = 2 + decimal_length(number as u64) + decimal_length(place);
-    if out.len() < room {
-        return Wrote::Refused(15);
-    }
-    let a = put_decimal(number as u64, out, 0);
-    out[a] = b' ';
-    let b = put_decimal(place, out, a + 1);
-    out[b] = b'\n';
-    Wrote::Length(b + 1)
-}
-
-// How many digits v has.
-fn decimal_length(v: u64) -> usize
-    ensures { λ r. ⌜ r ≡ length (decimal v) ⌝ }
-{
-    let mut n = 1;
-    let mut rest = v;
-    while 10 <= rest {
-        rest = rest / 10;
-        n += 1;
-    }
-    n
-}
-
-// How many bytes z takes, its minus among them.
-fn signed_length(z: i64) -> usize
-    ensures { λ r. ⌜ r ≡ length (signed z) ⌝ }
-{
-    if z < 0 {
-        return 1 + decimal_length(signed::magnitude(z));
-    }
-    decimal_length(signed::magnitude(z))
-}
-
-// Puts the digits of v into out from `at` on, and gives the place behind them.
-fn put_decimal(v: u64, out: &mut [u8], at: usize) -> usize
-    requires { ⌜ at + length (decimal v) ≤ length (now out) ⌝ }
-    ensures { λ r. ⌜ (r ≡ at + length (decimal v)) × (now (out .exit) ≡ sets (now (out .entry)) at (decimal v)) ⌝ }
-{
-    if v < 10 {
-        out[at] = b'0' + v as u8;
-        return at + 1;
-    }
-    let n = put_decimal(v / 10, out, at);
-    out[n] = b'0' + (v % 10) as u8;
-    n + 1
-}
-
-// The same for a number with its sign.
-fn put_signed(z: i64, out: &mut [u8], at: usize) -> usize
-    requires { ⌜ at + length (signed z) ≤ length (now out) ⌝ }
-    ensures { λ r. ⌜ (r ≡ at + length (signed z)) × (now (out .exit) ≡ sets (now (out .entry)) at (signed z)) ⌝ }
-{
-    if z < 0 {
-        out[at] = b'-';
-        return put_decimal(signed::magnitude(z), out, at + 1);
-    }
-    put_decimal(signed::magnitude(z), out, at)
-}
-
-// The same for the bytes of a slice.
-fn put_bytes(s: &[u8], out: &mut [u8], at: usize) -> usize
-    requires { ⌜ at + length (now s) ≤ length (now out) ⌝ }
-    ensures { λ r. ⌜ (r ≡ at + length (now (s .entry))) × (now (out .exit) ≡ sets (now (out .entry)) at (now (s .entry))) ⌝ }
-{
-    at + bytes::copy(s, &mut out[at..])
 }
 
 // What a part of a block gives to the line that has begun.

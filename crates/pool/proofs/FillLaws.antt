@@ -15,9 +15,9 @@ use Rattle.counts.proofs.CountLaws.{byte-count}
 use Rattle.texts.specs.Text.{readText, behindText}
 use Rattle.texts.specs.declared.Text.{Text}
 use Rattle.texts.specs.declared.Text.the-variants.{Part, Refused as Untext}
-use Rattle.texts.specs.Ascii.{ascii}
+use Rattle.utf8.specs.Ascii.{ascii}
 use Rattle.texts.proofs.TextLaws.{text-tested, Held, held}
-use Rattle.texts.proofs.AsciiLaws.{plain-utf8}
+use Rattle.utf8.proofs.AsciiLaws.{plain-utf8}
 use Rattle.pool.specs.declared.Checked.{Checked}
 use Rattle.pool.specs.declared.Checked.the-variants.{Strings, Refused}
 use Rattle.base.specs.Parsed.{got, bad, bind, ended, many, prepend}

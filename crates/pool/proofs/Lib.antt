@@ -2,5 +2,4 @@ pub mod FillLaws
 pub mod CheckLaws
 pub mod StringLaws
 pub mod PoolLaws
-pub mod HolderLaws
 pub mod Vectors

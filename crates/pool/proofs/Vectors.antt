@@ -3,7 +3,7 @@ use mathlib.Core.Path.{_≡_, refl}
 use mathlib.Core.List.{[], _∷_, map}
 use Rattle.base.specs.Parsed.{got, bad, ended, many}
 use Rattle.counts.specs.Groups.{readGroups}
-use Rattle.texts.specs.Utf8.{chars}
+use Rattle.utf8.specs.Utf8.{chars}
 use Rattle.texts.specs.Text.{sized}
 use Rattle.pool.specs.Pool.{allStrings, counted, parsePool}
 use Rattle.pool.specs.Index.{readStarts, startsIn, startsOf, spanOf}

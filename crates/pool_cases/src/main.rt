@@ -5,7 +5,7 @@
 // The stored output comes from tests/pool_cases/make.py.
 use libc::STDIN_FILENO;
 use pool::Checked;
-use pool::Holder;
+use strings::Holder;
 ghost use mathlib.Core.Path.{_≡_};
 ghost use Prim.Native.Nat.{_≤_, _<_};
 ghost use lib.ListN.{length};
@@ -15,14 +15,14 @@ ghost use Rattle.pool.specs.Index.{Ready};
 fn show_string<'a>(d: &'a [u8], field: &'a [u8], starts: &[u32], k: usize, id: &[u8])
     requires { ⌜ Ready (now d) (now starts) × (k < length (stringsOf (now d))) ⌝ }
 {
-    let s = pool::span_by(d, starts, k);
+    let s = strings::span_by(d, starts, k);
     cases::say(b" ");
     cases::say_number(s.at as u64);
     cases::say(b":");
     cases::say_number(s.len as u64);
     cases::say(b":");
-    hex::print(pool::text_of(d, field, starts, Holder::InPool(k)));
-    if pool::has_id(d, starts, k, id) {
+    hex::print(strings::text_of(d, field, starts, Holder::InPool(k)));
+    if strings::has_id(d, starts, k, id) {
         cases::say(b"*");
     }
 }
@@ -55,7 +55,7 @@ fn show_field<'a>(d: &'a [u8], field: &'a [u8], starts: &[u32])
         return;
     }
     cases::say(b" ");
-    hex::print(pool::text_of(d, field, starts, Holder::InField(1, field.len() - 1)));
+    hex::print(strings::text_of(d, field, starts, Holder::InField(1, field.len() - 1)));
 }
 
 fn show_place(p: u32) {

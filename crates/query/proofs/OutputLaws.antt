@@ -9,18 +9,18 @@ use mir.Syntax.{w64}
 use mir.Val.{SFits}
 use borrow.Author.Tests.{le-leb, lt-leb}
 use Rattle.base.proofs.Tests.{by-order}
-use Rattle.questions.specs.Question.{nameOf}
-use Rattle.questions.specs.declared.Found.{Found}
-use Rattle.questions.specs.declared.Answer.{Answer}
-use Rattle.questions.specs.declared.Answer.the-variants.{In, Refused}
+use Rattle.answers.specs.Answers.{nameOf}
+use Rattle.answers.specs.declared.Found.{Found}
+use Rattle.answers.specs.declared.Answer.{Answer}
+use Rattle.answers.specs.declared.Answer.the-variants.{In, Refused}
 use Rattle.lines.specs.Question.{parseLine}
-use Rattle.lines.specs.Reply.{refusalLine}
+use Rattle.answer_lines.specs.Reply.{refusalLine}
 use Rattle.lines.specs.Splitting.{linesInBlocks}
 use Rattle.lines.specs.declared.Line.{Line}
 use Rattle.lines.specs.declared.Line.the-variants.{Unclear}
 use Rattle.lines.proofs.QuestionLaws.{too-long}
-use Rattle.lines.proofs.DecimalLaws.{decimal-short}
-use Rattle.lines.proofs.ReplyLaws.{answer-length, refusal-length, signed-short}
+use Rattle.answer_lines.proofs.DecimalLaws.{decimal-short}
+use Rattle.answer_lines.proofs.ReplyLaws.{answer-length, refusal-length, signed-short}
 use Rattle.lines.proofs.SplitLaws.{lines-in-blocks}
 use Rattle.query.specs.Output.{lineOf, replyTo, replyOf, outputOf}
 

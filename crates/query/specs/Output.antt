@@ -5,12 +5,13 @@ use lib.Dec.{leb}
 use lib.IntN.{ℤ}
 use lib.ListN.{length, take}
 use Rattle.base.specs.Pick.{pick}
-use Rattle.questions.specs.Question.{ask, askPlain, nameOf}
-use Rattle.questions.specs.declared.Mark.the-variants as mark
-use Rattle.questions.specs.declared.Answer.{Answer}
-use Rattle.questions.specs.declared.Answer.the-variants.{In, Refused}
+use Rattle.questions.specs.Question.{ask, askPlain}
+use Rattle.answers.specs.Answers.{nameOf}
+use Rattle.answers.specs.declared.Mark.the-variants as mark
+use Rattle.answers.specs.declared.Answer.{Answer}
+use Rattle.answers.specs.declared.Answer.the-variants.{In, Refused}
 use Rattle.lines.specs.Question.{parseLine}
-use Rattle.lines.specs.Reply.{answerLine, refusalLine}
+use Rattle.answer_lines.specs.Reply.{answerLine, refusalLine}
 use Rattle.lines.specs.Splitting.{linesOf}
 use Rattle.lines.specs.declared.Kind.{Kind}
 use Rattle.lines.specs.declared.Kind.the-variants.{Plain, Part, All}

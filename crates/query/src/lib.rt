@@ -4,12 +4,12 @@ ghost use Prim.Native.Nat.{_≤_};
 ghost use lib.ListN.{length};
 ghost use Rattle.base.specs.Writing.{bytes, wrote, placed};
 ghost use Rattle.query.specs.Output.{replyOf, lineOf, askedBy};
+use answers::Answer;
+use answers::Mark;
 use base::Wrote;
 use lines::Gathered;
 use lines::Kind;
 use lines::Line;
-use questions::Answer;
-use questions::Mark;
 
 // The line that the program writes for a question line, with the file s. It has at most 65,583 bytes: a name of at most 65,536, two
 // numbers of at most 21, and five more.
@@ -18,11 +18,11 @@ pub fn reply(s: &[u8], line: &[u8], out: &mut [u8]) -> Wrote
     ensures { λ r. ⌜ length (replyOf (now (s .entry)) (now (line .entry))) ≤ 65583 ⌝ }
 {
     if 65536 < s.len() {
-        return lines::write_refusal(4, 0, out);
+        return answer_lines::write_refusal(4, 0, out);
     }
     match lines::parse_line(line) {
         Line::Ask(n, t, kind) => write_line(s, ask(s, &line[..n], t, kind), out),
-        Line::Unclear => lines::write_refusal(16, 0, out),
+        Line::Unclear => answer_lines::write_refusal(16, 0, out),
     }
 }
 
@@ -41,13 +41,13 @@ fn write_line(s: &[u8], answer: Answer, out: &mut [u8]) -> Wrote
     ensures { λ r. ⌜ (length (now (s .entry)) ≤ 65536 → length (lineOf (now (s .entry)) answer) ≤ 65583) ⌝ }
 {
     match answer {
-        Answer::In(found) => lines::write_answer(
+        Answer::In(found) => answer_lines::write_answer(
             found.wall,
             found.savings,
-            questions::name_of(s, found),
+            answers::name_of(s, found),
             out,
         ),
-        Answer::Refused(number, place) => lines::write_refusal(number, place as u64, out),
+        Answer::Refused(number, place) => answer_lines::write_refusal(number, place as u64, out),
     }
 }
 

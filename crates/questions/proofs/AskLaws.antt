@@ -1,19 +1,20 @@
 -- The question, by the walk's outcome and the mark. Assumes nothing.
 use mathlib.Core.Path.{_≡_, refl, sym, ap, _∙_}
-use mathlib.Core.List.{List, []}
-use Prim.Native.Nat.{ℕ, _+_, _-_, _≤_, _<_}
-use native.Mathlib.Omega.{arith}
+use mathlib.Core.List.{List}
+use Prim.Native.Nat.{ℕ}
 use lib.IntN.{ℤ}
-use lib.ListN.{length, take, drop}
-use borrow.Author.Tests.{eq-eqb, ne-eqb, le-leb, lt-leb}
+use borrow.Author.Tests.{eq-eqb, ne-eqb}
 use Rattle.signed.specs.Instant.{instantOf}
 use Rattle.frames.specs.Machine.{Out, found, refused, cut, ended, walk}
-use Rattle.questions.specs.Question.{Pool, noPool, question, finish, ask, nameOf}
-use Rattle.questions.specs.View.{outcomeOf, answerOf}
-use Rattle.questions.specs.declared.Mark.{Mark}
-use Rattle.questions.specs.declared.Found.{Found}
-use Rattle.questions.specs.declared.Answer.the-variants.{Refused}
-use Rattle.questions.specs.declared.Outcome.{Outcome}
+use Rattle.answers.specs.Answers.{Pool, noPool}
+use Rattle.walks.specs.Walk.{question}
+use Rattle.questions.specs.Question.{finish, ask}
+use Rattle.walks.specs.View.{outcomeOf}
+use Rattle.answers.specs.Answers.{answerOf}
+use Rattle.answers.specs.declared.Mark.{Mark}
+use Rattle.answers.specs.declared.Found.{Found}
+use Rattle.answers.specs.declared.Answer.the-variants.{Refused}
+use Rattle.answers.specs.declared.Outcome.{Outcome}
 
 finish-is : (mark : Mark) (o : Out Pool Found) → answerOf mark (outcomeOf o) ≡ finish mark o
 finish-is mark (found x p) = refl
@@ -33,13 +34,3 @@ module _ (bs id : List ℕ) (z : ℤ) (mark : Mark) (t : ℕ) (e : t ≡ instant
       ap (answerOf mark) k ∙ finish-is mark (walk (question id t) noPool bs)
       ∙ ap (λ (u : ℕ). finish mark (walk (question id u) noPool bs)) e
       )
-
--- the name
-module _ (bs : List ℕ) (x : Found) where
-  pub name-out : length bs < x .name + x .length → [] ≡ nameOf bs x
-  name-out h = rw (lt-leb (x .name + x .length) (length bs) h)
-
-  pub name-in : x .name + x .length ≤ length bs → take (x .name + x .length - x .name) (drop (x .name) bs) ≡ nameOf bs x
-  name-in h =
-      let e : x .name + x .length - x .name ≡ x .length = omega arith in
-      rw (le-leb (x .name + x .length) (length bs) h, e)

@@ -1,3 +1,1 @@
-pub mod JudgeLaws
-pub mod WalkingLaws
 pub mod AskLaws

@@ -5,11 +5,11 @@ use native.Mathlib.Omega.{arith}
 use Rattle.calendar.proofs.Years.{year-low}
 use Rattle.calendar.proofs.Months.{month-400}
 use Rattle.calendar.proofs.Dates.{day-400}
-use Rattle.recurrence.specs.declared.Rule.{Rule}
-use Rattle.recurrence.specs.Rules.{monthDay, moved, fallsOn, occurrence}
+use Rattle.rules.specs.declared.Rule.{Rule}
+use Rattle.occurrences.specs.Rules.{monthDay, moved, fallsOn, occurrence}
 use Rattle.recurrence.specs.Search.{cycle}
-use Rattle.recurrence.proofs.MoveLaws.{moved-400}
-use Rattle.recurrence.proofs.RuleLaws.{bound, bound-low, falls-low}
+use Rattle.occurrences.proofs.MoveLaws.{moved-400}
+use Rattle.occurrences.proofs.RuleLaws.{bound, bound-low, falls-low}
 
 month-day-400 : (r : Rule) (k : ℕ) → monthDay r (k + 400) ≡ monthDay r k
 unfolding monthDay

@@ -5,13 +5,14 @@ use Prim.Native.Nat.{_+_, _-_, _*_}
 use native.Mathlib.Omega.{arith}
 use Rattle.base.specs.Moment.{epoch}
 use Rattle.calendar.specs.Calendar.{leapDay, monthLength, daysBefore, yearStart, dayNumber, estimate, yearOf}
-use Rattle.recurrence.specs.declared.Rule.{Rule}
+use Rattle.rules.specs.declared.Rule.{Rule}
 use Rattle.recurrence.specs.declared.Tail.{Tail}
-use Rattle.recurrence.specs.Rules.{mostDay, monthDay, onOrAfter, onOrBefore, moved, fallsOn, occurrence, subtracted}
-use Rattle.recurrence.specs.Fields.{byteOk, monthOk, dayOk, timeOk, ruleOf, FieldsOk, sumOk}
+use Rattle.rules.specs.Rules.{mostDay}
+use Rattle.occurrences.specs.Rules.{monthDay, onOrAfter, onOrBefore, moved, fallsOn, occurrence, subtracted}
+use Rattle.rules.specs.Fields.{byteOk, monthOk, dayOk, timeOk, ruleOf, FieldsOk, sumOk}
 use Rattle.recurrence.specs.Search.{searchFrom, yearBefore, lastAt, nextAfter}
 use Rattle.recurrence.specs.Tails.{TailOk, standardIn, daylightIn, lookup}
-use Rattle.recurrence.proofs.FieldLaws.{rule-ok}
+use Rattle.rules.proofs.FieldLaws.{rule-ok}
 
 -- "Rule 1C 03 01 32 (last Sunday of March, 01:00 UTC)": 32 is +01:00, with 86,400,000 added
 abbrev pub lastSundayOfMarch : Rule

@@ -1,6 +1,3 @@
-pub mod FieldLaws
-pub mod MoveLaws
-pub mod RuleLaws
 pub mod CycleLaws
 pub mod SearchLaws
 pub mod LookupLaws

@@ -10,11 +10,11 @@ use Rattle.base.specs.Moment.{Finite, endOfTime}
 use Rattle.recurrence.specs.declared.Tail.{Tail}
 use Rattle.recurrence.specs.declared.Interval.{Interval}
 use Rattle.recurrence.specs.declared.Occurrences.{Occurrences}
-use Rattle.recurrence.specs.Rules.{occurrence, subtracted}
+use Rattle.occurrences.specs.Rules.{occurrence, subtracted}
 use Rattle.recurrence.specs.Search.{nextAfter, lastAt, around}
 use Rattle.recurrence.specs.Tails.{TailOk, wallOf, standardIn, daylightIn, IsLookup, lookup}
-use Rattle.recurrence.proofs.FieldLaws.{sum-range}
-use Rattle.recurrence.proofs.RuleLaws.{subtracted-le}
+use Rattle.rules.proofs.FieldLaws.{sum-range}
+use Rattle.occurrences.proofs.RuleLaws.{subtracted-le}
 use Rattle.recurrence.proofs.SearchLaws.{Yearly, occurrence-yearly, next-after, last-at, next-one, last-one}
 
 module _ (tail : Tail) (ok : TailOk tail) where

@@ -12,11 +12,12 @@ use Rattle.base.specs.Moment.{Finite}
 use Rattle.base.proofs.Tests.{by-order}
 use Rattle.calendar.specs.Calendar.{yearStart, InYear, yearOf}
 use Rattle.calendar.proofs.Years.{year-of, year-next, year-low, year-high}
-use Rattle.recurrence.specs.declared.Rule.{Rule}
+use Rattle.rules.specs.declared.Rule.{Rule}
 use Rattle.recurrence.specs.declared.Occurrences.{Occurrences}
-use Rattle.recurrence.specs.Rules.{RuleOk, occurrence}
+use Rattle.rules.specs.Rules.{RuleOk}
+use Rattle.occurrences.specs.Rules.{occurrence}
 use Rattle.recurrence.specs.Search.{cycle, IsNext, IsLast, searchFrom, yearBefore, nextAfter, lastAt, around}
-use Rattle.recurrence.proofs.RuleLaws.{occurrence-low, occurrence-high, occurrence-rises}
+use Rattle.occurrences.proofs.RuleLaws.{occurrence-low, occurrence-high, occurrence-rises}
 use Rattle.recurrence.proofs.CycleLaws.{occurrence-400}
 
 -- a function of years that rises, is near its year (from 7 days before its start to 8 days after its end), and repeats after 400 years

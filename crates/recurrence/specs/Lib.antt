@@ -1,4 +1,2 @@
-pub mod Rules
-pub mod Fields
 pub mod Search
 pub mod Tails

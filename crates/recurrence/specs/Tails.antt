@@ -7,8 +7,9 @@ use Rattle.base.specs.Pick.{pick}
 use Rattle.base.specs.Moment.{Finite, endOfTime}
 use Rattle.recurrence.specs.declared.Tail.{Tail}
 use Rattle.recurrence.specs.declared.Interval.{Interval}
-use Rattle.recurrence.specs.Rules.{RuleOk, occurrence, subtracted}
-use Rattle.recurrence.specs.Fields.{sumOk}
+use Rattle.rules.specs.Rules.{RuleOk}
+use Rattle.occurrences.specs.Rules.{occurrence, subtracted}
+use Rattle.rules.specs.Fields.{sumOk}
 use Rattle.recurrence.specs.Search.{IsNext, IsLast, nextAfter, lastAt}
 
 -- a tail's ranges: a finite start, offsets inside 24 hours, both rules in theirs

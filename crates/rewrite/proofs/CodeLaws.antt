@@ -18,7 +18,7 @@ use Rattle.offsets.specs.Offset.{readSum, writeSum}
 use Rattle.offsets.proofs.OffsetLaws.{sum-read, sum-form, sum-written}
 use Rattle.transitions.specs.Transition.{readMoment, writeMoment}
 use Rattle.transitions.proofs.MomentLaws.{moment-read, moment-written, Preferred, Longer, renewed, never-longer}
-use Rattle.contents.specs.Content.{upTo}
+use Rattle.pieces.specs.Content.{upTo}
 
 -- what p read from the front of s before r, as a, and that it reads the same in front of any bytes
 pub record Front {A : Type 0} (p : List ℕ → Parsed A) (s : List ℕ) (a : A) (r : List ℕ) : Type 0 where

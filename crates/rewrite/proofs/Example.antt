@@ -15,7 +15,7 @@ use Rattle.base.proofs.Tests.{both-left, both-right}
 use Rattle.signed.specs.Instant.{biasedOf}
 use Rattle.counts.specs.Groups.{readGroups, writeGroups}
 use Rattle.counts.specs.Fixed.{fixedFrom, fixedBytes}
-use Rattle.texts.specs.Utf8.{chars}
+use Rattle.utf8.specs.Utf8.{chars}
 use Rattle.texts.specs.Text.{sized as textSized}
 use Rattle.offsets.specs.Offset.{readSum}
 use Rattle.transitions.specs.Transition.{readMoment, fromCount, unitsTo, writeMoment}
@@ -28,10 +28,10 @@ use Rattle.zones.specs.Parse.{zoneOf, afterTailByte, afterEnd, afterIntervals, 
 use Rattle.frames.specs.Frame.{order, zeros, version, sized, field, frame}
 use Rattle.frames.specs.Fields.{scan, listing}
 use Rattle.frames.specs.Machine.{act, step, walk}
-use Rattle.contents.specs.Content.{parseWall, pieceEnd, afterMoment, parsePiece, parsePieces, afterCount as pastCount, afterFlag as pastFlag}
-use Rattle.contents.specs.Content.{afterId as pastId, parseHead, afterHead, parseContent, contentOf, printPieces, print}
-use Rattle.checks.specs.Check.{poolKept, newId, zoneKept, textKept, contentOf as judged, concluded, conclusion, WellFormed}
-use Rattle.checks.proofs.WellFormedLaws.{good-well-formed}
+use Rattle.pieces.specs.Content.{parseWall, pieceEnd, afterMoment, parsePiece, parsePieces, afterCount as pastCount, afterFlag as pastFlag}
+use Rattle.pieces.specs.Content.{afterId as pastId, parseHead, afterHead, parseContent, contentOf, printPieces, print}
+use Rattle.field_checks.specs.Check.{poolKept, newId, zoneKept, textKept, contentOf as judged, concluded, conclusion, WellFormed}
+use Rattle.field_checks.proofs.WellFormedLaws.{good-well-formed}
 use Rattle.rewrite.specs.Preferred.{contents, content, printField, printFields, printFile, preferred}
 
 -- 00 00 00 00; 00 05 01 03 55 54 43; field 1, of 40 bytes: 00 02 04, start of time, 1970-01-01T00:00Z by ticks, 4,344 hours later by

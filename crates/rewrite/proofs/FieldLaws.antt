@@ -14,10 +14,10 @@ use Rattle.counts.specs.Count.{readCount, writeCount}
 use Rattle.counts.proofs.CountLaws.{counted}
 use Rattle.frames.specs.Fields.{FieldOf}
 use Rattle.frames.specs.Frame.{Field}
-use Rattle.contents.specs.Content.{contentOf, print}
-use Rattle.contents.specs.View.{HasContent, Put}
-use Rattle.contents.proofs.HeadLaws.{print-same, print-zone}
-use Rattle.contents.proofs.PutLaws.{InTwo}
+use Rattle.pieces.specs.Content.{contentOf, print}
+use Rattle.pieces.specs.View.{HasContent, Put}
+use Rattle.pieces.proofs.HeadLaws.{print-same, print-zone}
+use Rattle.pieces.proofs.PutLaws.{InTwo}
 use Rattle.rewrite.specs.Preferred.{printField}
 use Rattle.rewrite.specs.View.{IsField, fieldWith}
 use Rattle.rewrite.specs.declared.Extent.{Extent}

@@ -15,7 +15,7 @@ use Rattle.transitions.specs.Transition.{readMoment, writeMoment}
 use Rattle.places.specs.Name.{judgeName, parseName}
 use Rattle.intervals.specs.Interval.{intervalOf, afterWall, afterName, parseDetails, rises, afterStart, parseInterval, startOf}
 use Rattle.intervals.specs.declared.Interval.{Interval}
-use Rattle.contents.specs.Content.{Piece, upTo, parseWall, pieceEnd, afterMoment, parsePiece, parsePieces, printPieces}
+use Rattle.pieces.specs.Content.{Piece, upTo, parseWall, pieceEnd, afterMoment, parsePiece, parsePieces, printPieces}
 use Rattle.rewrite.proofs.CodeLaws.{Front, count-front, sum-front, Renewed, moment-renewed, up-to-front}
 
 -- a pool number that was read

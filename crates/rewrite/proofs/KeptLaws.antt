@@ -14,8 +14,8 @@ use Rattle.zones.specs.Content.{Zone}
 use Rattle.zones.specs.Parse.{parseZone}
 use Rattle.frames.specs.Fields.{FieldOf}
 use Rattle.frames.specs.Frame.{Field}
-use Rattle.contents.specs.Content.{contentOf, print}
-use Rattle.contents.proofs.HeadLaws.{print-other}
+use Rattle.pieces.specs.Content.{contentOf, print}
+use Rattle.pieces.proofs.HeadLaws.{print-other}
 use Rattle.rewrite.proofs.ZoneLaws.{zone-kept}
 
 -- the preferred data of the data d of a field with the ID i

@@ -27,9 +27,9 @@ use Rattle.base.proofs.AllLaws.{all-head, all-tail}
 use Rattle.frames.proofs.ChainLaws.{Chain, listing-chain, chain-first, chain-fields}
 use Rattle.frames.proofs.PassLaws.{pass-head}
 use Rattle.frames.proofs.PartLaws.{walk-ended}
-use Rattle.checks.specs.Check.{placed, Memory, start, withPool, withId, withText, poolIn, poolKept, newId, zoneIn, zoneKept}
-use Rattle.checks.specs.Check.{textIn, textKept, contentOf as judged, job, WellFormed, filePool}
-use Rattle.checks.proofs.ZoneIdLaws.{field-grows, first-pool}
+use Rattle.field_checks.specs.Check.{placed, Memory, start, withPool, withId, withText, poolIn, poolKept, newId, zoneIn, zoneKept}
+use Rattle.field_checks.specs.Check.{textIn, textKept, contentOf as judged, job, WellFormed, filePool}
+use Rattle.field_checks.proofs.ZoneIdLaws.{field-grows, first-pool}
 use Rattle.rewrite.proofs.KeptLaws.{preferredData, FieldKept, IsZone, field-kept, field-bytes}
 use Rattle.rewrite.proofs.MovedLaws.{movedTo, moved}
 

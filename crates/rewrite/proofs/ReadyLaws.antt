@@ -16,12 +16,12 @@ use Rattle.base.proofs.AllLaws.{all-head, all-tail}
 use Rattle.frames.proofs.HeadLaws.{version-place}
 use Rattle.frames.proofs.ChainLaws.{Chain, listing-chain, chain-fields}
 use Rattle.frames.proofs.PartLaws.{walk-ended}
-use Rattle.checks.specs.Check.{start, job, WellFormed, filePool, checkOf}
-use Rattle.checks.specs.declared.Verdict.{Verdict}
-use Rattle.checks.specs.declared.Verdict.the-variants.{Good, Refused as Ill}
-use Rattle.contents.specs.Content.{contentOf}
-use Rattle.contents.specs.View.{HasContent, Put}
-use Rattle.contents.proofs.PutLaws.{InTwo}
+use Rattle.field_checks.specs.Check.{start, job, WellFormed, filePool, checkOf}
+use Rattle.field_checks.specs.declared.Verdict.{Verdict}
+use Rattle.field_checks.specs.declared.Verdict.the-variants.{Good, Refused as Ill}
+use Rattle.pieces.specs.Content.{contentOf}
+use Rattle.pieces.specs.View.{HasContent, Put}
+use Rattle.pieces.proofs.PutLaws.{InTwo}
 use Rattle.rewrite.specs.Preferred.{contents, content, printField, printFields, printFile, preferred, rewriteOf, outputOf}
 use Rattle.rewrite.specs.declared.Rewritten.the-variants.{Length, Refused as Unwritten}
 use Rattle.rewrite.specs.View.{Covers, Readable, Ready, IsField, fieldWith, partOf}

@@ -12,7 +12,7 @@ use Rattle.frames.specs.Fields.{endAt, listing, fields, over}
 use Rattle.frames.proofs.ChainLaws.{Chain, listing-chain}
 use Rattle.frames.proofs.PartLaws.{walk-ended}
 use Rattle.frames.proofs.WalkLaws.{walk-pass}
-use Rattle.checks.specs.Check.{start, job, WellFormed}
+use Rattle.field_checks.specs.Check.{start, job, WellFormed}
 use Rattle.rewrite.specs.Preferred.{contents, content, preferred, printFile}
 use Rattle.rewrite.proofs.MovedLaws.{moved, preferred-listing, moved-contents, preferred-within}
 use Rattle.rewrite.proofs.PassMovedLaws.{fields-kept, pass-moved}

@@ -20,8 +20,8 @@ use Rattle.intervals.specs.declared.Interval.{Interval}
 use Rattle.zones.specs.Content.{Zone}
 use Rattle.zones.specs.Parse.{parseZone, afterId, afterFlag, afterCount, parseFixed, parseListed, afterIntervals, afterEnd}
 use Rattle.zones.proofs.SoundLaws.{zone-sound}
-use Rattle.contents.specs.Content.{Piece, Content, plain, upTo, parseHead, afterHead, parseContent, contentOf, parsePieces, printPieces, print}
-use Rattle.contents.specs.Content.{afterId as afterName, afterFlag as behindFlag, afterCount as behindCount}
+use Rattle.pieces.specs.Content.{Piece, Content, plain, upTo, parseHead, afterHead, parseContent, contentOf, parsePieces, printPieces, print}
+use Rattle.pieces.specs.Content.{afterId as afterName, afterFlag as behindFlag, afterCount as behindCount}
 use Rattle.rewrite.proofs.CodeLaws.{Front, count-front, byte-front, up-to-front}
 use Rattle.rewrite.proofs.IntervalsLaws.{NameFront, name-front, list-kept}
 

@@ -13,7 +13,7 @@ use Rattle.frames.specs.Frame.{Field}
 use Rattle.base.specs.All.{All, all-none, all-also}
 use Rattle.base.proofs.AllLaws.{all-head, all-tail}
 use Rattle.frames.proofs.ChainLaws.{Chain, chain-first}
-use Rattle.checks.specs.Check.{filePool, HasId}
+use Rattle.field_checks.specs.Check.{filePool, HasId}
 use Rattle.rewrite.proofs.KeptLaws.{preferredData, FieldKept}
 use Rattle.rewrite.proofs.MovedLaws.{movedTo, moved}
 use Rattle.rewrite.proofs.PassMovedLaws.{Read}

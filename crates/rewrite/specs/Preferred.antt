@@ -7,10 +7,10 @@ use Rattle.base.specs.Pick.{pick}
 use Rattle.counts.specs.Count.{writeCount}
 use Rattle.frames.specs.Frame.{Field}
 use Rattle.frames.specs.Fields.{fields}
-use Rattle.contents.specs.Content.{Content, contentOf, print}
-use Rattle.checks.specs.Check.{checkOf}
-use Rattle.checks.specs.declared.Verdict.{Verdict}
-use Rattle.checks.specs.declared.Verdict.the-variants.{Good, Refused as Ill}
+use Rattle.pieces.specs.Content.{Content, contentOf, print}
+use Rattle.field_checks.specs.Check.{checkOf}
+use Rattle.field_checks.specs.declared.Verdict.{Verdict}
+use Rattle.field_checks.specs.declared.Verdict.the-variants.{Good, Refused as Ill}
 use Rattle.rewrite.specs.declared.Rewritten.{Rewritten}
 use Rattle.rewrite.specs.declared.Rewritten.the-variants.{Length, Refused}
 

@@ -6,8 +6,8 @@ use lib.ListN.{length, take, drop}
 use Rattle.frames.specs.Frame.{Field}
 use Rattle.frames.specs.Fields.{FieldOf, fields}
 use Rattle.base.specs.All.{All}
-use Rattle.contents.specs.Content.{contentOf}
-use Rattle.contents.specs.View.{HasContent}
+use Rattle.pieces.specs.Content.{contentOf}
+use Rattle.pieces.specs.View.{HasContent}
 use Rattle.rewrite.specs.Preferred.{FieldContent, preferred}
 use Rattle.rewrite.specs.declared.Extent.{Extent}
 

@@ -2,14 +2,14 @@
 // lent the output from the present place on.
 use base::Read;
 use base::Wrote;
-use checks::Verdict;
+use field_checks::Verdict;
 ghost use mathlib.Core.Path.{_≡_};
 ghost use mathlib.Core.List.{[], _∷_, _++_};
 ghost use Prim.Native.Nat.{_≤_, _<_};
 ghost use lib.ListN.{length};
 ghost use lib.Dec.{leb};
 ghost use Rattle.counts.specs.Count.{writeCount};
-ghost use Rattle.contents.specs.View.{HasContent, Put};
+ghost use Rattle.pieces.specs.View.{HasContent, Put};
 ghost use Rattle.rewrite.specs.Preferred.{content, printField, printFields, preferred, rewriteOf, outputOf};
 ghost use Rattle.rewrite.specs.View.{Ready, IsField, fieldWith};
 

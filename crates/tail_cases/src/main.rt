@@ -6,7 +6,7 @@ ghost use mathlib.Core.Path.{_≡_};
 ghost use mathlib.Core.Bool.{true};
 ghost use Prim.Native.Nat.{_<_};
 ghost use Rattle.base.specs.Moment.{Finite};
-ghost use Rattle.recurrence.specs.Fields.{FieldsOk};
+ghost use Rattle.rules.specs.Fields.{FieldsOk};
 use libc::STDIN_FILENO;
 use recurrence::Interval;
 use recurrence::Tail;
@@ -63,16 +63,16 @@ fn read_question(line: &[u8]) -> Question {
 fn rule_ok(f: Fields) -> bool
     ensures { λ r. ⌜ (r ≡ true → FieldsOk (f .byte) (f .month) (f .day) (f .time)) ⌝ }
 {
-    if !recurrence::rule_byte_ok(f.byte) {
+    if !rules::rule_byte_ok(f.byte) {
         return false;
     }
-    if !recurrence::month_ok(f.month) {
+    if !rules::month_ok(f.month) {
         return false;
     }
-    if !recurrence::day_ok(f.month, f.day) {
+    if !rules::day_ok(f.month, f.day) {
         return false;
     }
-    recurrence::time_ok(f.time)
+    rules::time_ok(f.time)
 }
 
 fn is_finite(t: u64) -> bool
@@ -100,7 +100,7 @@ fn answer(q: Question) -> Reply {
     if !rule_ok(d) {
         return Reply::Refused(11);
     }
-    if !recurrence::sum_ok(q.offset, q.savings) {
+    if !rules::sum_ok(q.offset, q.savings) {
         return Reply::Refused(11);
     }
     if !is_finite(q.start) {
@@ -113,8 +113,8 @@ fn answer(q: Question) -> Reply {
         start: q.start,
         offset: q.offset,
         savings: q.savings,
-        standard: recurrence::rule_of(s.byte, s.month, s.day, s.time),
-        daylight: recurrence::rule_of(d.byte, d.month, d.day, d.time),
+        standard: rules::rule_of(s.byte, s.month, s.day, s.time),
+        daylight: rules::rule_of(d.byte, d.month, d.day, d.time),
     };
     Reply::In(recurrence::look_up(tail, q.instant))
 }

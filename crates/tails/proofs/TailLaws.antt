@@ -8,10 +8,10 @@ use Rattle.base.specs.Moment.{Finite}
 use Rattle.base.proofs.ParseLaws.{bind-good, pick-good}
 use Rattle.counts.specs.Count.{readCount}
 use Rattle.offsets.specs.Offset.{readSum}
-use Rattle.recurrence.specs.declared.Rule.{Rule}
-use Rattle.recurrence.specs.Rules.{RuleOk}
-use Rattle.recurrence.specs.Fields.{byteOk, monthOk, dayOk, timeOk, ruleOf, sumOk}
-use Rattle.recurrence.proofs.FieldLaws.{rule-ok}
+use Rattle.rules.specs.declared.Rule.{Rule}
+use Rattle.rules.specs.Rules.{RuleOk}
+use Rattle.rules.specs.Fields.{byteOk, monthOk, dayOk, timeOk, ruleOf, sumOk}
+use Rattle.rules.proofs.FieldLaws.{rule-ok}
 use Rattle.places.specs.Placed.{Placed, at, Stands}
 use Rattle.places.specs.Name.{readZigzag, parseName}
 use Rattle.places.proofs.ValueLaws.{sum-high, name-ok}

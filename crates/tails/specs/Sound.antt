@@ -1,7 +1,7 @@
 -- The ranges of what a tail says. Assumes nothing: these are definitions.
 use Prim.Native.Nat.{ℕ, _≤_, _<_}
 use mathlib.Core.Path.{_≡_}
-use Rattle.recurrence.specs.Rules.{RuleOk}
+use Rattle.rules.specs.Rules.{RuleOk}
 use Rattle.recurrence.specs.Tails.{TailOk}
 use Rattle.tails.specs.declared.Standard.{Standard}
 use Rattle.tails.specs.declared.NamedTail.{NamedTail}

@@ -6,8 +6,8 @@ use Rattle.base.specs.Parsed.{Parsed, got, bad, bind, parse, parseByte}
 use Rattle.counts.specs.Count.{readCount}
 use Rattle.offsets.specs.Offset.{readSum}
 use Rattle.places.specs.Name.{readZigzag, parseName}
-use Rattle.recurrence.specs.declared.Rule.{Rule}
-use Rattle.recurrence.specs.Fields.{byteOk, monthOk, dayOk, timeOk, ruleOf, sumOk}
+use Rattle.rules.specs.declared.Rule.{Rule}
+use Rattle.rules.specs.Fields.{byteOk, monthOk, dayOk, timeOk, ruleOf, sumOk}
 use Rattle.tails.specs.declared.Standard.{Standard}
 use Rattle.tails.specs.declared.NamedTail.{NamedTail}
 

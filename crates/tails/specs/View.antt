@@ -1,6 +1,6 @@
 -- The results of the tail's readers. Assumes nothing: these are definitions.
 use Rattle.places.specs.Placed.{Placed, at, no}
-use Rattle.recurrence.specs.declared.Rule.{Rule}
+use Rattle.rules.specs.declared.Rule.{Rule}
 use Rattle.tails.specs.declared.Standard.{Standard}
 use Rattle.tails.specs.declared.NamedTail.{NamedTail}
 use Rattle.tails.specs.declared.RuleRead.{RuleRead}

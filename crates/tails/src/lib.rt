@@ -1,12 +1,12 @@
 // The tail of a zone: two yearly rules and their names.
 use base::Read;
-use recurrence::Rule;
 use recurrence::Tail;
+use rules::Rule;
 ghost use mathlib.Core.Path.{_≡_};
 ghost use mathlib.Core.Bool.{true};
 ghost use Prim.Native.Nat.{_≤_};
 ghost use lib.ListN.{length, drop};
-ghost use Rattle.recurrence.specs.Fields.{monthOk};
+ghost use Rattle.rules.specs.Fields.{monthOk};
 ghost use Rattle.places.specs.Placed.{Stands};
 ghost use Rattle.tails.specs.Tail.{parseTime, parseDay, parseMonth, parseRule, parseStandard, parseSavings, parseDaylight, parseTail};
 ghost use Rattle.tails.specs.View.{ofRule, ofStandard, ofTail};
@@ -49,8 +49,8 @@ fn read_time(s: &[u8], at: usize, b: u64, m: u64, z: u64) -> RuleRead
     match places::sum_at(s, at) {
         Read::Refused(k) => RuleRead::Refused(k),
         Read::Value(time, e) => {
-            if recurrence::time_ok(time) {
-                return RuleRead::Got(recurrence::rule_of(b, m, z, time), e);
+            if rules::time_ok(time) {
+                return RuleRead::Got(rules::rule_of(b, m, z, time), e);
             }
             RuleRead::Refused(11)
         }
@@ -64,7 +64,7 @@ fn read_day(s: &[u8], at: usize, b: u64, m: u64) -> RuleRead
     match places::zigzag_at(s, at) {
         Read::Refused(k) => RuleRead::Refused(k),
         Read::Value(z, e) => {
-            if recurrence::day_ok(m, z) {
+            if rules::day_ok(m, z) {
                 return read_time(s, e, b, m, z);
             }
             RuleRead::Refused(11)
@@ -79,7 +79,7 @@ fn read_month(s: &[u8], at: usize, b: u64) -> RuleRead
     match places::count_at(s, at) {
         Read::Refused(k) => RuleRead::Refused(k),
         Read::Value(m, e) => {
-            if recurrence::month_ok(m) {
+            if rules::month_ok(m) {
                 return read_day(s, e, b, m);
             }
             RuleRead::Refused(11)
@@ -94,7 +94,7 @@ fn read_rule(s: &[u8], at: usize) -> RuleRead
     match places::byte_at(s, at) {
         Read::Refused(k) => RuleRead::Refused(k),
         Read::Value(b, e) => {
-            if recurrence::rule_byte_ok(b) {
+            if rules::rule_byte_ok(b) {
                 return read_month(s, e, b);
             }
             RuleRead::Refused(11)
@@ -134,7 +134,7 @@ fn read_savings(s: &[u8], at: usize, x: Standard, n: u64, rule: Rule) -> TailRea
         Read::Refused(k) => TailRead::Refused(k),
         Read::Value(savings, e) => {
             let offset = x.offset;
-            if recurrence::sum_ok(offset, savings) {
+            if rules::sum_ok(offset, savings) {
                 let first = x.rule;
                 return TailRead::Got(
                     NamedTail {

@@ -6,7 +6,7 @@ use libc::STDIN_FILENO;
 use texts::Text;
 
 fn run_utf8(s: &[u8]) {
-    if texts::is_utf8(s) {
+    if utf8::is_utf8(s) {
         cases::say(b"yes");
         return;
     }

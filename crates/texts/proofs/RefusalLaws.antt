@@ -12,7 +12,7 @@ use Rattle.base.specs.declared.Read.{Read}
 use Rattle.base.specs.declared.Read.the-variants.{Value, Refused as Unread}
 use Rattle.counts.specs.Count.{readCount}
 use Rattle.counts.proofs.CountLaws.{count-refused}
-use Rattle.texts.specs.Utf8.{utf8}
+use Rattle.utf8.specs.Utf8.{utf8}
 use Rattle.texts.specs.Text.{sized, readText}
 use Rattle.texts.specs.declared.Text.the-variants.{Part, Refused}
 

@@ -10,13 +10,12 @@ use lib.Seq.{take-append-seam, drop-append-seam, drop-drop, length-take-le}
 use lib.Dec.{ltb}
 use borrow.Author.Tests.{lt-ltb, le-ltb, ltb-false}
 use Rattle.base.specs.Pick.{pick}
-use Rattle.base.specs.Writing.{bytes}
 use Rattle.base.specs.declared.Read.{Read}
 use Rattle.base.specs.declared.Read.the-variants.{Value, Refused as Unread}
 use Rattle.base.proofs.Parts.{Bytes}
 use Rattle.counts.specs.Count.{readCount, writeCount}
 use Rattle.counts.proofs.CountLaws.{counted, count-written, count-form}
-use Rattle.texts.specs.Utf8.{utf8}
+use Rattle.utf8.specs.Utf8.{utf8}
 use Rattle.texts.specs.Text.{sized, readText, partOf, textBytes, writeText}
 use Rattle.texts.specs.declared.Text.{Text}
 use Rattle.texts.specs.declared.Text.the-variants.{Part, Refused}

@@ -14,7 +14,7 @@ use Rattle.base.specs.declared.Wrote.the-variants.{Length, Refused}
 use Rattle.base.proofs.Parts.{part-from, put-from}
 use Rattle.base.proofs.WriteLaws.{Writes, no-room, not-carried}
 use Rattle.counts.specs.Count.{writeCount, countForm}
-use Rattle.texts.specs.Utf8.{utf8}
+use Rattle.utf8.specs.Utf8.{utf8}
 use Rattle.texts.specs.Text.{writeText, textForm}
 
 module _ (t d : List ℕ) (a : ℕ) (l : length t ≤ 1024) (e : a ≡ length (writeCount (length t))) where

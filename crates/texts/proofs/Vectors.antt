@@ -4,8 +4,8 @@ use mathlib.Core.List.{[], _∷_, map}
 use mathlib.Core.Bool.{true, false}
 use Rattle.base.specs.Writing.{bytes}
 use Rattle.counts.specs.Groups.{readGroups, writeGroups}
-use Rattle.texts.specs.Utf8.{chars, utf8}
-use Rattle.texts.specs.CodePoints.{encode}
+use Rattle.utf8.specs.Utf8.{chars, utf8}
+use Rattle.utf8.specs.CodePoints.{encode}
 use Rattle.texts.specs.Text.{sized, readText, textBytes, textForm}
 use Rattle.texts.specs.declared.Text.the-variants.{Part, Refused}
 

@@ -1,4 +1,1 @@
-pub mod Utf8
-pub mod CodePoints
-pub mod Ascii
 pub mod Text

@@ -10,7 +10,7 @@ use Rattle.base.specs.Writing.{Form, bytes, unfit}
 use Rattle.base.specs.declared.Read.{Read}
 use Rattle.base.specs.declared.Read.the-variants.{Value, Refused as Unread}
 use Rattle.counts.specs.Count.{readCount, writeCount}
-use Rattle.texts.specs.Utf8.{utf8}
+use Rattle.utf8.specs.Utf8.{utf8}
 use Rattle.texts.specs.declared.Text.{Text}
 use Rattle.texts.specs.declared.Text.the-variants.{Part, Refused}
 

@@ -11,7 +11,7 @@ use Rattle.base.specs.Parsed.{Parsed, got, bad}
 use Rattle.base.specs.Moment.{Finite}
 use Rattle.base.proofs.Tests.{pick-holds}
 use Rattle.recurrence.specs.Tails.{wallOf, lookup}
-use Rattle.recurrence.proofs.FieldLaws.{sum-range}
+use Rattle.rules.proofs.FieldLaws.{sum-range}
 use Rattle.intervals.specs.declared.Interval.{Interval}
 use Rattle.intervals.specs.Sound.{Ranged, Later}
 use Rattle.tails.specs.declared.NamedTail.{NamedTail}

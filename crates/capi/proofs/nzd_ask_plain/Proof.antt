@@ -3,11 +3,12 @@ use native.Mathlib.Omega.{arith}
 use denote.Ref.{now}
 use mir.Facts.{toZ-ofZ}
 use Rattle.questions.specs.Question.{askPlain}
-use Rattle.capi.specs.Small.{SmallAnswer, SmallReply}
+use Rattle.replies.specs.Small.{SmallReply}
+use Rattle.capi.specs.Small.{SmallAnswer}
 use Rattle.capi.specs.Functions.{answerReply}
 use Rattle.capi.proofs.SmallLaws.{ask-small}
 use Rattle.capi.proofs.PlaceLaws.{ask-near}
-use Rattle.capi.proofs.ReplyLaws.{gives-as}
+use Rattle.replies.proofs.ReplyLaws.{gives-as}
 use borrow.Author.Needs.{needs}
 use Rattle.capi.proofs.nzd_ask_plain.Statement.{statement}
 use Rattle.capi.proofs.nzd_ask_plain.Tie as tie

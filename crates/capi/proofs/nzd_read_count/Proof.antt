@@ -1,8 +1,8 @@
 use mathlib.Core.Path.{ap, _∙_, subst⁻¹}
-use Rattle.capi.specs.Small.{SmallReply}
-use Rattle.capi.specs.Functions.{readReply}
+use Rattle.replies.specs.Small.{SmallReply}
+use Rattle.replies.specs.Functions.{readReply}
 use Rattle.capi.proofs.SmallLaws.{count-small}
-use Rattle.capi.proofs.ReplyLaws.{gives-as, read-room}
+use Rattle.replies.proofs.ReplyLaws.{gives-as, read-room}
 use borrow.Author.Needs.{needs}
 use Rattle.capi.proofs.nzd_read_count.Statement.{statement}
 use Rattle.capi.proofs.nzd_read_count.Tie as tie

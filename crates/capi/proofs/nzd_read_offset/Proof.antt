@@ -1,8 +1,8 @@
 use mathlib.Core.Path.{ap, _∙_, subst⁻¹}
-use Rattle.capi.specs.Small.{SmallReply}
-use Rattle.capi.specs.Functions.{numberReply}
+use Rattle.replies.specs.Small.{SmallReply}
+use Rattle.replies.specs.Functions.{numberReply}
 use Rattle.capi.proofs.SmallLaws.{offset-small}
-use Rattle.capi.proofs.ReplyLaws.{gives-as, number-room}
+use Rattle.replies.proofs.ReplyLaws.{gives-as, number-room}
 use borrow.Author.Needs.{needs}
 use Rattle.capi.proofs.nzd_read_offset.Statement.{statement}
 use Rattle.capi.proofs.nzd_read_offset.Tie as tie

@@ -1,8 +1,8 @@
 use mathlib.Core.Path.{ap, _∙_, subst⁻¹}
-use Rattle.capi.specs.Small.{SmallReply}
-use Rattle.capi.specs.Functions.{textReply}
+use Rattle.replies.specs.Small.{SmallReply}
+use Rattle.replies.specs.Functions.{textReply}
 use Rattle.capi.proofs.SmallLaws.{text-small}
-use Rattle.capi.proofs.ReplyLaws.{gives-as, text-room}
+use Rattle.replies.proofs.ReplyLaws.{gives-as, text-room}
 use borrow.Author.Needs.{needs}
 use Rattle.capi.proofs.nzd_read_text.Statement.{statement}
 use Rattle.capi.proofs.nzd_read_text.Tie as tie

@@ -2,10 +2,10 @@ use mathlib.Core.Path.{_≡_, ap, _∙_, subst⁻¹}
 use denote.Ref.{now}
 use mir.Facts.{toZ-ofZ}
 use Rattle.transitions.specs.Transition.{readMoment}
-use Rattle.capi.specs.Small.{SmallReply}
-use Rattle.capi.specs.Functions.{previousOf, momentReply}
+use Rattle.replies.specs.Small.{SmallReply}
+use Rattle.replies.specs.Functions.{previousOf, momentReply}
 use Rattle.capi.proofs.SmallLaws.{moment-small}
-use Rattle.capi.proofs.ReplyLaws.{gives-as, moment-room}
+use Rattle.replies.proofs.ReplyLaws.{gives-as, moment-room}
 use borrow.Author.Needs.{needs}
 use Rattle.capi.proofs.nzd_read_transition.Statement.{statement}
 use Rattle.capi.proofs.nzd_read_transition.Tie as tie

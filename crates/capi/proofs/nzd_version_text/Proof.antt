@@ -1,10 +1,10 @@
 use mathlib.Core.Path.{ap, _∙_, subst⁻¹}
 use native.Mathlib.Omega.{arith}
-use Rattle.capi.specs.Small.{SmallReply}
+use Rattle.replies.specs.Small.{SmallReply}
 use Rattle.capi.specs.Functions.{versionReply}
 use Rattle.capi.proofs.SmallLaws.{version-small}
 use Rattle.capi.proofs.PlaceLaws.{version-near}
-use Rattle.capi.proofs.ReplyLaws.{gives-as}
+use Rattle.replies.proofs.ReplyLaws.{gives-as}
 use borrow.Author.Needs.{needs}
 use Rattle.capi.proofs.nzd_version_text.Statement.{statement}
 use Rattle.capi.proofs.nzd_version_text.Tie as tie

@@ -2,7 +2,8 @@ use mathlib.Core.Path.{_≡_}
 use denote.Ref.{now}
 use mir.Facts.{toZ-ofZ}
 use Rattle.base.proofs.WriteLaws.{Writes}
-use Rattle.capi.specs.Functions.{previousOf, momentOf, kindForm}
+use Rattle.replies.specs.Functions.{previousOf, momentOf}
+use Rattle.capi.specs.Functions.{kindForm}
 use Rattle.capi.proofs.FormLaws.{moment-form}
 use Rattle.capi.proofs.PutLaws.{puts, result-small}
 use borrow.Author.Needs.{needs}

@@ -1,7 +1,7 @@
 use mathlib.Core.List.{[]}
 use native.Mathlib.Omega.{arith}
 use denote.Ref.{now}
-use Rattle.checks.proofs.StepLaws.{step-end, step-cut, step-refused, step-version, field-fits, step-bad, step-keep}
+use Rattle.field_checks.proofs.StepLaws.{step-end, step-cut, step-refused, step-version, field-fits, step-bad, step-keep}
 use borrow.Author.Needs.{needs}
 use Rattle.checks.proofs.step.Statement.{statement}
 use Rattle.checks.proofs.step.Tie as tie

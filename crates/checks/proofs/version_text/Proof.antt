@@ -1,5 +1,5 @@
 use mathlib.Core.Path.{sym, ap, _∙_}
-use Rattle.checks.specs.Check.{textGiven}
+use Rattle.field_checks.specs.Check.{textGiven}
 use borrow.Author.Needs.{needs}
 use Rattle.checks.proofs.version_text.Statement.{statement}
 use Rattle.checks.proofs.version_text.Tie as tie

@@ -1,7 +1,7 @@
 use Prim.Native.Nat.{_-_}
 use lib.ListN.{length}
 use borrow.Author.Needs.{needs}
-use Rattle.checks.proofs.StepLaws.{Walking, walking-start, walking-done, walking-next, walking-less}
+use Rattle.field_checks.proofs.StepLaws.{Walking, walking-start, walking-done, walking-next, walking-less}
 use Rattle.checks.proofs.walk.Statement.{statement}
 use Rattle.checks.proofs.walk.Tie as tie
 

@@ -1,7 +1,7 @@
 use mathlib.Core.Path.{sym, ap}
 use lib.ListN.{length}
 use borrow.Author.Tests.{eq-eqb}
-use Rattle.contents.proofs.HeadLaws.{print-other}
+use Rattle.pieces.proofs.HeadLaws.{print-other}
 use Rattle.contents.proofs.is_preferred.Statement.{statement}
 use Rattle.contents.proofs.is_preferred.Tie as tie
 

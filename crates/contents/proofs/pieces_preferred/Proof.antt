@@ -5,9 +5,9 @@ use native.Mathlib.Omega.{arith}
 use Rattle.base.proofs.Parts.{Bytes}
 use Rattle.places.specs.Placed.{ofRead}
 use Rattle.places.proofs.PlaceLaws.{stands-is, then-in}
-use Rattle.contents.specs.View.{PieceAt}
-use Rattle.contents.proofs.GoingLaws.{going-bad, going-piece, going-forward}
-use Rattle.contents.proofs.PreferredLaws.{Same, same-start, same-next, same-short, same-not, same-done}
+use Rattle.pieces.specs.View.{PieceAt}
+use Rattle.pieces.proofs.GoingLaws.{going-bad, going-piece, going-forward}
+use Rattle.pieces.proofs.PreferredLaws.{Same, same-start, same-next, same-short, same-not, same-done}
 use borrow.Author.Needs.{needs}
 use Rattle.contents.proofs.pieces_preferred.Statement.{statement}
 use Rattle.contents.proofs.pieces_preferred.Tie as tie

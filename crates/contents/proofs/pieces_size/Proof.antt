@@ -9,9 +9,9 @@ use Rattle.base.proofs.Parts.{Bytes}
 use Rattle.transitions.specs.Transition.{writeMoment}
 use Rattle.places.specs.Placed.{ofRead}
 use Rattle.places.proofs.PlaceLaws.{stands-is, then-in}
-use Rattle.contents.specs.Content.{printPieces}
-use Rattle.contents.specs.View.{PieceAt, piecesAt}
-use Rattle.contents.proofs.GoingLaws.{Going, printed, at-start, going-start, going-bad, going-piece, going-next, going-done, going-forward, going-short, going-sum, printed-length}
+use Rattle.pieces.specs.Content.{printPieces}
+use Rattle.pieces.specs.View.{PieceAt, piecesAt}
+use Rattle.pieces.proofs.GoingLaws.{Going, printed, at-start, going-start, going-bad, going-piece, going-next, going-done, going-forward, going-short, going-sum, printed-length}
 use borrow.Author.Needs.{needs}
 use Rattle.contents.proofs.pieces_size.Statement.{statement}
 use Rattle.contents.proofs.pieces_size.Tie as tie

@@ -1,6 +1,6 @@
 use mathlib.Core.Path.{ap, sym}
 use lib.ListN.{length}
-use Rattle.contents.proofs.HeadLaws.{print-other}
+use Rattle.pieces.proofs.HeadLaws.{print-other}
 use Rattle.contents.proofs.size.Statement.{statement}
 use Rattle.contents.proofs.size.Tie as tie
 

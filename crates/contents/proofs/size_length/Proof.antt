@@ -6,8 +6,8 @@ use lib.ListN.{length}
 use Rattle.counts.specs.Count.{writeCount}
 use Rattle.places.specs.Placed.{ofRead, at, Stands}
 use Rattle.places.proofs.PlaceLaws.{stands-is}
-use Rattle.contents.specs.Content.{parseHead}
-use Rattle.contents.proofs.HeadLaws.{head-good, head-few, size-sure}
+use Rattle.pieces.specs.Content.{parseHead}
+use Rattle.pieces.proofs.HeadLaws.{head-good, head-few, size-sure}
 use borrow.Author.Needs.{needs}
 use Rattle.contents.proofs.size_length.Statement.{statement}
 use Rattle.contents.proofs.size_length.Tie as tie

@@ -3,9 +3,9 @@ use mathlib.Core.Path.{refl}
 use mathlib.Core.List.{_++_}
 use native.Mathlib.Omega.{arith}
 use Rattle.transitions.specs.Transition.{writeMoment}
-use Rattle.contents.proofs.PutLaws.{InTwo, first-room, front-room, front-within, rest-room, sum-room, both-put, copied}
-use Rattle.contents.specs.View.{Put}
-use Rattle.contents.proofs.FormLaws.{form-put, form-refused, moment-form}
+use Rattle.pieces.proofs.PutLaws.{InTwo, first-room, front-room, front-within, rest-room, sum-room, both-put, copied}
+use Rattle.pieces.specs.View.{Put}
+use Rattle.pieces.proofs.FormLaws.{form-put, form-refused, moment-form}
 use borrow.Author.Needs.{needs}
 use Rattle.contents.proofs.write_piece.Statement.{statement}
 use Rattle.contents.proofs.write_piece.Tie as tie

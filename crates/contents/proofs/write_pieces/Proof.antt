@@ -6,10 +6,10 @@ use native.Mathlib.Omega.{arith}
 use Rattle.base.specs.Moment.{endOfTime}
 use Rattle.places.specs.Placed.{ofRead}
 use Rattle.places.proofs.PlaceLaws.{stands-is, then-in}
-use Rattle.contents.specs.Content.{printPieces}
-use Rattle.contents.specs.View.{PieceAt, Put, piecesAt}
-use Rattle.contents.proofs.PutLaws.{InTwo, put-none, put-is, put-length, front-within, rest-room, both-sum, both-put}
-use Rattle.contents.proofs.GoingLaws.{Going, printed, going-start, going-bad, going-piece, going-next, going-done, going-two, going-moment, going-sum}
+use Rattle.pieces.specs.Content.{printPieces}
+use Rattle.pieces.specs.View.{PieceAt, Put, piecesAt}
+use Rattle.pieces.proofs.PutLaws.{InTwo, put-none, put-is, put-length, front-within, rest-room, both-sum, both-put}
+use Rattle.pieces.proofs.GoingLaws.{Going, printed, going-start, going-bad, going-piece, going-next, going-done, going-two, going-moment, going-sum}
 use borrow.Author.Needs.{needs}
 use Rattle.contents.proofs.write_pieces.Statement.{statement}
 use Rattle.contents.proofs.write_pieces.Tie as tie

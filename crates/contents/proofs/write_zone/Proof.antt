@@ -5,10 +5,10 @@ use lib.ListN.{take}
 use Rattle.base.specs.Moment.{endOfTime}
 use Rattle.places.specs.Placed.{ofRead, at, Stands}
 use Rattle.places.proofs.PlaceLaws.{stands-is}
-use Rattle.contents.specs.Content.{parseHead, printPieces, contentOf, print}
-use Rattle.contents.specs.View.{piecesAt, Put}
-use Rattle.contents.proofs.PutLaws.{InTwo, copied, front-room, front-within, rest-room, both-sum, both-put}
-use Rattle.contents.proofs.HeadLaws.{head-good, head-pieces, head-length, head-two}
+use Rattle.pieces.specs.Content.{parseHead, printPieces, contentOf, print}
+use Rattle.pieces.specs.View.{piecesAt, Put}
+use Rattle.pieces.proofs.PutLaws.{InTwo, copied, front-room, front-within, rest-room, both-sum, both-put}
+use Rattle.pieces.proofs.HeadLaws.{head-good, head-pieces, head-length, head-two}
 use borrow.Author.Needs.{needs}
 use Rattle.contents.proofs.write_zone.Statement.{statement}
 use Rattle.contents.proofs.write_zone.Tie as tie

@@ -1,7 +1,7 @@
 use mathlib.Core.Path.{ap}
 use Rattle.places.specs.Placed.{ofRead}
 use Rattle.places.proofs.PlaceLaws.{stands-is}
-use Rattle.contents.proofs.HeadLaws.{head-good, head-pieces, head-same}
+use Rattle.pieces.proofs.HeadLaws.{head-good, head-pieces, head-same}
 use borrow.Author.Needs.{needs}
 use Rattle.contents.proofs.zone_preferred.Statement.{statement}
 use Rattle.contents.proofs.zone_preferred.Tie as tie

@@ -3,8 +3,8 @@ use mathlib.Core.Path.{ap}
 use native.Mathlib.Omega.{arith}
 use Rattle.places.specs.Placed.{ofRead, at, Stands}
 use Rattle.places.proofs.PlaceLaws.{stands-is}
-use Rattle.contents.specs.Content.{parseHead}
-use Rattle.contents.proofs.HeadLaws.{head-good, head-pieces, size-is, size-most}
+use Rattle.pieces.specs.Content.{parseHead}
+use Rattle.pieces.proofs.HeadLaws.{head-good, head-pieces, size-is, size-most}
 use borrow.Author.Needs.{needs}
 use Rattle.contents.proofs.zone_size.Statement.{statement}
 use Rattle.contents.proofs.zone_size.Tie as tie

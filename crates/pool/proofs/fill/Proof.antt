@@ -5,8 +5,8 @@ use native.Mathlib.Omega.{arith}
 use lib.ListN.{take, drop}
 use denote.Ref.{now}
 use Rattle.base.proofs.Parts.{part-from}
-use Rattle.texts.specs.Ascii.{ascii}
-use Rattle.texts.proofs.AsciiLaws.{ascii-at}
+use Rattle.utf8.specs.Ascii.{ascii}
+use Rattle.utf8.proofs.AsciiLaws.{ascii-at}
 use Rattle.pool.proofs.FillLaws.{Filling, filling-start, filling-refused, filling-next, filling-end, filling-left, here, here-inside, plain-here}
 use borrow.Author.Needs.{needs}
 use Rattle.pool.proofs.fill.Statement.{statement}

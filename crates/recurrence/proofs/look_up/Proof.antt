@@ -1,7 +1,7 @@
 use Prim.Native.Nat.{_+_, _<_}
 use native.Mathlib.Omega.{arith}
-use Rattle.recurrence.proofs.FieldLaws.{sum-range}
-use Rattle.recurrence.proofs.RuleLaws.{subtracted-le}
+use Rattle.rules.proofs.FieldLaws.{sum-range}
+use Rattle.occurrences.proofs.RuleLaws.{subtracted-le}
 use Rattle.recurrence.proofs.LookupLaws.{daylight-answer, standard-answer}
 use borrow.Author.Needs.{needs}
 use Rattle.recurrence.proofs.look_up.Statement.{statement}

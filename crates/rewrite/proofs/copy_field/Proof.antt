@@ -3,7 +3,7 @@ use mathlib.Core.List.{_∷_, _++_}
 use native.Mathlib.Omega.{arith}
 use lib.ListN.{length}
 use Rattle.counts.specs.Count.{writeCount}
-use Rattle.contents.proofs.PutLaws.{InTwo, copied, front-room, front-within, rest-room, both-sum, both-put}
+use Rattle.pieces.proofs.PutLaws.{InTwo, copied, front-room, front-within, rest-room, both-sum, both-put}
 use Rattle.rewrite.proofs.FieldLaws.{data-two}
 use borrow.Author.Needs.{needs}
 use Rattle.rewrite.proofs.copy_field.Statement.{statement}

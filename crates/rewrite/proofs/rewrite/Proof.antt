@@ -2,7 +2,7 @@ use denote.Ref.{now}
 use mathlib.Core.Path.{sym, _∙_}
 use native.Mathlib.Omega.{arith}
 use borrow.Author.Tests.{leb-true}
-use Rattle.checks.proofs.WellFormedLaws.{good-well-formed}
+use Rattle.field_checks.proofs.WellFormedLaws.{good-well-formed}
 use Rattle.rewrite.specs.View.{Ready}
 use Rattle.rewrite.proofs.ReadyLaws.{file-ready, rewrite-refused, rewrite-short, rewrite-put}
 use borrow.Author.Needs.{needs}

@@ -3,7 +3,7 @@ use mathlib.Core.Path.{_≡_}
 use mathlib.Core.List.{_∷_, _++_}
 use lib.ListN.{length}
 use Rattle.counts.specs.Count.{writeCount}
-use Rattle.contents.proofs.PutLaws.{put-is}
+use Rattle.pieces.proofs.PutLaws.{put-is}
 use Rattle.rewrite.specs.Preferred.{printField}
 use Rattle.rewrite.specs.View.{fieldWith}
 use Rattle.rewrite.proofs.FieldLaws.{copied-limit, field-copied, field-zone}

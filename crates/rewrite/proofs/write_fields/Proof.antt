@@ -3,8 +3,8 @@ use mathlib.Core.List.{List, [], _++_}
 use Prim.Native.Nat.{ℕ, _+_, _-_}
 use native.Mathlib.Omega.{arith}
 use lib.ListN.{length}
-use Rattle.contents.specs.View.{Put}
-use Rattle.contents.proofs.PutLaws.{InTwo, put-none, put-is, put-length, front-within, rest-room, both-sum, both-put}
+use Rattle.pieces.specs.View.{Put}
+use Rattle.pieces.proofs.PutLaws.{InTwo, put-none, put-is, put-length, front-within, rest-room, both-sum, both-put}
 use Rattle.rewrite.specs.Preferred.{printField}
 use Rattle.rewrite.specs.View.{fieldWith, partOf}
 use Rattle.rewrite.proofs.ReadyLaws.{Walking, walking-start, walking-done, walking-sum, Turn, walking-turn, turn-two, turn-sum, file-length}

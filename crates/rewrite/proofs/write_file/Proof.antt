@@ -1,7 +1,7 @@
 use denote.Ref.{now}
 use mathlib.Core.List.{[], _∷_}
 use native.Mathlib.Omega.{arith}
-use Rattle.contents.proofs.PutLaws.{InTwo, front-room, front-within, rest-room, both-sum, both-put}
+use Rattle.pieces.proofs.PutLaws.{InTwo, front-room, front-within, rest-room, both-sum, both-put}
 use Rattle.rewrite.specs.Preferred.{content, printFields, preferred}
 use Rattle.rewrite.proofs.ReadyLaws.{file-two}
 use borrow.Author.Needs.{needs}

@@ -4,9 +4,9 @@ use Prim.Native.Nat.{_-_}
 use native.Mathlib.Omega.{arith}
 use lib.ListN.{length, set, take, drop}
 use Rattle.counts.specs.Count.{writeCount}
-use Rattle.contents.specs.View.{Put}
-use Rattle.contents.proofs.PutLaws.{InTwo, put-one, front-within, rest-room, both-put, both-length}
-use Rattle.contents.proofs.FormLaws.{form-put, form-refused, count-form}
+use Rattle.pieces.specs.View.{Put}
+use Rattle.pieces.proofs.PutLaws.{InTwo, put-one, front-within, rest-room, both-put, both-length}
+use Rattle.pieces.proofs.FormLaws.{form-put, form-refused, count-form}
 use Rattle.rewrite.proofs.FieldLaws.{head-two}
 use borrow.Author.Needs.{needs}
 use Rattle.rewrite.proofs.write_head.Statement.{statement}

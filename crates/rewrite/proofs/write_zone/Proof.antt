@@ -5,8 +5,8 @@ use Prim.Native.Nat.{_+_}
 use native.Mathlib.Omega.{arith}
 use lib.ListN.{length}
 use Rattle.counts.specs.Count.{writeCount}
-use Rattle.contents.specs.Content.{contentOf, print}
-use Rattle.contents.proofs.PutLaws.{InTwo, back-within, back-room, back-front, back-sum, back-put}
+use Rattle.pieces.specs.Content.{contentOf, print}
+use Rattle.pieces.proofs.PutLaws.{InTwo, back-within, back-room, back-front, back-sum, back-put}
 use Rattle.rewrite.specs.Preferred.{printField}
 use Rattle.rewrite.specs.View.{fieldWith}
 use Rattle.rewrite.proofs.FieldLaws.{field-length, zone-two}

@@ -1,7 +1,7 @@
 use mathlib.Core.Path.{sym, _∙_}
 use native.Mathlib.Omega.{arith}
 use borrow.Author.Tests.{not-false}
-use Rattle.recurrence.proofs.FieldLaws.{rule-ok}
+use Rattle.rules.proofs.FieldLaws.{rule-ok}
 use borrow.Author.Needs.{needs}
 use Rattle.tail_cases.proofs.answer.Statement.{statement}
 use Rattle.tail_cases.proofs.answer.Tie as tie

@@ -1,5 +1,5 @@
 use mathlib.Core.Path.{refl}
-use Rattle.texts.specs.Ascii.{ascii}
+use Rattle.utf8.specs.Ascii.{ascii}
 use borrow.Author.Needs.{needs}
 use Rattle.texts.proofs.read_text.Statement.{statement}
 use Rattle.texts.proofs.read_text.Tie as tie

@@ -2,7 +2,7 @@ use mathlib.Core.Path.{sym, _∙_}
 use mathlib.Core.Bool.{true}
 use native.Mathlib.Omega.{arith}
 use Rattle.counts.proofs.CountLaws.{counted}
-use Rattle.texts.proofs.AsciiLaws.{plain-utf8}
+use Rattle.utf8.proofs.AsciiLaws.{plain-utf8}
 use Rattle.texts.proofs.TextLaws.{text-unread, text-long, text-cut, text-tested}
 use borrow.Author.Needs.{needs}
 use Rattle.texts.proofs.read_text_in.Statement.{statement}

@@ -1,0 +1,171 @@
+-- What taking a whole field says, a law for each way out of the code. Assumes nothing.
+use mathlib.Core.Path.{_≡_, refl, sym, _∙_, ap, ap₂}
+use mathlib.Core.Bool.{Bool, true, false}
+use mathlib.Core.List.{List, []}
+use Prim.Native.Nat.{ℕ, _+_, _-_, _≤_, _<_}
+use native.Mathlib.Omega.{arith}
+use lib.ListN.{length, getD, drop, length-drop}
+use lib.Seq.{sets, length-take-le}
+use borrow.Author.Tests.{eq-eqb, ne-eqb}
+use Rattle.base.specs.Parsed.{Parsed, got, bad as faulty}
+use Rattle.texts.specs.Text.{readText}
+use Rattle.texts.specs.declared.Text.{Text}
+use Rattle.texts.specs.declared.Text.the-variants.{Part, Refused as Untext}
+use Rattle.texts.proofs.TextLaws.{held}
+use Rattle.pool.specs.Pool.{Pool, parsePool, checked, stringsIn, stringsOf}
+use Rattle.pool.specs.Index.{startsOf, roomOf}
+use Rattle.pool.specs.declared.Checked.{Checked}
+use Rattle.pool.specs.declared.Checked.the-variants.{Strings, Refused as Unpooled}
+use Rattle.pool.proofs.PoolLaws.{ready}
+use Rattle.zones.specs.Content.{Zone}
+use Rattle.zones.specs.Parse.{parseZone}
+use Rattle.zones.specs.Lookup.{verdictOf}
+use Rattle.zones.specs.declared.Verdict.{Verdict}
+use Rattle.zones.specs.declared.Verdict.the-variants.{Good, Refused as Unzoned}
+use Rattle.zones.proofs.SoundLaws.{zone-sound}
+use Rattle.ids.specs.Memory.{Taken as TakenId}
+use Rattle.ids.proofs.MemoryLaws.{keeps-none}
+use Rattle.field_checks.specs.Check.{Memory, poolIn, poolKept, newId, zoneIn, zoneKept, textKept, contentOf}
+use Rattle.field_checks.specs.Cursor.{part, poolOf, Indexed, Stands, Fresh, Says, TookPool, TookZone, TookText, TookField}
+use Rattle.field_checks.specs.declared.Kept.{Kept}
+use Rattle.field_checks.specs.declared.Taken.{Taken}
+use Rattle.field_checks.specs.declared.Taken.the-variants.{Refused, Keep}
+
+pub part-length : (s : List ℕ) (a e : ℕ) → e ≤ length s → length (part s a e) ≡ e - a
+part-length s a e h = length-take-le (e - a) (drop a s) (rw length-drop (omega arith))
+
+-- field 0, by what the check of the pool gives
+module _ (s : List ℕ) (k : Kept) (a e : ℕ) (ix ix′ : List ℕ) (c : Checked)
+    (h : (c ≡ checked (parsePool (part s a e))) × (ix′ ≡ sets ix 0 (startsOf (part s a e)))) where
+  pub pool-refused : (n : ℕ) → c ≡ Unpooled n → TookPool s k a e ix ix′ (Refused n)
+  unfolding poolKept
+  pool-refused n q = record { means = λ fl mk y st fr. go fl mk y (parsePool (part s a e)) (sym q ∙ h .0) }
+    where
+      go : (fl mk : List ℕ) (y : Memory) (p : Pool) → Unpooled n ≡ checked p → Says s ix′ fl mk (poolIn y p) (Refused n)
+      go fl mk y (faulty m) r = cc
+      go fl mk y (got ts q) r = let z : _≡_ {A = ℕ} 0 1 = cc in absurd (omega arith)
+
+  pub pool-kept : (n : ℕ) → c ≡ Strings n → a ≤ e → e ≤ length s → roomOf (part s a e) ≤ length ix
+      → TookPool s k a e ix ix′ (Keep (record { start = a; end = e; count = n; text = k .text; len = k .len }))
+  unfolding poolKept
+  pool-kept n q l₁ l₂ l₃ = record { means = λ fl mk y st fr. go fl mk y st fr (parsePool (part s a e)) refl (sym q ∙ h .0) }
+    where
+      go : (fl mk : List ℕ) (y : Memory) → Stands s k fl mk y → Fresh fl mk y → (p : Pool) → parsePool (part s a e) ≡ p
+          → Strings n ≡ checked p
+          → Says s ix′ fl mk (poolIn y p) (Keep (record { start = a; end = e; count = n; text = k .text; len = k .len }))
+      go fl mk y st fr (faulty m) i r = let z : _≡_ {A = ℕ} 0 1 = cc in absurd (omega arith)
+      go fl mk y st fr (got ts u) i r =
+          let w : stringsOf (part s a e) ≡ ts = ap stringsIn i in
+          let j : n ≡ length ts = cc in (
+            record {
+              first = l₁;
+              last = l₂;
+              ready = ready (part s a e) ix ix′ l₃ (h .1);
+              count = j ∙ sym (ap length w);
+            },
+            record { strings = sym w; ids = rw (fr .flags, fr .marks, fr .ids) (keeps-none _); text = st .text },
+          )
+
+-- a field 1, by what the check of the zone gives
+module _ (s : List ℕ) (k : Kept) (a e : ℕ) (ix fl mk : List ℕ) (ind : Indexed s k ix) (v : Verdict)
+    (h : v ≡ verdictOf (parseZone (k .count) (part s a e))) where
+  as-count : (y : Memory) → Stands s k fl mk y → v ≡ verdictOf (parseZone (length (y .pool)) (part s a e))
+  as-count y st =
+      let z : k .count ≡ length (y .pool) = ind .count ∙ ap length (sym (st .strings)) in
+      h ∙ ap (λ (n : ℕ). verdictOf (parseZone n (part s a e))) z
+
+  pub zone-refused : (n : ℕ) → v ≡ Unzoned n → TookZone s k a e ix fl mk fl mk (Refused n)
+  unfolding zoneKept
+  zone-refused n q = record { means = λ y st. go y (parseZone (length (y .pool)) (part s a e)) (sym q ∙ as-count y st) }
+    where
+      go : (y : Memory) (p : Parsed Zone) → Unzoned n ≡ verdictOf p → Says s ix fl mk (zoneIn y p) (Refused n)
+      go y (faulty m) r = cc
+      go y (got z q) r = let w : _≡_ {A = ℕ} 0 1 = cc in absurd (omega arith)
+
+  module _ (id : ℕ) (q : v ≡ Good id) where
+    pub zone-id : id < k .count
+    zone-id = go (parseZone (k .count) (part s a e)) refl (sym q ∙ h)
+      where
+        go : (p : Parsed Zone) → parseZone (k .count) (part s a e) ≡ p → Good id ≡ verdictOf p → id < k .count
+        go (faulty m) i r = let w : _≡_ {A = ℕ} 0 1 = cc in absurd (omega arith)
+        go (got z u) i r =
+            let w : id ≡ z .id = cc in
+            rw w (zone-sound (k .count) (part s a e) z u i .0 .id-ok)
+
+    abbrev bytes : List ℕ
+    bytes = getD (stringsOf (poolOf s k)) id []
+
+    zone-new : (y : Memory) → Stands s k fl mk y → zoneKept y (part s a e) ≡ newId y bytes
+    unfolding zoneKept
+    zone-new y st = go (parseZone (length (y .pool)) (part s a e)) (sym q ∙ as-count y st)
+      where
+        go : (p : Parsed Zone) → Good id ≡ verdictOf p → zoneIn y p ≡ newId y bytes
+        go (faulty m) r = let w : _≡_ {A = ℕ} 0 1 = cc in absurd (omega arith)
+        go (got z u) r =
+            let w : z .id ≡ id = cc in
+            ap (newId y) (ap₂ (λ (ts : List (List ℕ)) (n : ℕ). getD ts n []) (st .strings) w)
+
+    module _ (fl′ mk′ : List ℕ) (b : Bool) (t : TakenId (stringsOf (poolOf s k)) bytes fl mk fl′ mk′ b) where
+      pub zone-second : b ≡ true → TookZone s k a e ix fl mk fl′ mk′ (Refused 13)
+      unfolding newId
+      zone-second f =
+          record { means = λ y st. rw (zone-new y st, sym (t .said (y .ids) (st .ids)) ∙ f) refl }
+
+      pub zone-first : b ≡ false → TookZone s k a e ix fl mk fl′ mk′ (Keep k)
+      unfolding newId
+      zone-first f =
+          record {
+            means = λ y st.
+                rw (zone-new y st, sym (t .said (y .ids) (st .ids)) ∙ f)
+                (ind, record { strings = st .strings; ids = rw f at (t .kept (y .ids) (st .ids)); text = st .text });
+          }
+
+-- field 2, by what reading its text gives
+module _ (s : List ℕ) (k : Kept) (a e : ℕ) (l₁ : a ≤ e) (l₂ : e ≤ length s) (t : Text) (h : t ≡ readText (part s a e)) where
+  pub text-refused : (n : ℕ) → t ≡ Untext n → TookText s k a e (Refused n)
+  unfolding textKept
+  text-refused n q = record { means = λ ix fl mk y ind st. rw (sym h ∙ q) refl }
+
+  module _ (b n : ℕ) (q : t ≡ Part b n) where
+    pub text-inside : b + n ≤ e - a
+    text-inside = omega (arith, held (part s a e) b n (sym h ∙ q) .inside, part-length s a e l₂)
+
+    not-first : a + b ≡ 0 → ⊥
+    not-first z = omega (arith, held (part s a e) b n (sym h ∙ q) .some)
+
+    pub text-over : (b + n ≡ e - a → ⊥) → TookText s k a e (Refused 9)
+    unfolding textKept
+    text-over o = record { means = λ ix fl mk y ind st. rw (sym h ∙ q, part-length s a e l₂, ne-eqb (b + n) (e - a) o) refl }
+
+    pub text-whole : b + n ≡ e - a
+        → TookText s k a e (Keep (record { start = k .start; end = k .end; count = k .count; text = a + b; len = n }))
+    unfolding textKept
+    text-whole o =
+        record {
+          means = λ ix fl mk y ind st.
+              rw (sym h ∙ q, part-length s a e l₂, eq-eqb (b + n) (e - a) o) (
+                record { first = ind .first; last = ind .last; ready = ind .ready; count = ind .count },
+                record { strings = st .strings; ids = st .ids; text = rw (ne-eqb (a + b) 0 not-first) },
+              );
+        }
+
+-- a field by its ID
+module _ (s : List ℕ) (k : Kept) (i a e : ℕ) (ix fl mk : List ℕ) where
+  pub field-pool : (r : Taken) (ix′ : List ℕ) → i ≡ 0 → Indexed s k ix → TookPool s k a e ix ix′ r → TookField s k i a e ix fl mk ix′ fl mk r
+  unfolding contentOf
+  field-pool r ix′ q ind t =
+      record { means = λ y st fr. rw (eq-eqb i 0 q) (t .means fl mk y st (fr q)) }
+
+  module _ (n₀ : i ≡ 0 → ⊥) where
+    pub field-zone : (r : Taken) (fl′ mk′ : List ℕ) → i ≡ 1 → TookZone s k a e ix fl mk fl′ mk′ r → TookField s k i a e ix fl mk ix fl′ mk′ r
+    unfolding contentOf
+    field-zone r fl′ mk′ q t = record { means = λ y st fr. rw (ne-eqb i 0 n₀, eq-eqb i 1 q) (t .means y st) }
+
+    module _ (n₁ : i ≡ 1 → ⊥) (ind : Indexed s k ix) where
+      pub field-text : (r : Taken) → i ≡ 2 → TookText s k a e r → TookField s k i a e ix fl mk ix fl mk r
+      unfolding contentOf
+      field-text r q t = record { means = λ y st fr. rw (ne-eqb i 0 n₀, ne-eqb i 1 n₁, eq-eqb i 2 q) (t .means ix fl mk y ind st) }
+
+      pub field-other : (i ≡ 2 → ⊥) → TookField s k i a e ix fl mk ix fl mk (Keep k)
+      unfolding contentOf
+      field-other n₂ = record { means = λ y st fr. rw (ne-eqb i 0 n₀, ne-eqb i 1 n₁, ne-eqb i 2 n₂) (ind, st) }

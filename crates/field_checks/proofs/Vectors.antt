@@ -1,0 +1,60 @@
+-- Worked files, by the check and by the version text. Assumes nothing.
+use mathlib.Core.Path.{_≡_, refl}
+use mathlib.Core.List.{List, [], _∷_, _++_, map}
+use Prim.Native.Nat.{ℕ}
+use lib.ListN.{take}
+use Rattle.base.specs.Parsed.{parseByte, ended, many}
+use Rattle.base.specs.Run.{iterate}
+use Rattle.counts.specs.Groups.{readGroups}
+use Rattle.utf8.specs.Utf8.{chars}
+use Rattle.texts.specs.Text.{sized as textSized}
+use Rattle.offsets.specs.Offset.{readSum}
+use Rattle.places.specs.Name.{judgeName, parseName}
+use Rattle.pool.specs.Pool.{allStrings, counted}
+use Rattle.base.specs.Equal.{equal}
+use Rattle.ids.specs.Ids.{among}
+use Rattle.zones.specs.Parse.{zoneOf, afterFixedOffset, parseFixed, afterFlag, afterId, parseZone}
+use Rattle.frames.specs.Frame.{order, zeros, version, sized, field, frame}
+use Rattle.frames.specs.Machine.{act, step, walk}
+use Rattle.field_checks.specs.Check.{poolKept, newId, zoneKept, textKept, contentOf, concluded, conclusion, checkOf, versionOf, WellFormed}
+use Rattle.field_checks.specs.declared.Verdict.the-variants.{Good, Refused}
+use Rattle.field_checks.specs.declared.VersionText.the-variants.{Part as TextPart, Refused as NoText}
+use Rattle.field_checks.proofs.WellFormedLaws.{good-well-formed}
+
+abbrev pub bare : List ℕ
+bare = 0 ∷ 0 ∷ 0 ∷ 0 ∷ []
+
+-- "One whole file": one fixed zone "UTC"
+abbrev pub file : List ℕ
+file = bare ++ 0 ∷ 5 ∷ 1 ∷ 3 ∷ 85 ∷ 84 ∷ 67 ∷ 1 ∷ 4 ∷ 0 ∷ 1 ∷ 48 ∷ 0 ∷ []
+
+-- no bytes; the version alone, cut, and wrong; a first field that isn't 0; field 0 without data
+pub starts :
+    map checkOf ([] ∷ bare ∷ (0 ∷ 0 ∷ []) ∷ (0 ∷ 0 ∷ 0 ∷ 1 ∷ []) ∷ (bare ++ 1 ∷ []) ∷ (bare ++ 0 ∷ 0 ∷ []) ∷ [])
+    ≡ Refused 2 0 ∷ Refused 6 4 ∷ Refused 2 0 ∷ Refused 3 0 ∷ Refused 6 4 ∷ Refused 9 4 ∷ []
+unfolding conclusion walk iterate step act frame version zeros field order sized readGroups many counted allStrings ended concluded poolKept contentOf
+starts = refl
+
+-- strings "A", "B", "A", a zone "A" and a zone of the ID that is given
+abbrev pub zoned : ℕ → List ℕ
+zoned k = bare ++ 0 ∷ 7 ∷ 3 ∷ 1 ∷ 65 ∷ 1 ∷ 66 ∷ 1 ∷ 65 ∷ 1 ∷ 4 ∷ 0 ∷ 1 ∷ 48 ∷ 0 ∷ 1 ∷ 4 ∷ k ∷ 1 ∷ 50 ∷ 0 ∷ []
+
+-- the whole file; its last byte missing; a field 0 behind it; two zones of different IDs; two of one ID under different pool numbers, and a
+-- field 0 behind them
+pub zones :
+    map checkOf (file ∷ take 16 file ∷ (file ++ 0 ∷ []) ∷ zoned 1 ∷ zoned 2 ∷ (zoned 2 ++ 0 ∷ []) ∷ [])
+    ≡ Good ∷ Refused 2 11 ∷ Refused 5 17 ∷ Good ∷ Refused 13 19 ∷ Refused 13 19 ∷ []
+unfolding conclusion walk iterate step act frame version zeros field order sized readGroups many counted allStrings ended concluded poolKept contentOf chars textSized zoneKept newId textKept among equal parseZone afterId afterFlag parseFixed afterFixedOffset zoneOf parseByte parseName judgeName readSum
+zones = refl
+
+-- no version text; "A" in field 2; a byte left over there; a field 3 behind it
+pub texts :
+    map versionOf (file ∷ (file ++ 2 ∷ 2 ∷ 1 ∷ 65 ∷ []) ∷ (file ++ 2 ∷ 3 ∷ 1 ∷ 65 ∷ 0 ∷ []) ∷ (file ++ 2 ∷ 2 ∷ 1 ∷ 65 ∷ 3 ∷ 1 ∷ 9 ∷ []) ∷ bare ∷ [])
+    ≡ NoText 12 17 ∷ TextPart 20 1 ∷ NoText 9 17 ∷ TextPart 20 1 ∷ NoText 6 4 ∷ []
+unfolding conclusion walk iterate step act frame version zeros field order sized readGroups many counted allStrings ended concluded poolKept contentOf chars textSized zoneKept newId textKept among equal parseZone afterId afterFlag parseFixed afterFixedOffset zoneOf parseByte parseName judgeName readSum
+texts = refl
+
+-- the premise of the laws about well-formed files is met
+pub file-well-formed : WellFormed file
+unfolding conclusion walk iterate step act frame version zeros field order sized readGroups many counted allStrings ended concluded poolKept contentOf chars textSized zoneKept newId textKept among equal parseZone afterId afterFlag parseFixed afterFixedOffset zoneOf parseByte parseName judgeName readSum
+file-well-formed = good-well-formed file refl

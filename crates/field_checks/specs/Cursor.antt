@@ -1,0 +1,101 @@
+-- How a cursor and the lent arrays stand for the check's memory, and what each step says of it. Assumes nothing: these are definitions.
+use Prim.Native.Nat.{ℕ, _-_, _≤_, _<_}
+use mathlib.Core.Path.{_≡_}
+use mathlib.Core.Bool.{Bool}
+use mathlib.Core.List.{List, []}
+use lib.ListN.{length, take, drop, replicate}
+use lib.Dec.{eqb, ltb}
+use Rattle.base.specs.Pick.{pick}
+use Rattle.pool.specs.Pool.{stringsOf}
+use Rattle.pool.specs.Index.{Ready}
+use Rattle.ids.specs.Memory.{Keeps}
+use Rattle.frames.specs.Machine.{Content, bad, answer, keep, State, stateAt, from}
+use Rattle.field_checks.specs.Check.{TextPlace, nowhere, placed, Memory, poolKept, zoneKept, textKept, contentOf, job, concludes}
+use Rattle.field_checks.specs.declared.Kept.{Kept}
+use Rattle.field_checks.specs.declared.Cursor.{Cursor}
+use Rattle.field_checks.specs.declared.Taken.{Taken}
+use Rattle.field_checks.specs.declared.Taken.the-variants.{Refused, Keep}
+use Rattle.field_checks.specs.declared.Turn.{Turn}
+use Rattle.field_checks.specs.declared.Turn.the-variants.{Done, Next}
+
+-- the bytes from the place a up to e
+abbrev pub part : List ℕ → ℕ → ℕ → List ℕ
+part s a e = take (e - a) (drop a s)
+
+-- the pool's data
+abbrev pub poolOf : List ℕ → Kept → List ℕ
+poolOf s k = part s (k .start) (k .end)
+
+-- where the version text lies; 0 stands for none, as no text's bytes start there
+abbrev pub textOf : Kept → TextPlace
+textOf k = pick (eqb (k .text) 0) nowhere (placed (k .text) (k .len))
+
+-- the array ix is the index of the pool
+pub record Indexed (s : List ℕ) (k : Kept) (ix : List ℕ) : Type 0 where
+  pub first : k .start ≤ k .end
+  pub last : k .end ≤ length s
+  pub ready : Ready (poolOf s k) ix
+  pub count : k .count ≡ length (stringsOf (poolOf s k))
+
+-- k, the flags fl and the marks mk stand for the memory y
+pub record Stands (s : List ℕ) (k : Kept) (fl mk : List ℕ) (y : Memory) : Type 0 where
+  pub strings : y .pool ≡ stringsOf (poolOf s k)
+  pub ids : Keeps (stringsOf (poolOf s k)) fl mk (y .ids)
+  pub text : y .text ≡ textOf k
+
+-- no field was seen
+pub record Fresh (fl mk : List ℕ) (y : Memory) : Type 0 where
+  pub flags : fl ≡ replicate 8192 0
+  pub marks : mk ≡ replicate 16384 0
+  pub ids : y .ids ≡ []
+
+-- what the definition says of a field, and what the code says
+abbrev pub Says : List ℕ → List ℕ → List ℕ → List ℕ → Content Memory ⊥ → Taken → Type 0
+Says s ix fl mk (bad n) (Refused m) = m ≡ n
+Says s ix fl mk (bad n) (Keep k) = ⊥
+Says s ix fl mk (answer v) r = ⊥
+Says s ix fl mk (keep y) (Refused m) = ⊥
+Says s ix fl mk (keep y) (Keep k) = Indexed s k ix × Stands s k fl mk y
+
+pub record TookPool (s : List ℕ) (k : Kept) (a e : ℕ) (ix ix′ : List ℕ) (r : Taken) : Type 0 where
+  pub means : (fl mk : List ℕ) (y : Memory) → Stands s k fl mk y → Fresh fl mk y
+      → Says s ix′ fl mk (poolKept y (part s a e)) r
+
+pub record TookZone (s : List ℕ) (k : Kept) (a e : ℕ) (ix fl mk fl′ mk′ : List ℕ) (r : Taken) : Type 0 where
+  pub means : (y : Memory) → Stands s k fl mk y → Says s ix fl′ mk′ (zoneKept y (part s a e)) r
+
+pub record TookText (s : List ℕ) (k : Kept) (a e : ℕ) (r : Taken) : Type 0 where
+  pub means : (ix fl mk : List ℕ) (y : Memory) → Indexed s k ix → Stands s k fl mk y → Says s ix fl mk (textKept y a (part s a e)) r
+
+pub record TookField (s : List ℕ) (k : Kept) (i a e : ℕ) (ix fl mk ix′ fl′ mk′ : List ℕ) (r : Taken) : Type 0 where
+  pub means : (y : Memory) → Stands s k fl mk y → (i ≡ 0 → Fresh fl mk y) → Says s ix′ fl′ mk′ (contentOf y i a (part s a e)) r
+
+-- a field came before the place: it is past the version's end
+abbrev pub seenAt : ℕ → Bool
+seenAt at = ltb 4 at
+
+-- the definition's state at a cursor
+abbrev pub stateOf : List ℕ → Cursor → Memory → State Memory
+stateOf s c y = stateAt (c .at) (drop (c .at) s) (seenAt (c .at)) (c .prev) y
+
+-- the cursor c and the arrays stand for the memory y
+pub record Holds (s : List ℕ) (c : Cursor) (ix fl mk : List ℕ) (y : Memory) : Type 0 where
+  pub inside : c .at ≤ length s
+  pub indexed : Indexed s (c .kept) ix
+  pub stands : Stands s (c .kept) fl mk y
+  pub place : 0 < c .at → 4 ≤ c .at
+  pub fresh : c .at ≤ 4 → Fresh fl mk y
+
+-- a cursor farther on, from which the walk goes as from c
+pub record Onward (s : List ℕ) (c : Cursor) (y : Memory) (d : Cursor) (ix fl mk : List ℕ) : Type 0 where
+  pub memory : Memory
+  pub holds : Holds s d ix fl mk memory
+  pub farther : c .at < d .at
+  pub same : from job (stateOf s c y) ≡ from job (stateOf s d memory)
+
+abbrev pub Goes : List ℕ → Cursor → Memory → List ℕ → List ℕ → List ℕ → Turn → Type 0
+Goes s c y ix fl mk (Done x) = x ≡ concludes (from job (stateOf s c y))
+Goes s c y ix fl mk (Next d) = Onward s c y d ix fl mk
+
+pub record Stepped (s : List ℕ) (c : Cursor) (ix fl mk ix′ fl′ mk′ : List ℕ) (t : Turn) : Type 0 where
+  pub means : (y : Memory) → Holds s c ix fl mk y → Goes s c y ix′ fl′ mk′ t

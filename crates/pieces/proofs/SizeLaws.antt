@@ -1,0 +1,91 @@
+-- How long the preferred form of pieces is: never longer than they are, and at most eight bytes shorter for each transition.
+-- Assumes nothing.
+use mathlib.Core.Path.{_≡_, refl, ap, _∙_, subst}
+use mathlib.Core.List.{List, [], _∷_, _++_}
+use Prim.Native.Nat.{ℕ, zero, suc, _+_, _*_, _-_, _≤_}
+use native.Mathlib.Omega.{arith}
+use lib.ListN.{length, drop, length-append, length-drop}
+use lib.Seq.{length-take-le}
+use Rattle.base.specs.Parsed.{got, bind, behindCode, parse, prepend}
+use Rattle.base.specs.declared.Read.{Read}
+use Rattle.base.specs.declared.Read.the-variants.{Value, Refused}
+use Rattle.base.proofs.Parts.{Bytes}
+use Rattle.base.proofs.ParseLaws.{bad-got, bind-good}
+use Rattle.transitions.specs.Transition.{readMoment, writeMoment}
+use Rattle.transitions.proofs.MomentLaws.{moment-read, moment-size, never-longer}
+use Rattle.pieces.specs.Content.{Piece, upTo, pieceEnd, pieceOf, afterMoment, parsePiece, parsePieces, printPieces}
+use Rattle.pieces.proofs.PieceLaws.{parse-rest, end-rest}
+
+-- xs are no longer than s, and at most k bytes shorter
+pub record Between (k : ℕ) (s xs : List ℕ) : Type 0 where
+  pub shorter : length xs ≤ length s
+  pub least : length s ≤ length xs + k
+
+-- a transition in its preferred form, in front of what stands behind it
+pub code-between : (prev : ℕ) (s : List ℕ) (m : ℕ) (r : List ℕ) → Bytes s → parse (readMoment prev) s ≡ got m r → Between 8 s (writeMoment prev m ++ r)
+code-between prev s m r b e = go (readMoment prev s) refl e
+  where
+    go : (x : Read) → x ≡ readMoment prev s → behindCode s x ≡ got m r → Between 8 s (writeMoment prev m ++ r)
+    go (Value w n) h k =
+        let i : w ≡ m = cc in
+        let j : drop n s ≡ r = cc in
+        let t = moment-read prev s h in
+        let l = never-longer prev s b h in
+        let z = moment-size prev w (t .is) in
+        rw (← i, ← j)
+        (record {
+          shorter = rw (length-append, length-drop) (omega (arith, t .within));
+          least = rw (length-append, length-drop) (omega (arith, t .size, z .some));
+        })
+    go (Refused n) h k = bad-got k
+
+-- what a piece is made of
+record Made (n prev : ℕ) (s : List ℕ) (p : Piece) (r : List ℕ) : Type 0 where
+  between : Between 8 s ((writeMoment prev (p .moment) ++ p .copied) ++ r)
+  bytes : Bytes r
+
+made : (n prev : ℕ) (s : List ℕ) (p : Piece) (r : List ℕ) → Bytes s → parsePiece n prev s ≡ got p r → Made n prev s p r
+unfolding parsePiece afterMoment
+made n prev s p r b e =
+    let a = bind-good (parse (readMoment prev) s) (afterMoment n) p r e in
+    let m : ℕ = a .first in
+    let q : List ℕ = a .rest in
+    let c = bind-good (pieceEnd n q) (pieceOf m q) p r (a .on) in
+    let x : Piece = record { moment = m; copied = upTo q (c .rest) } in
+    let o : got x (c .rest) ≡ got p r = c .on in
+    let i : x ≡ p = cc in
+    let j : c .rest ≡ r = cc in
+    let y = end-rest n q (c .first) (c .rest) (c .is) in
+    let z = code-between prev s m q b (a .is) in
+    let u : length (upTo q (c .rest)) ≡ length q - length (c .rest) = length-take-le (length q - length (c .rest)) q (omega arith) in
+    subst (λ (l : List ℕ). Made n prev s p l) j
+    (subst (λ (w : Piece). Made n prev s w (c .rest)) i
+    (record {
+      between = record {
+        shorter = rw (length-append, length-append, u) (omega (arith, y .shorter, rw length-append at (z .shorter)));
+        least = rw (length-append, length-append, u) (omega (arith, y .shorter, rw length-append at (z .least)));
+      };
+      bytes = y .bytes (parse-rest (readMoment prev) s m q (a .is) .bytes b);
+    }))
+
+-- PIECES IN THEIR PREFERRED FORM
+pub pieces-between : (n prev : ℕ) (s : List ℕ) (ps : List Piece) → Bytes s → parsePieces n prev s ≡ got ps [] → Between (8 * n) s (printPieces prev ps)
+unfolding parsePieces printPieces
+pieces-between zero prev s ps b e =
+    let i : [] ≡ ps = cc in
+    let j : s ≡ [] = cc in
+    rw (← i, j) (record { shorter = omega arith; least = omega arith })
+pieces-between (suc n) prev s ps b e =
+    let a = bind-good (parsePiece n prev s) (λ p r. bind (parsePieces n (p .moment) r) (prepend p)) ps [] e in
+    let p : Piece = a .first in
+    let c = bind-good (parsePieces n (p .moment) (a .rest)) (prepend p) ps [] (a .on) in
+    let o : got (p ∷ c .first) (c .rest) ≡ got ps [] = c .on in
+    let i : p ∷ c .first ≡ ps = cc in
+    let j : c .rest ≡ [] = cc in
+    let m = made n prev s p (a .rest) b (a .is) in
+    let k = pieces-between n (p .moment) (a .rest) (c .first) (m .bytes) (c .is ∙ ap (got (c .first)) j) in
+    subst (λ (l : List Piece). Between (8 * suc n) s (printPieces prev l)) i
+    (record {
+      shorter = rw length-append (omega (arith, k .shorter, rw length-append at (m .between .shorter)));
+      least = rw length-append (omega (arith, k .least, rw length-append at (m .between .least)));
+    })

@@ -1,0 +1,105 @@
+// A zone as the rewriter sees it: where its transitions and the bytes behind them lie.
+use base::Read;
+ghost use mathlib.Core.Path.{_≡_};
+ghost use Prim.Native.Nat.{_*_, _-_, _≤_};
+ghost use lib.ListN.{length, drop};
+ghost use Rattle.transitions.specs.Transition.{writeMoment};
+ghost use Rattle.places.specs.Placed.{Stands, ofRead};
+ghost use Rattle.pieces.specs.Content.{pieceEnd, afterFlag, parseHead};
+ghost use Rattle.pieces.specs.View.{EndAt, ShortPiece};
+
+const END: u64 = 3281606784000000000;
+
+// The place behind an interval's name, wall offset and savings.
+fn behind_details(s: &[u8], at: usize) -> Read
+    requires { ⌜ at ≤ length (now s) ⌝ }
+    ensures { λ r. ⌜ Stands (now (s .entry)) (pieceEnd 1 (drop at (now (s .entry)))) (ofRead r) ⌝ }
+{
+    match places::count_at(s, at) {
+        Read::Refused(k) => Read::Refused(k),
+        Read::Value(_, a) => match places::sum_at(s, a) {
+            Read::Refused(k) => Read::Refused(k),
+            Read::Value(_, b) => places::sum_at(s, b),
+        },
+    }
+}
+
+// Where the bytes end that follow a transition, with n more transitions behind it: an interval's details, or all the rest.
+pub fn piece_end(s: &[u8], at: usize, n: u64) -> usize
+    requires { ⌜ at ≤ length (now s) ⌝ }
+    ensures { λ r. ⌜ EndAt (now (s .entry)) n at r ⌝ }
+{
+    if n == 0 {
+        return s.len();
+    }
+    if 3 <= s.len() - at {
+        if places::short_details(s, at) {
+            return at + 3;
+        }
+    }
+    match behind_details(s, at) {
+        Read::Refused(_) => s.len(),
+        Read::Value(_, e) => e,
+    }
+}
+
+// The moment of a piece in five bytes, the usual one, with n more pieces behind it; 0 where other codes stand there.
+pub fn short_piece(s: &[u8], at: usize, prev: u64, n: u64) -> u64
+    requires { ⌜ at ≤ length (now s) ⌝ }
+    ensures { λ r. ⌜ ShortPiece (now (s .entry)) n prev at r ⌝ }
+{
+    if 0 < n {
+        return places::short_at(s, at, 2, prev);
+    }
+    0
+}
+
+// The length of a transition's preferred form, where its code took k bytes: one of at most three is preferred.
+pub fn code_size(prev: u64, m: u64, k: usize) -> usize
+    requires { ⌜ (k ≤ 3 → length (writeMoment prev m) ≡ k) ⌝ }
+    ensures { λ r. ⌜ r ≡ length (writeMoment prev m) ⌝ }
+{
+    if k <= 3 {
+        return k;
+    }
+    transitions::moment_size(prev, m)
+}
+
+// How many transitions a zone with a flag has, and the place of the first.
+fn behind_flag(s: &[u8], at: usize, flag: u64) -> Read
+    requires { ⌜ at ≤ length (now s) ⌝ }
+    ensures { λ r. ⌜ Stands (now (s .entry)) (afterFlag flag (drop at (now (s .entry)))) (ofRead r) ⌝ }
+{
+    if flag != 2 {
+        return Read::Value(0, s.len());
+    }
+    match places::count_at(s, at) {
+        Read::Refused(k) => Read::Refused(k),
+        Read::Value(n, e) => Read::Value(n + 1, e),
+    }
+}
+
+// The same from the front of the zone's data on.
+pub fn read_head(s: &[u8]) -> Read
+    ensures { λ r. ⌜ Stands (now (s .entry)) (parseHead (now (s .entry))) (ofRead r) ⌝ }
+{
+    match places::count_at(s, 0) {
+        Read::Refused(k) => Read::Refused(k),
+        Read::Value(_, a) => match places::byte_at(s, a) {
+            Read::Refused(k) => Read::Refused(k),
+            Read::Value(flag, e) => behind_flag(s, e, flag),
+        },
+    }
+}
+
+// The least length that m bytes with n transitions have in their preferred form: no form saves more than eight bytes.
+pub fn least(m: u64, n: u64) -> u64
+    requires { ⌜ n ≤ 2147483648 ⌝ }
+    ensures { λ r. ⌜ r ≡ m - 8 * n ⌝ }
+{
+    let saved = 8 * n;
+    if m < saved {
+        return 0;
+    }
+    m - saved
+}

@@ -1,0 +1,49 @@
+-- What the C functions say of a small code. Assumes nothing: these are definitions.
+use Prim.Native.Nat.{ℕ}
+use mathlib.Core.Bool.{Bool}
+use lib.IntN.{ℤ, pos}
+use lib.Dec.{eqb}
+use Rattle.base.specs.Pick.{pick}
+use Rattle.base.specs.Moment.{startOfTime, endOfTime}
+use Rattle.base.specs.declared.Read.{Read}
+use Rattle.base.specs.declared.Read.the-variants.{Value, Refused as Unread}
+use Rattle.signed.specs.Instant.{instantOf, ticksOf, noMoment, orNone}
+use Rattle.signed.specs.declared.Number.{Number}
+use Rattle.signed.specs.declared.Number.the-variants.{Value as Signed, Refused as NoNumber}
+use Rattle.texts.specs.declared.Text.{Text}
+use Rattle.texts.specs.declared.Text.the-variants.{Part, Refused as Untext}
+use Rattle.replies.specs.declared.Reply.{Reply}
+use Rattle.replies.specs.declared.Reply.the-variants.{Two, Three, Refused}
+
+-- "A small code on its own .. gives value and length .. and has place 0"
+abbrev pub readReply : Read → Reply
+readReply (Value v n) = Two (pos v) (pos n)
+readReply (Unread k) = Refused k 0
+
+abbrev pub numberReply : Number → Reply
+numberReply (Signed z n) = Two z (pos n)
+numberReply (NoNumber k) = Refused k 0
+
+-- the place of the text's bytes, and how many they are
+abbrev pub textReply : Text → Reply
+textReply (Part a n) = Two (pos a) (pos n)
+textReply (Untext k) = Refused k 0
+
+-- a moment of n bytes: 0 for start of time, 1 for end of time, 2 and the ticks for an instant
+abbrev pub momentNumbers : ℕ → ℕ → Reply
+momentNumbers m n =
+    pick (eqb m startOfTime) (Three (pos 0) (pos 0) (pos n))
+    (pick (eqb m endOfTime) (Three (pos 1) (pos 0) (pos n)) (Three (pos 2) (ticksOf m) (pos n)))
+
+abbrev pub momentReply : Read → Reply
+momentReply (Value m n) = momentNumbers m n
+momentReply (Unread k) = Refused k 0
+
+-- the previous transition, "which must be finite": 0, which is no instant, where it is said not to be one or lies outside the range
+abbrev pub previousOf : Bool → ℤ → ℕ
+previousOf finite z = pick finite (instantOf z) 0
+
+-- what a kind and ticks name; no moment for a kind above 2 and for ticks outside the range
+unfoldable pub momentOf : ℕ → ℤ → ℕ
+momentOf kind z =
+    pick (eqb kind 0) startOfTime (pick (eqb kind 1) endOfTime (pick (eqb kind 2) (orNone (instantOf z)) noMoment))

@@ -1,0 +1,92 @@
+// The strings of a pool by number, through its index, and texts that lie in the pool or in a field.
+use base::Read;
+use pool::Span;
+ghost use mathlib.Core.Path.{_≡_};
+ghost use mathlib.Core.List.{[]};
+ghost use Prim.Native.Nat.{_+_, _-_, _<_};
+ghost use lib.ListN.{length, getD};
+ghost use lib.Dec.{eqb};
+ghost use Rattle.base.specs.Pick.{pick};
+ghost use Rattle.pool.specs.Pool.{stringsOf};
+ghost use Rattle.pool.specs.Index.{Ready, spanOf};
+ghost use Rattle.base.specs.Equal.{equal};
+ghost use Rattle.strings.specs.Holder.{textOf, Held};
+
+// Where the k-th string lies, by the index.
+pub fn span_by(d: &[u8], starts: &[u32], k: usize) -> Span
+    requires { ⌜ Ready (now d) (now starts) × (k < length (stringsOf (now d))) ⌝ }
+    ensures { λ r. ⌜ r ≡ spanOf (now (d .entry)) k ⌝ }
+{
+    let p = starts[k] as usize;
+    let g = counts::read_count(&d[p..]);
+    match g {
+        Read::Refused(_) => Span { at: 0, len: 0 },
+        Read::Value(n, a) => Span {
+            at: p + a,
+            len: n as usize,
+        },
+    }
+}
+
+// The k-th string, by the index.
+pub fn text_by<'a>(d: &'a [u8], starts: &[u32], k: usize) -> &'a [u8]
+    requires { ⌜ Ready (now d) (now starts) × (k < length (stringsOf (now d))) ⌝ }
+    ensures { λ r. ⌜ now r ≡ getD (stringsOf (now (d .entry))) k [] ⌝ }
+{
+    let s = span_by(d, starts, k);
+    let a = s.at;
+    let e = a + s.len;
+    &d[a..e]
+}
+
+// Which slice holds a text: the pool, under a number; or the field, from a place on and of a length.
+pub enum Holder {
+    InPool(usize),
+    InField(usize, usize),
+}
+
+// A text, as a part of whichever slice holds it.
+pub fn text_of<'a>(pool: &'a [u8], field: &'a [u8], starts: &[u32], h: Holder) -> &'a [u8]
+    requires { ⌜ Ready (now pool) (now starts) × Held (now pool) (now field) h ⌝ }
+    ensures { λ r. ⌜ now r ≡ textOf (now (pool .entry)) (now (field .entry)) h ⌝ }
+{
+    match h {
+        Holder::InPool(k) => text_by(pool, starts, k),
+        Holder::InField(a, n) => {
+            let e = a + n;
+            &field[a..e]
+        }
+    }
+}
+
+// 1 where two bytes differ, else 0.
+fn differ(a: u8, b: u8) -> u8
+    ensures { λ r. ⌜ r ≡ pick (eqb a b) 0 1 ⌝ }
+{
+    if a == b { 0 } else { 1 }
+}
+
+// Whether two strings have the same bytes. The loop has no early exit, so that it compiles to wide operations.
+pub fn same(a: &[u8], b: &[u8]) -> bool
+    ensures { λ r. ⌜ r ≡ equal (now (a .entry)) (now (b .entry)) ⌝ }
+{
+    if a.len() != b.len() {
+        return false;
+    }
+    let mut m: u8 = 0;
+    let mut i: usize = 0;
+    while i < a.len() {
+        m = utf8::larger(m, differ(a[i], b[i]));
+        i += 1;
+    }
+    m == 0
+}
+
+// Whether the k-th string is id.
+pub fn has_id(d: &[u8], starts: &[u32], k: usize, id: &[u8]) -> bool
+    requires { ⌜ Ready (now d) (now starts) × (k < length (stringsOf (now d))) ⌝ }
+    ensures { λ r. ⌜ r ≡ equal (getD (stringsOf (now (d .entry))) k []) (now (id .entry)) ⌝ }
+{
+    let t = text_by(d, starts, k);
+    same(t, id)
+}

@@ -1,0 +1,4 @@
+pub mod Utf8Laws
+pub mod EncodeLaws
+pub mod DecodeLaws
+pub mod AsciiLaws

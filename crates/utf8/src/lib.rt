@@ -1,0 +1,162 @@
+// UTF-8, and its part that is ASCII.
+ghost use mathlib.Core.Path.{_≡_};
+ghost use Prim.Native.Nat.{max, _+_, _≤_, _<_};
+ghost use lib.ListN.{length, take, drop};
+ghost use lib.Dec.{ltb, leb};
+ghost use mathlib.Core.Bool.{true};
+ghost use Rattle.base.specs.Pick.{both};
+ghost use Rattle.utf8.specs.Utf8.{lead as leadOf, chars, utf8};
+ghost use Rattle.utf8.specs.Ascii.{ascii};
+
+// What is due after a byte: how many more bytes of its character, and the range of the first of them. Or the bytes are not UTF-8.
+pub enum Due {
+    Follow(u8, u8, u8),
+    Never,
+}
+
+// What a character's first byte asks for.
+fn lead(b: u8) -> Due
+    ensures { λ r. ⌜ r ≡ leadOf b ⌝ }
+{
+    if b < 0x80 {
+        return Due::Follow(0, 0x80, 0xbf);
+    }
+    if b < 0xc2 {
+        return Due::Never;
+    }
+    if b < 0xe0 {
+        return Due::Follow(1, 0x80, 0xbf);
+    }
+    if b == 0xe0 {
+        return Due::Follow(2, 0xa0, 0xbf);
+    }
+    if b == 0xed {
+        return Due::Follow(2, 0x80, 0x9f);
+    }
+    if b < 0xf0 {
+        return Due::Follow(2, 0x80, 0xbf);
+    }
+    if b == 0xf0 {
+        return Due::Follow(3, 0x90, 0xbf);
+    }
+    if b < 0xf4 {
+        return Due::Follow(3, 0x80, 0xbf);
+    }
+    if b == 0xf4 {
+        return Due::Follow(3, 0x80, 0x8f);
+    }
+    Due::Never
+}
+
+// Whether b is from lo to hi.
+fn within(lo: u8, hi: u8, b: u8) -> bool
+    ensures { λ r. ⌜ r ≡ both (leb lo b) (leb b hi) ⌝ }
+{
+    if b < lo {
+        return false;
+    }
+    b <= hi
+}
+
+// Whether the n bytes from a place on end a character, the first of them from lo to hi.
+fn ends(s: &[u8], at: usize, n: usize, lo: u8, hi: u8) -> bool
+    requires { ⌜ at + n ≤ length (now s) ⌝ }
+    ensures { λ r. ⌜ chars n lo hi (drop at (now (s .entry))) ≡ both r (utf8 (drop (at + n) (now (s .entry)))) ⌝ }
+{
+    let mut i: usize = 0;
+    let mut l = lo;
+    let mut h = hi;
+    while i < n {
+        if within(l, h, s[at + i]) {
+            l = 0x80;
+            h = 0xbf;
+            i += 1;
+        } else {
+            return false;
+        }
+    }
+    true
+}
+
+// How many bytes the character at a place has, 0 where none stands there.
+fn size_at(s: &[u8], at: usize) -> usize
+    requires { ⌜ at < length (now s) ⌝ }
+    ensures { λ r. ⌜ (at + r ≤ length (now (s .entry))) × (utf8 (drop at (now (s .entry))) ≡ both (ltb 0 r) (utf8 (drop (at + r) (now (s .entry))))) ⌝ }
+{
+    match lead(s[at]) {
+        Due::Never => 0,
+        Due::Follow(k, lo, hi) => {
+            let n = k as usize;
+            if s.len() - at <= n {
+                return 0;
+            }
+            if ends(s, at + 1, n, lo, hi) {
+                return n + 1;
+            }
+            0
+        }
+    }
+}
+
+// Whether s is UTF-8, character by character.
+fn scan(s: &[u8]) -> bool
+    ensures { λ r. ⌜ r ≡ utf8 (now (s .entry)) ⌝ }
+{
+    let mut i: usize = 0;
+    while i < s.len() {
+        let n = size_at(s, i);
+        if n == 0 {
+            return false;
+        }
+        i += n;
+    }
+    true
+}
+
+pub fn larger(a: u8, b: u8) -> u8
+    ensures { λ r. ⌜ r ≡ max a b ⌝ }
+{
+    if a < b { b } else { a }
+}
+
+// Whether every byte is below 0x80. The loop has no early exit, so that it compiles to wide operations.
+fn all_ascii(s: &[u8]) -> bool
+    ensures { λ r. ⌜ r ≡ ascii (now (s .entry)) ⌝ }
+{
+    let mut m: u8 = 0;
+    let mut i: usize = 0;
+    while i < s.len() {
+        m = larger(m, s[i]);
+        i += 1;
+    }
+    m < 0x80
+}
+
+// How many bytes at the front of s are ASCII, found block by block: there may be more.
+pub fn ascii_front(s: &[u8]) -> usize
+    ensures { λ r. ⌜ (r ≤ length (now (s .entry))) × (ascii (take r (now (s .entry))) ≡ true) ⌝ }
+{
+    let mut at: usize = 0;
+    while 512 <= s.len() - at {
+        let e = at + 512;
+        if all_ascii(&s[at..e]) {
+            at = e;
+        } else {
+            return at;
+        }
+    }
+    if all_ascii(&s[at..]) {
+        return s.len();
+    }
+    at
+}
+
+// Whether s is UTF-8.
+pub fn is_utf8(s: &[u8]) -> bool
+    ensures { λ r. ⌜ r ≡ utf8 (now (s .entry)) ⌝ }
+{
+    if all_ascii(s) {
+        return true;
+    }
+    scan(s)
+}

@@ -1,41 +1,27 @@
 /*
  * nzd.h - reading and rewriting Noda Time's zone files (NodaZoneData, .nzd).
  *
- * Link with libcapi.a, which `rt staticlib capi` writes to target/staticlib/.
+ * Link with libnzd.a, for x86-64 Linux. `./install PREFIX` makes it and puts it, this header and nzd.pc under PREFIX.
  *
- * Results. Every function gives a result r. r % 256 is a number of this table:
+ * Results. Every function gives a result r: nzd_number_of(r) is a number of enum nzd_number, and nzd_place_of(r) the
+ * place of a refusal (a number other than 0): the place in the file of the faulty field's ID byte, or the bytes' end
+ * where no field has begun; 0 for 3, 14 and 15, for a version that is cut, and for every refusal of a small code. On 0,
+ * nzd_length_of(r) is the length where a length is said below, else 0. Later versions may give further numbers.
  *
- *    0  answered
- *    1  not yet: more may come, and the asked zone has not been seen whole
- *    2  cut short: this is all, and the bytes end in the version or in a field
- *    3  the version is not 0
- *    4  a largest size is passed: a field that ends past 4,194,304, 8,192 pool strings, 1,024 bytes a string,
- *       4,096 intervals a zone
- *    5  a field ID is lower than the one before, or 0 or 2 to 7 stands a second time
- *    6  the first field is not ID 0, or a whole-file check finds no field
- *    7  a count, offset or transition code that is not allowed
- *    8  a string is not UTF-8, or a pool number is not below the pool's count
- *    9  unknown zone or tail flag, field data ending early, or data left over
- *   10  interval count 0, or a start or end that is not allowed
- *   11  a recurrence or a tail sum is out of its ranges
- *   12  no such zone, or no version text
- *   13  a second zone with the same ID (never given by a question)
- *   14  the asked instant is outside years 1 to 9999
- *   15  the output is too short
+ * Output. Output is written on 0 only, and no further than said; all other lent memory stays as found.
  *
- * r / 256 is the place of a refusal (1 to 15): the place in the file of the ID byte of the faulty field, or the
- * bytes' end where no field has begun; 0 for 3, 14, 15, a version that is cut, and every refusal of a small code.
- * On 0 it is the length where a length is said below, else 0.
+ * Instants are ticks of 100 ns since 1970-01-01T00:00Z, from NZD_FIRST_INSTANT (year 1) to NZD_LAST_INSTANT (end of
+ * 9999). Offsets and savings are milliseconds.
  *
- * Output. Output is written on 0 only, and no further than said; all other lent memory stays as found. An int64_t
- * out with fewer elements than the function gives numbers is refused with 15 at place 0, before all else.
+ * Texts (zone IDs, names, the version text) are UTF-8 and not NUL-terminated: each is a place and a length. A place
+ * counts from the pointer that was lent.
  *
- * Instants are ticks of 100 ns since 1970-01-01T00:00Z, from -621355968000000000 (year 1) to 2534023007999999999
- * (end of 9999). Offsets and savings are milliseconds.
+ * Memory. A pointer and the length behind it name that many readable (out: writable) bytes. Where the length is 0 the
+ * pointer is not followed and may be null. A pointer to a struct is never null. out overlaps nothing else that is lent.
+ * No function keeps a pointer, allocates, or has state, so any number of threads may call them.
  *
- * Memory. A pointer and the length behind it name that many readable (out: writable) elements. A pointer is never
- * null, whatever the length, and out overlaps nothing else that is lent. No function keeps a pointer, allocates, or
- * has state, so any number of threads may call them.
+ * Stack, measured and not proved: up to 104 KB for nzd_check, nzd_version_text and nzd_rewrite, 39 KB for nzd_ask and
+ * nzd_ask_plain, below 1 KB for a small code.
  */
 #ifndef NZD_H
 #define NZD_H
@@ -44,70 +30,159 @@
 #include <stddef.h>
 #include <stdint.h>
 
+#define NZD_VERSION_MAJOR 0
+#define NZD_VERSION_MINOR 2
+#define NZD_VERSION_PATCH 0
+#define NZD_VERSION "0.2.0"
+
 #ifdef __cplusplus
 extern "C" {
 #endif
 
+enum nzd_number {
+    NZD_ANSWERED = 0,
+    NZD_NOT_YET = 1,              /* more may come, and the asked zone has not been seen whole */
+    NZD_CUT_SHORT = 2,            /* this is all, and the bytes end in the version or in a field */
+    NZD_WRONG_VERSION = 3,        /* the version is not 0 */
+    NZD_TOO_LARGE = 4,            /* a field that ends past 4,194,304, more than 8,192 pool strings, 1,024 bytes a
+                                     string or 4,096 intervals a zone */
+    NZD_FIELD_ORDER = 5,          /* a field ID is lower than the one before, or 0 or 2 to 7 stands a second time */
+    NZD_FIRST_FIELD = 6,          /* the first field is not ID 0, or a whole-file check finds no field */
+    NZD_BAD_CODE = 7,             /* a count, offset or transition code that is not allowed; a value without a code */
+    NZD_BAD_TEXT = 8,             /* a string is not UTF-8, or a pool number is not below the pool's count */
+    NZD_BAD_DATA = 9,             /* unknown zone or tail flag, data ending early, or data left over */
+    NZD_BAD_INTERVAL = 10,        /* interval count 0, or a start or end that is not allowed */
+    NZD_BAD_RECURRENCE = 11,      /* a recurrence or a tail sum is out of its ranges */
+    NZD_NOT_FOUND = 12,           /* no such zone, or no version text */
+    NZD_SECOND_ZONE = 13,         /* a second zone with the same ID (never given by a question) */
+    NZD_INSTANT_OUT_OF_RANGE = 14,/* the asked instant is outside years 1 to 9999 */
+    NZD_OUTPUT_TOO_SHORT = 15
+};
+
+/* The number of a result. */
+static inline unsigned nzd_number_of(uint64_t r) {
+    return (unsigned)(r % 256);
+}
+
+/* The place of a refusal. */
+static inline size_t nzd_place_of(uint64_t r) {
+    return (size_t)(r / 256);
+}
+
+/* The length that an answer of a writer carries. */
+static inline size_t nzd_length_of(uint64_t r) {
+    return (size_t)(r / 256);
+}
+
+/* A number in words, for people. */
+static inline const char *nzd_words(unsigned number) {
+    switch (number) {
+    case NZD_ANSWERED: return "answered";
+    case NZD_NOT_YET: return "not yet: more bytes are needed";
+    case NZD_CUT_SHORT: return "cut short";
+    case NZD_WRONG_VERSION: return "the version is not 0";
+    case NZD_TOO_LARGE: return "a largest size is passed";
+    case NZD_FIELD_ORDER: return "a field is out of order or stands twice";
+    case NZD_FIRST_FIELD: return "the first field is not the string pool";
+    case NZD_BAD_CODE: return "a count, offset or transition code is not allowed";
+    case NZD_BAD_TEXT: return "a string is not UTF-8, or a pool number is too high";
+    case NZD_BAD_DATA: return "an unknown flag, or data that ends early or is left over";
+    case NZD_BAD_INTERVAL: return "an interval count, start or end is not allowed";
+    case NZD_BAD_RECURRENCE: return "a recurrence or tail sum is out of range";
+    case NZD_NOT_FOUND: return "no such zone, or no version text";
+    case NZD_SECOND_ZONE: return "a second zone has the same ID";
+    case NZD_INSTANT_OUT_OF_RANGE: return "the instant is outside years 1 to 9999";
+    case NZD_OUTPUT_TOO_SHORT: return "the output is too short";
+    default: return "a number that this header does not know";
+    }
+}
+
+#define NZD_TICKS_PER_SECOND INT64_C(10000000)
+#define NZD_FIRST_INSTANT INT64_C(-621355968000000000)
+#define NZD_LAST_INSTANT INT64_C(2534023007999999999)
+/* An interval's start that is start of time, and an end that is end of time. */
+#define NZD_START_OF_TIME INT64_MIN
+#define NZD_END_OF_TIME INT64_MAX
+
 /* Checks a whole file: 0 if it is well formed, else the first fault and its place. */
 uint64_t nzd_check(const uint8_t *file, size_t n);
 
+/* The interval of a zone that holds an instant. It holds its start and not its end. */
+struct nzd_answer {
+    int64_t wall_ms;     /* what to add to UTC for the time on the wall */
+    int64_t savings_ms;  /* how much of that is daylight saving */
+    int64_t name_place;  /* the name in force, as "CEST": its place in file, */
+    int64_t name_length; /* and how many bytes it has */
+    int64_t start;       /* ticks, or NZD_START_OF_TIME */
+    int64_t end;         /* ticks, or NZD_END_OF_TIME */
+};
+
 /*
- * The interval of a zone that holds an instant. id is the zone's ID, any bytes. more says that more bytes of the
- * file may come: what is then given, save 1, stays as it is whatever bytes follow. Without more the bytes are all
+ * Asks for the interval of a zone that holds an instant. id is the zone's ID, any bytes. more says that more bytes of
+ * the file may come: what is then given, save 1, stays as it is whatever bytes follow. Without more the bytes are all
  * there is.
- *
- * out[0] wall offset, out[1] savings, out[2] the place of the name in file, out[3] the name's length,
- * out[4] the interval's start (INT64_MIN is start of time), out[5] its end (INT64_MAX is end of time).
- * The interval holds its start and not its end.
  */
 uint64_t nzd_ask(const uint8_t *file, size_t n, const uint8_t *id, size_t id_n, int64_t ticks, bool more,
-                 int64_t *out, size_t out_n /* 6 */);
+                 struct nzd_answer *out);
 
 /* The same, of bytes that are all there is. */
-uint64_t nzd_ask_plain(const uint8_t *file, size_t n, const uint8_t *id, size_t id_n, int64_t ticks, int64_t *out,
-                       size_t out_n /* 6 */);
+uint64_t nzd_ask_plain(const uint8_t *file, size_t n, const uint8_t *id, size_t id_n, int64_t ticks,
+                       struct nzd_answer *out);
 
-/* The tzdb version text of a well-formed file. out[0] its place in file, out[1] its length. */
-uint64_t nzd_version_text(const uint8_t *file, size_t n, int64_t *out, size_t out_n /* 2 */);
+/* A text: a part of the bytes that were lent. */
+struct nzd_text {
+    int64_t place;
+    int64_t length;
+};
+
+/* The tzdb version text of a well-formed file. */
+uint64_t nzd_version_text(const uint8_t *file, size_t n, struct nzd_text *out);
 
 /*
- * Writes the preferred form of a well-formed file to the front of out. r / 256 is its length, which is at most n.
- * The file is checked first; then 15 if out is shorter than the preferred form.
+ * Writes the preferred form of a well-formed file to the front of out. nzd_length_of(r) is its length, which is at most
+ * n. The file is checked first; then 15 if out is shorter than the preferred form.
  */
 uint64_t nzd_rewrite(const uint8_t *file, size_t n, uint8_t *out, size_t out_n);
 
-/*
- * Small codes, read from the front of s; what follows the code is ignored. 9 if s ends early.
- * out[0] the value, out[1] the length of the code, save where said.
- */
+/* Small codes, read from the front of s; what follows the code is ignored. 9 if s ends early. */
+struct nzd_value {
+    int64_t value;
+    int64_t length; /* of the code */
+};
 
 /* A count, 0 to 2147483647. */
-uint64_t nzd_read_count(const uint8_t *s, size_t n, int64_t *out, size_t out_n /* 2 */);
+uint64_t nzd_read_count(const uint8_t *s, size_t n, struct nzd_value *out);
 
 /* A signed count, -2147483648 to 2147483647. */
-uint64_t nzd_read_signed_count(const uint8_t *s, size_t n, int64_t *out, size_t out_n /* 2 */);
+uint64_t nzd_read_signed_count(const uint8_t *s, size_t n, struct nzd_value *out);
 
 /* An offset in milliseconds, inside 24 hours either way. */
-uint64_t nzd_read_offset(const uint8_t *s, size_t n, int64_t *out, size_t out_n /* 2 */);
+uint64_t nzd_read_offset(const uint8_t *s, size_t n, struct nzd_value *out);
 
-/*
- * A text: its length as a count, and its bytes. out[0] the place of the text in s, out[1] the text's length; the
- * code ends where the text does.
- */
-uint64_t nzd_read_text(const uint8_t *s, size_t n, int64_t *out, size_t out_n /* 2 */);
+/* A text: its length as a count, and its bytes. The code ends where the text does. */
+uint64_t nzd_read_text(const uint8_t *s, size_t n, struct nzd_text *out);
+
+enum nzd_kind {
+    NZD_KIND_START_OF_TIME = 0,
+    NZD_KIND_END_OF_TIME = 1,
+    NZD_KIND_INSTANT = 2
+};
+
+struct nzd_transition {
+    int64_t kind;   /* of enum nzd_kind */
+    int64_t ticks;  /* of an instant, else 0 */
+    int64_t length; /* of the code */
+};
 
 /*
  * A transition. finite says whether previous, the transition before this one, is an instant; previous is not looked
  * at where it is not, and an instant outside years 1 to 9999 counts as none.
- * out[0] 0 start of time, 1 end of time, 2 an instant; out[1] its ticks, or 0 for the marks; out[2] the length of
- * the code.
  */
-uint64_t nzd_read_transition(const uint8_t *s, size_t n, int64_t previous, bool finite, int64_t *out,
-                             size_t out_n /* 3 */);
+uint64_t nzd_read_transition(const uint8_t *s, size_t n, int64_t previous, bool finite, struct nzd_transition *out);
 
 /*
- * Small codes, written to the front of out. r / 256 is the length of the code. 7 for a value that the code can't
- * carry, then 15 if out is too short.
+ * Small codes, written to the front of out. nzd_length_of(r) is the length of the code. 7 for a value that the code
+ * can't carry, then 15 if out is too short.
  */
 
 /* A count, 0 to 2147483647. */
@@ -123,9 +198,9 @@ uint64_t nzd_write_offset(int64_t ms, uint8_t *out, size_t out_n);
 uint64_t nzd_write_text(const uint8_t *t, size_t t_n, uint8_t *out, size_t out_n);
 
 /*
- * A transition, in the first form that fits: mark, hours after previous, minutes since 1800, ticks. kind is 0 start
- * of time, 1 end of time, 2 the instant ticks; ticks is not looked at for the marks. previous and finite as in
- * nzd_read_transition. 7 for a kind above 2, and for an instant outside years 1 to 9999.
+ * A transition, in the first form that fits: mark, hours after previous, minutes since 1800, ticks. kind is of enum
+ * nzd_kind; ticks is not looked at for the marks. previous and finite as in nzd_read_transition. 7 for a kind above 2,
+ * and for an instant outside years 1 to 9999.
  */
 uint64_t nzd_write_transition(uint8_t kind, int64_t ticks, int64_t previous, bool finite, uint8_t *out,
                               size_t out_n);

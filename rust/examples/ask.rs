@@ -1,10 +1,29 @@
-//! Asks a zone file for the offset of a zone at an instant: `cargo run --example ask -- FILE ZONE TICKS`.
+//! Asks a zone file for the offset of a zone at an instant: `cargo run --example ask -- FILE ZONE [SECONDS]`, where SECONDS
+//! is a Unix time; without it the instant is now.
 
-fn main() -> Result<(), Box<dyn std::error::Error>> {
+use std::error::Error;
+use std::process::ExitCode;
+use std::time::SystemTime;
+
+fn main() -> ExitCode {
+    match run() {
+        Ok(()) => ExitCode::SUCCESS,
+        Err(error) => {
+            eprintln!("ask: {error}");
+            ExitCode::FAILURE
+        }
+    }
+}
+
+fn run() -> Result<(), Box<dyn Error>> {
     let arguments: Vec<String> = std::env::args().skip(1).collect();
-    let [file, zone, ticks] = arguments.as_slice() else { return Err("FILE ZONE TICKS".into()) };
+    let (file, zone, ticks) = match arguments.as_slice() {
+        [file, zone] => (file, zone, nzd::ticks_of_system_time(SystemTime::now())),
+        [file, zone, seconds] => (file, zone, nzd::ticks_of_unix_seconds(seconds.parse()?)),
+        _ => return Err("takes FILE ZONE [SECONDS]".into()),
+    };
     let file = std::fs::read(file)?;
-    let answer = nzd::ask_plain(&file, zone, ticks.parse()?)?;
-    println!("{} ms, {}", answer.wall_offset_ms, String::from_utf8_lossy(answer.name));
+    let answer = nzd::ask_plain(&file, zone, ticks)?;
+    println!("{} ms, {}", answer.wall_offset_ms, answer.name_str());
     Ok(())
 }

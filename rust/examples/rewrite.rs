@@ -1,8 +1,21 @@
 //! Writes a zone file's preferred form: `cargo run --example rewrite -- FILE PREFERRED`.
 
-fn main() -> Result<(), Box<dyn std::error::Error>> {
+use std::error::Error;
+use std::process::ExitCode;
+
+fn main() -> ExitCode {
+    match run() {
+        Ok(()) => ExitCode::SUCCESS,
+        Err(error) => {
+            eprintln!("rewrite: {error}");
+            ExitCode::FAILURE
+        }
+    }
+}
+
+fn run() -> Result<(), Box<dyn Error>> {
     let arguments: Vec<String> = std::env::args().skip(1).collect();
-    let [from, to] = arguments.as_slice() else { return Err("FILE PREFERRED".into()) };
+    let [from, to] = arguments.as_slice() else { return Err("takes FILE PREFERRED".into()) };
     let file = std::fs::read(from)?;
     let mut out = vec![0; file.len()];
     let length = nzd::rewrite(&file, &mut out)?;

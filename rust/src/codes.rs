@@ -4,7 +4,7 @@
 //! is ignored. A writer puts a code to the front of `out` and gives its length. Places of errors are 0.
 
 use crate::error::decode;
-use crate::{ffi, part, Bound, Error};
+use crate::{ffi, part, text, Bound, Error};
 
 /// Reads a count, 0 to 2147483647.
 ///
@@ -34,16 +34,16 @@ pub fn read_offset(bytes: &[u8]) -> Result<(i64, usize), Error> {
     number(|out| ffi::read_offset(bytes, out))
 }
 
-/// Reads a text, its length as a count and its bytes. It is a part of `bytes`, in UTF-8.
+/// Reads a text, its length as a count and its bytes. It is a part of `bytes`.
 ///
 /// ```
-/// assert_eq!(nzd::codes::read_text(b"\x03UTC and more"), Ok((&b"UTC"[..], 4)));
+/// assert_eq!(nzd::codes::read_text(b"\x03UTC and more"), Ok(("UTC", 4)));
 /// ```
-pub fn read_text(bytes: &[u8]) -> Result<(&[u8], usize), Error> {
+pub fn read_text(bytes: &[u8]) -> Result<(&str, usize), Error> {
     let mut out = [0; 2];
     decode(ffi::read_text(bytes, &mut out))?;
     let [place, length] = out;
-    Ok((part(bytes, place, length), (place + length) as usize))
+    Ok((text(part(bytes, place, length)), (place + length) as usize))
 }
 
 /// Reads a transition. `previous` is the instant of the transition before it, if that is an instant.
@@ -101,15 +101,15 @@ pub fn write_offset(ms: i64, out: &mut [u8]) -> Result<usize, Error> {
     decode(ffi::write_offset(ms, out))
 }
 
-/// Writes a text, its length as a count and its bytes.
+/// Writes a text, its length as a count and its bytes, which must be UTF-8.
 ///
 /// ```
 /// let mut out = [0; 4];
-/// assert_eq!(nzd::codes::write_text(b"UTC", &mut out), Ok(4));
+/// assert_eq!(nzd::codes::write_text("UTC", &mut out), Ok(4));
 /// assert_eq!(&out, b"\x03UTC");
 /// ```
-pub fn write_text(text: &[u8], out: &mut [u8]) -> Result<usize, Error> {
-    decode(ffi::write_text(text, out))
+pub fn write_text(text: impl AsRef<[u8]>, out: &mut [u8]) -> Result<usize, Error> {
+    decode(ffi::write_text(text.as_ref(), out))
 }
 
 /// Writes a transition in the first form that fits: mark, hours after the previous, minutes since 1800, ticks.
@@ -133,7 +133,7 @@ pub fn write_transition(value: Bound, previous: Option<i64>, out: &mut [u8]) -> 
 }
 
 /// A code that gives a value and a length.
-fn number(read: impl FnOnce(&mut [i64]) -> u64) -> Result<(i64, usize), Error> {
+fn number(read: impl FnOnce(&mut [i64; 2]) -> u64) -> Result<(i64, usize), Error> {
     let mut out = [0; 2];
     decode(read(&mut out))?;
     let [value, length] = out;

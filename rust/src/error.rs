@@ -1,86 +1,83 @@
 //! Why something was refused.
 
-use std::fmt;
+use core::fmt;
 
-/// What was wrong. The discriminant is the number that `include/nzd.h` lists.
+/// What was wrong, as `include/nzd.h` numbers it.
 #[derive(Clone, Copy, Debug, PartialEq, Eq, PartialOrd, Ord, Hash)]
-#[repr(u8)]
+#[non_exhaustive]
 pub enum Number {
-    /// More bytes may come, and the asked zone has not been seen whole: ask again with more bytes.
-    NotYet = 1,
-    /// The bytes are all there is, and end in the version or in a field.
-    CutShort = 2,
-    /// The version is not 0.
-    WrongVersion = 3,
-    /// A largest size is passed: the end of a field, pool strings, a string's bytes, or a zone's intervals.
-    TooLarge = 4,
-    /// A field ID is lower than the one before, or stands a second time where it may not.
-    FieldOrder = 5,
-    /// The first field is not the string pool, or there is no field.
-    FirstField = 6,
-    /// A count, offset or transition code is not allowed, or a value has no code.
-    BadCode = 7,
-    /// A string is not UTF-8, or a pool number is not below the pool's count.
-    BadText = 8,
-    /// An unknown zone or tail flag, or data that ends early or is left over.
-    BadData = 9,
-    /// An interval count of 0, or a start or end that is not allowed.
-    BadInterval = 10,
-    /// A recurrence or a tail sum is out of its ranges.
-    BadRecurrence = 11,
-    /// The file has no such zone, or no version text.
-    NotFound = 12,
-    /// A second zone has the same ID.
-    SecondZone = 13,
-    /// The asked instant is outside years 1 to 9999.
-    InstantOutOfRange = 14,
-    /// The output is too short.
-    OutputTooShort = 15,
+    /// 1: more bytes may come, and the asked zone has not been seen whole: ask again with more bytes.
+    NotYet,
+    /// 2: the bytes are all there is, and end in the version or in a field.
+    CutShort,
+    /// 3: the version is not 0.
+    WrongVersion,
+    /// 4: a largest size is passed: the end of a field, pool strings, a string's bytes, or a zone's intervals.
+    TooLarge,
+    /// 5: a field ID is lower than the one before, or stands a second time where it may not.
+    FieldOrder,
+    /// 6: the first field is not the string pool, or there is no field.
+    FirstField,
+    /// 7: a count, offset or transition code is not allowed, or a value has no code.
+    BadCode,
+    /// 8: a string is not UTF-8, or a pool number is not below the pool's count.
+    BadText,
+    /// 9: an unknown zone or tail flag, or data that ends early or is left over.
+    BadData,
+    /// 10: an interval count of 0, or a start or end that is not allowed.
+    BadInterval,
+    /// 11: a recurrence or a tail sum is out of its ranges.
+    BadRecurrence,
+    /// 12: the file has no such zone, or no version text.
+    NotFound,
+    /// 13: a second zone has the same ID.
+    SecondZone,
+    /// 14: the asked instant is outside years 1 to 9999.
+    InstantOutOfRange,
+    /// 15: the output is too short.
+    OutputTooShort,
+    /// A number that this version of the wrapper has no name for.
+    Other(u8),
 }
 
-impl Number {
-    const ALL: [Number; 15] = [
-        Number::NotYet,
-        Number::CutShort,
-        Number::WrongVersion,
-        Number::TooLarge,
-        Number::FieldOrder,
-        Number::FirstField,
-        Number::BadCode,
-        Number::BadText,
-        Number::BadData,
-        Number::BadInterval,
-        Number::BadRecurrence,
-        Number::NotFound,
-        Number::SecondZone,
-        Number::InstantOutOfRange,
-        Number::OutputTooShort,
-    ];
+/// The numbers from 1 on, in words.
+const NUMBERS: [(Number, &str); 15] = [
+    (Number::NotYet, "not yet: more bytes are needed"),
+    (Number::CutShort, "cut short"),
+    (Number::WrongVersion, "the version is not 0"),
+    (Number::TooLarge, "a largest size is passed"),
+    (Number::FieldOrder, "a field is out of order or stands twice"),
+    (Number::FirstField, "the first field is not the string pool"),
+    (Number::BadCode, "a count, offset or transition code is not allowed"),
+    (Number::BadText, "a string is not UTF-8, or a pool number is too high"),
+    (Number::BadData, "an unknown flag, or data that ends early or is left over"),
+    (Number::BadInterval, "an interval count, start or end is not allowed"),
+    (Number::BadRecurrence, "a recurrence or tail sum is out of range"),
+    (Number::NotFound, "no such zone, or no version text"),
+    (Number::SecondZone, "a second zone has the same ID"),
+    (Number::InstantOutOfRange, "the instant is outside years 1 to 9999"),
+    (Number::OutputTooShort, "the output is too short"),
+];
 
-    /// The number, 1 to 15.
+impl Number {
+    /// The name of a number that is not 0.
+    fn of(value: u8) -> Number {
+        let named = usize::from(value).checked_sub(1).and_then(|at| NUMBERS.get(at));
+        named.map_or(Number::Other(value), |(number, _)| *number)
+    }
+
+    /// The number.
     pub fn value(self) -> u8 {
-        self as u8
+        match self {
+            Number::Other(value) => value,
+            _ => (1..).zip(NUMBERS).find(|(_, (number, _))| *number == self).map_or(0, |(value, _)| value),
+        }
     }
 
     /// The number in words.
     pub fn meaning(self) -> &'static str {
-        match self {
-            Number::NotYet => "not yet: more bytes are needed",
-            Number::CutShort => "cut short",
-            Number::WrongVersion => "the version is not 0",
-            Number::TooLarge => "a largest size is passed",
-            Number::FieldOrder => "a field is out of order or stands twice",
-            Number::FirstField => "the first field is not the string pool",
-            Number::BadCode => "a count, offset or transition code is not allowed",
-            Number::BadText => "a string is not UTF-8, or a pool number is too high",
-            Number::BadData => "an unknown flag, or data that ends early or is left over",
-            Number::BadInterval => "an interval count, start or end is not allowed",
-            Number::BadRecurrence => "a recurrence or tail sum is out of range",
-            Number::NotFound => "no such zone, or no version text",
-            Number::SecondZone => "a second zone has the same ID",
-            Number::InstantOutOfRange => "the instant is outside years 1 to 9999",
-            Number::OutputTooShort => "the output is too short",
-        }
+        let unknown = "a number that this version of the wrapper does not know";
+        NUMBERS.iter().find(|(number, _)| *number == self).map_or(unknown, |(_, words)| words)
     }
 }
 
@@ -100,40 +97,44 @@ impl fmt::Display for Error {
     }
 }
 
-impl std::error::Error for Error {}
+impl core::error::Error for Error {}
 
 /// Takes a result of a C function apart: on 0 the length that it carries, else the error.
-///
-/// # Panics
-/// On a number above 15, which no function gives.
 pub(crate) fn decode(result: u64) -> Result<usize, Error> {
-    let number = (result % 256) as usize;
     let rest = (result / 256) as usize;
-    if number == 0 {
-        return Ok(rest);
+    match (result % 256) as u8 {
+        0 => Ok(rest),
+        number => Err(Error { number: Number::of(number), place: rest }),
     }
-    let number = *Number::ALL.get(number - 1).expect("a number of 0 to 15");
-    Err(Error { number, place: rest })
 }
 
 #[cfg(test)]
 mod tests {
+    extern crate std;
     use super::*;
+    use std::collections::BTreeSet;
+    use std::string::ToString;
 
     #[test]
     fn every_number_is_decoded_to_itself() {
         assert_eq!(decode(17 * 256), Ok(17));
-        for number in 1..=15u8 {
+        for number in 1..=255u8 {
             let error = decode(u64::from(number) + 256 * 1000).expect_err("a refusal");
             assert_eq!((error.number.value(), error.place), (number, 1000));
+            assert_eq!(matches!(error.number, Number::Other(_)), number > 15);
         }
+        // The names stand in the order of the numbers.
+        assert_eq!((Number::of(1), Number::of(12)), (Number::NotYet, Number::NotFound));
+        assert_eq!((Number::of(15), Number::of(16)), (Number::OutputTooShort, Number::Other(16)));
     }
 
     #[test]
     fn every_number_has_a_meaning_of_its_own() {
-        let meanings: std::collections::BTreeSet<&str> = Number::ALL.iter().map(|number| number.meaning()).collect();
-        assert_eq!(meanings.len(), 15);
+        let meanings: BTreeSet<&str> = (1..=16).map(|number| Number::of(number).meaning()).collect();
+        assert_eq!(meanings.len(), 16);
         let error = Error { number: Number::CutShort, place: 11 };
         assert_eq!(error.to_string(), "cut short (number 2, place 11)");
+        let error = Error { number: Number::Other(17), place: 0 };
+        assert_eq!(error.to_string(), "a number that this version of the wrapper does not know (number 17, place 0)");
     }
 }

@@ -1,7 +1,8 @@
-//! The C functions of `include/nzd.h` over slices, with their results as they are there.
+//! The C functions of `include/nzd.h` over slices and arrays, with their results as they are there.
 //!
 //! All `unsafe` of this crate is here. The C functions ask only that a pointer and its length name valid memory, and
-//! that nothing else names what is written; a slice says both. So each function here is safe for every argument.
+//! that nothing else names what is written; a slice or an array says both. So each function here is safe for every
+//! argument. The structs of `include/nzd.h` are arrays here: their numbers in a row.
 
 #![allow(unsafe_code)]
 
@@ -15,8 +16,7 @@ mod c {
             id_n: usize,
             ticks: i64,
             more: bool,
-            out: *mut i64,
-            out_n: usize,
+            out: *mut [i64; 6],
         ) -> u64;
         pub fn nzd_ask_plain(
             file: *const u8,
@@ -24,23 +24,15 @@ mod c {
             id: *const u8,
             id_n: usize,
             ticks: i64,
-            out: *mut i64,
-            out_n: usize,
+            out: *mut [i64; 6],
         ) -> u64;
-        pub fn nzd_version_text(file: *const u8, n: usize, out: *mut i64, out_n: usize) -> u64;
+        pub fn nzd_version_text(file: *const u8, n: usize, out: *mut [i64; 2]) -> u64;
         pub fn nzd_rewrite(file: *const u8, n: usize, out: *mut u8, out_n: usize) -> u64;
-        pub fn nzd_read_count(s: *const u8, n: usize, out: *mut i64, out_n: usize) -> u64;
-        pub fn nzd_read_signed_count(s: *const u8, n: usize, out: *mut i64, out_n: usize) -> u64;
-        pub fn nzd_read_offset(s: *const u8, n: usize, out: *mut i64, out_n: usize) -> u64;
-        pub fn nzd_read_text(s: *const u8, n: usize, out: *mut i64, out_n: usize) -> u64;
-        pub fn nzd_read_transition(
-            s: *const u8,
-            n: usize,
-            previous: i64,
-            finite: bool,
-            out: *mut i64,
-            out_n: usize,
-        ) -> u64;
+        pub fn nzd_read_count(s: *const u8, n: usize, out: *mut [i64; 2]) -> u64;
+        pub fn nzd_read_signed_count(s: *const u8, n: usize, out: *mut [i64; 2]) -> u64;
+        pub fn nzd_read_offset(s: *const u8, n: usize, out: *mut [i64; 2]) -> u64;
+        pub fn nzd_read_text(s: *const u8, n: usize, out: *mut [i64; 2]) -> u64;
+        pub fn nzd_read_transition(s: *const u8, n: usize, previous: i64, finite: bool, out: *mut [i64; 3]) -> u64;
         pub fn nzd_write_count(v: i64, out: *mut u8, out_n: usize) -> u64;
         pub fn nzd_write_signed_count(v: i64, out: *mut u8, out_n: usize) -> u64;
         pub fn nzd_write_offset(ms: i64, out: *mut u8, out_n: usize) -> u64;
@@ -62,20 +54,18 @@ pub fn check(file: &[u8]) -> u64 {
 }
 
 /// `nzd_ask`.
-pub fn ask(file: &[u8], id: &[u8], ticks: i64, more: bool, out: &mut [i64]) -> u64 {
-    let (out, out_n) = (out.as_mut_ptr(), out.len());
-    unsafe { c::nzd_ask(file.as_ptr(), file.len(), id.as_ptr(), id.len(), ticks, more, out, out_n) }
+pub fn ask(file: &[u8], id: &[u8], ticks: i64, more: bool, out: &mut [i64; 6]) -> u64 {
+    unsafe { c::nzd_ask(file.as_ptr(), file.len(), id.as_ptr(), id.len(), ticks, more, out) }
 }
 
 /// `nzd_ask_plain`.
-pub fn ask_plain(file: &[u8], id: &[u8], ticks: i64, out: &mut [i64]) -> u64 {
-    let (out, out_n) = (out.as_mut_ptr(), out.len());
-    unsafe { c::nzd_ask_plain(file.as_ptr(), file.len(), id.as_ptr(), id.len(), ticks, out, out_n) }
+pub fn ask_plain(file: &[u8], id: &[u8], ticks: i64, out: &mut [i64; 6]) -> u64 {
+    unsafe { c::nzd_ask_plain(file.as_ptr(), file.len(), id.as_ptr(), id.len(), ticks, out) }
 }
 
 /// `nzd_version_text`.
-pub fn version_text(file: &[u8], out: &mut [i64]) -> u64 {
-    unsafe { c::nzd_version_text(file.as_ptr(), file.len(), out.as_mut_ptr(), out.len()) }
+pub fn version_text(file: &[u8], out: &mut [i64; 2]) -> u64 {
+    unsafe { c::nzd_version_text(file.as_ptr(), file.len(), out) }
 }
 
 /// `nzd_rewrite`.
@@ -84,28 +74,28 @@ pub fn rewrite(file: &[u8], out: &mut [u8]) -> u64 {
 }
 
 /// `nzd_read_count`.
-pub fn read_count(s: &[u8], out: &mut [i64]) -> u64 {
-    unsafe { c::nzd_read_count(s.as_ptr(), s.len(), out.as_mut_ptr(), out.len()) }
+pub fn read_count(s: &[u8], out: &mut [i64; 2]) -> u64 {
+    unsafe { c::nzd_read_count(s.as_ptr(), s.len(), out) }
 }
 
 /// `nzd_read_signed_count`.
-pub fn read_signed_count(s: &[u8], out: &mut [i64]) -> u64 {
-    unsafe { c::nzd_read_signed_count(s.as_ptr(), s.len(), out.as_mut_ptr(), out.len()) }
+pub fn read_signed_count(s: &[u8], out: &mut [i64; 2]) -> u64 {
+    unsafe { c::nzd_read_signed_count(s.as_ptr(), s.len(), out) }
 }
 
 /// `nzd_read_offset`.
-pub fn read_offset(s: &[u8], out: &mut [i64]) -> u64 {
-    unsafe { c::nzd_read_offset(s.as_ptr(), s.len(), out.as_mut_ptr(), out.len()) }
+pub fn read_offset(s: &[u8], out: &mut [i64; 2]) -> u64 {
+    unsafe { c::nzd_read_offset(s.as_ptr(), s.len(), out) }
 }
 
 /// `nzd_read_text`.
-pub fn read_text(s: &[u8], out: &mut [i64]) -> u64 {
-    unsafe { c::nzd_read_text(s.as_ptr(), s.len(), out.as_mut_ptr(), out.len()) }
+pub fn read_text(s: &[u8], out: &mut [i64; 2]) -> u64 {
+    unsafe { c::nzd_read_text(s.as_ptr(), s.len(), out) }
 }
 
 /// `nzd_read_transition`.
-pub fn read_transition(s: &[u8], previous: i64, finite: bool, out: &mut [i64]) -> u64 {
-    unsafe { c::nzd_read_transition(s.as_ptr(), s.len(), previous, finite, out.as_mut_ptr(), out.len()) }
+pub fn read_transition(s: &[u8], previous: i64, finite: bool, out: &mut [i64; 3]) -> u64 {
+    unsafe { c::nzd_read_transition(s.as_ptr(), s.len(), previous, finite, out) }
 }
 
 /// `nzd_write_count`.

@@ -4,22 +4,37 @@
 //! checked first. The bytes may be the first part of a file that is still arriving: what is said of them then stays
 //! true whatever bytes follow.
 //!
-//! Instants are ticks of 100 ns since 1970-01-01T00:00Z; offsets and savings are milliseconds.
+//! Instants are ticks of 100 ns since 1970-01-01T00:00Z, which [`ticks_of_unix_seconds`] and [`ticks_of_system_time`]
+//! give; offsets and savings are milliseconds.
 //!
 //! ```
 //! // A file with one fixed zone, "UTC".
 //! let file = b"\0\0\0\0\x00\x05\x01\x03UTC\x01\x04\x00\x01\x30\x00";
-//! let answer = nzd::ask_plain(file, "UTC", 0)?;
+//! let answer = nzd::ask_plain(file, "UTC", nzd::ticks_of_unix_seconds(1_711_846_800))?;
 //! assert_eq!(answer.wall_offset_ms, 0);
-//! assert_eq!(answer.name, b"UTC");
+//! assert_eq!(answer.name_str(), "UTC");
 //! # Ok::<(), nzd::Error>(())
 //! ```
+//!
+//! The crate is `no_std`; the feature `std`, which is on unless it is turned off, has the conversion from `SystemTime`.
+//! It links the archive of the proved library, which is for x86-64 Linux; a call needs up to 104 KB of stack, as
+//! measured.
+
+#![no_std]
+
+#[cfg(feature = "std")]
+extern crate std;
 
 pub mod codes;
 mod error;
+#[doc(hidden)]
 pub mod ffi;
+mod ticks;
 
 pub use error::{Error, Number};
+#[cfg(feature = "std")]
+pub use ticks::ticks_of_system_time;
+pub use ticks::{ticks_of_unix_seconds, TICKS_PER_SECOND};
 
 use error::decode;
 
@@ -50,12 +65,19 @@ pub struct Answer<'a> {
     pub wall_offset_ms: i64,
     /// How much of the wall offset is daylight saving, in milliseconds.
     pub savings_ms: i64,
-    /// The name in force, as "CEST": a part of the file's bytes, in UTF-8.
+    /// The name in force, as "CEST": a part of the file's bytes, in UTF-8. [`name_str`](Answer::name_str) has it as text.
     pub name: &'a [u8],
     /// The interval's start, which it holds.
     pub start: Bound,
     /// The interval's end, which it doesn't hold.
     pub end: Bound,
+}
+
+impl<'a> Answer<'a> {
+    /// The name in force, as "CEST": a part of the file.
+    pub fn name_str(&self) -> &'a str {
+        text(self.name)
+    }
 }
 
 /// Checks a whole file.
@@ -130,18 +152,23 @@ fn part(bytes: &[u8], place: i64, length: i64) -> &[u8] {
     &bytes[place..][..length]
 }
 
-/// The tzdb version that a well-formed file was made from, as "2025b": a part of its bytes.
+/// A text that the library gave. It gives none that is not UTF-8.
+fn text(bytes: &[u8]) -> &str {
+    core::str::from_utf8(bytes).expect("a text of the library is UTF-8")
+}
+
+/// The tzdb version that a well-formed file was made from, as "2025b": a part of the file.
 ///
 /// ```
 /// let file = b"\0\0\0\0\x00\x01\x00\x02\x06\x052025b";
-/// assert_eq!(nzd::version_text(file)?, b"2025b");
+/// assert_eq!(nzd::version_text(file)?, "2025b");
 /// # Ok::<(), nzd::Error>(())
 /// ```
-pub fn version_text(file: &[u8]) -> Result<&[u8], Error> {
+pub fn version_text(file: &[u8]) -> Result<&str, Error> {
     let mut out = [0; 2];
     decode(ffi::version_text(file, &mut out))?;
     let [place, length] = out;
-    Ok(part(file, place, length))
+    Ok(text(part(file, place, length)))
 }
 
 /// Writes the preferred form of a well-formed file to the front of `out`, and gives its length, which is at most the

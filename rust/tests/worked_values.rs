@@ -57,7 +57,8 @@ fn summer_and_winter() {
     let winter = ask_plain(&file, "Europe/Oslo", spring - 1).expect("an answer");
     assert_eq!((winter.wall_offset_ms, winter.savings_ms, winter.name), (HOUR, 0, &b"CET"[..]));
     assert!(winter.start < winter.end && winter.end == Bound::At(spring));
-    assert_eq!(version_text(&file), Ok(&b"2025b"[..]));
+    assert_eq!(version_text(&file), Ok("2025b"));
+    assert_eq!(summer.name_str(), "CEST");
 }
 
 #[test]

@@ -1,17 +1,95 @@
-/* Asks a file with one fixed zone, "UTC", for its offset at 1970-01-01T00:00Z. */
-#include "nzd.h"
+/* Asks a file with one fixed zone, "UTC", for its offset at 1970-01-01T00:00Z; then what nzd.h says besides. */
+#include <nzd.h>
 #include <inttypes.h>
 #include <stdio.h>
+#include <string.h>
 
 static const uint8_t file[] = {0, 0, 0, 0, 0, 5, 1, 3, 'U', 'T', 'C', 1, 4, 0, 1, 0x30, 0};
 
+static int failures;
+
+static void expect(int holds, const char *what) {
+    if (!holds) {
+        printf("not so: %s\n", what);
+        failures++;
+    }
+}
+#define EXPECT(x) expect(x, #x)
+
+/* The structs are their numbers in a row. */
+typedef char answer_is_six_numbers[sizeof(struct nzd_answer) == 6 * sizeof(int64_t) ? 1 : -1];
+typedef char text_is_two_numbers[sizeof(struct nzd_text) == 2 * sizeof(int64_t) ? 1 : -1];
+typedef char value_is_two_numbers[sizeof(struct nzd_value) == 2 * sizeof(int64_t) ? 1 : -1];
+typedef char transition_is_three_numbers[sizeof(struct nzd_transition) == 3 * sizeof(int64_t) ? 1 : -1];
+
+/* A pointer whose length is 0 may be null. The numbers are document 01's. */
+static void no_bytes(void) {
+    struct nzd_answer answer;
+    struct nzd_text text;
+    struct nzd_value value;
+    struct nzd_transition transition;
+    EXPECT(nzd_check(NULL, 0) == NZD_CUT_SHORT);
+    EXPECT(nzd_ask(NULL, 0, NULL, 0, 0, true, &answer) == NZD_NOT_YET);
+    EXPECT(nzd_ask_plain(NULL, 0, NULL, 0, 0, &answer) == NZD_CUT_SHORT);
+    EXPECT(nzd_ask_plain(file, sizeof file, NULL, 0, 0, &answer) == NZD_NOT_FOUND + 256 * 17);
+    EXPECT(nzd_version_text(NULL, 0, &text) == NZD_CUT_SHORT);
+    EXPECT(nzd_rewrite(NULL, 0, NULL, 0) == NZD_CUT_SHORT);
+    EXPECT(nzd_rewrite(file, sizeof file, NULL, 0) == NZD_OUTPUT_TOO_SHORT);
+    EXPECT(nzd_read_count(NULL, 0, &value) == NZD_BAD_DATA);
+    EXPECT(nzd_read_signed_count(NULL, 0, &value) == NZD_BAD_DATA);
+    EXPECT(nzd_read_offset(NULL, 0, &value) == NZD_BAD_DATA);
+    EXPECT(nzd_read_text(NULL, 0, &text) == NZD_BAD_DATA);
+    EXPECT(nzd_read_transition(NULL, 0, 0, true, &transition) == NZD_BAD_DATA);
+    EXPECT(nzd_write_count(0, NULL, 0) == NZD_OUTPUT_TOO_SHORT);
+    EXPECT(nzd_write_signed_count(0, NULL, 0) == NZD_OUTPUT_TOO_SHORT);
+    EXPECT(nzd_write_offset(0, NULL, 0) == NZD_OUTPUT_TOO_SHORT);
+    EXPECT(nzd_write_text(NULL, 0, NULL, 0) == NZD_OUTPUT_TOO_SHORT);
+    EXPECT(nzd_write_transition(NZD_KIND_INSTANT, 0, 0, true, NULL, 0) == NZD_OUTPUT_TOO_SHORT);
+}
+
+/* The members of the structs, by values of document 01. */
+static void members(void) {
+    static const uint8_t offset[] = {0x86, 0xf9}, hours[] = {0xb0, 0x27}, utc[] = {3, 'U', 'T', 'C'};
+    struct nzd_answer answer;
+    struct nzd_value value;
+    struct nzd_text text;
+    struct nzd_transition transition;
+    EXPECT(nzd_ask_plain(file, sizeof file, (const uint8_t *)"UTC", 3, 0, &answer) == NZD_ANSWERED);
+    EXPECT(answer.start == NZD_START_OF_TIME && answer.end == NZD_END_OF_TIME);
+    /* "+05:45 is 86 F9" */
+    EXPECT(nzd_read_offset(offset, 2, &value) == NZD_ANSWERED && value.value == 20700000 && value.length == 2);
+    EXPECT(nzd_read_text(utc, 4, &text) == NZD_ANSWERED && text.place == 1 && text.length == 3);
+    /* "5,040 hours is B0 27" */
+    EXPECT(nzd_read_transition(hours, 2, 0, true, &transition) == NZD_ANSWERED);
+    EXPECT(transition.kind == NZD_KIND_INSTANT && transition.ticks == 5040 * 3600 * NZD_TICKS_PER_SECOND);
+    EXPECT(transition.length == 2);
+    EXPECT(nzd_ask_plain(file, sizeof file, NULL, 0, NZD_LAST_INSTANT, &answer) == NZD_NOT_FOUND + 256 * 17);
+    EXPECT(nzd_ask_plain(file, sizeof file, NULL, 0, NZD_LAST_INSTANT + 1, &answer) == NZD_INSTANT_OUT_OF_RANGE);
+    EXPECT(nzd_ask_plain(file, sizeof file, NULL, 0, NZD_FIRST_INSTANT, &answer) == NZD_NOT_FOUND + 256 * 17);
+    EXPECT(nzd_ask_plain(file, sizeof file, NULL, 0, NZD_FIRST_INSTANT - 1, &answer) == NZD_INSTANT_OUT_OF_RANGE);
+}
+
+/* Every number has words of its own. */
+static void words(void) {
+    unsigned a, b;
+    for (a = 0; a <= 16; a++) {
+        for (b = 0; b < a; b++) EXPECT(strcmp(nzd_words(a), nzd_words(b)) != 0);
+    }
+    EXPECT(nzd_words(16) == nzd_words(255));
+}
+
 int main(void) {
-    int64_t out[6];
-    uint64_t r = nzd_ask_plain(file, sizeof file, (const uint8_t *)"UTC", 3, 0, out, 6);
-    if (r % 256 != 0) {
-        printf("refused: number %" PRIu64 ", place %" PRIu64 "\n", r % 256, r / 256);
+    struct nzd_answer out;
+    uint64_t r = nzd_ask_plain(file, sizeof file, (const uint8_t *)"UTC", 3, 0, &out);
+    if (nzd_number_of(r) != NZD_ANSWERED) {
+        printf("%s: number %u, place %zu\n", nzd_words(nzd_number_of(r)), nzd_number_of(r), nzd_place_of(r));
         return 1;
     }
-    printf("0 %" PRId64 " %" PRId64 " %.*s\n", out[0], out[1], (int)out[3], (const char *)file + out[2]);
+    no_bytes();
+    members();
+    words();
+    if (failures) return 1;
+    printf("0 %" PRId64 " %" PRId64 " %.*s\n", out.wall_ms, out.savings_ms, (int)out.name_length,
+           (const char *)file + out.name_place);
     return 0;
 }

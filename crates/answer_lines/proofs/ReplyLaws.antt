@@ -14,9 +14,9 @@ use mir.Syntax.{w64}
 use mir.Val.{SFits}
 use borrow.Author.Tests.{ltb-true}
 use borrow.Rule.Slice.PartMut.{putMid}
-use Rattle.base.specs.Writing.{bytes}
+use Rattle.base.specs.Writing.{bytes, Writes}
 use Rattle.base.specs.declared.Wrote.the-variants.{Length}
-use Rattle.base.proofs.WriteLaws.{Writes, stored}
+use Rattle.base.proofs.WriteLaws.{stored}
 use Rattle.base.proofs.Parts.{part-from, put-from}
 use Rattle.base.proofs.Tests.{never}
 use Rattle.answer_lines.specs.Decimal.{decimal, signed}

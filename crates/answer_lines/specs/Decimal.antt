@@ -1,4 +1,4 @@
--- Numbers as text. Assumes nothing: these are definitions.
+-- Numbers as text. To be believed.
 use Prim.Native.Nat.{ℕ, zero, suc, _+_, _*_, _-_, _/_, _%_}
 use mathlib.Core.Bool.{Bool}
 use mathlib.Core.List.{List, [], _∷_, _++_}

@@ -1,4 +1,4 @@
--- The lines that the program writes. Assumes nothing: these are definitions.
+-- The lines that the program writes. To be believed.
 use Prim.Native.Nat.{ℕ}
 use mathlib.Core.List.{List, [], _∷_, _++_}
 use lib.IntN.{ℤ}

@@ -3,14 +3,14 @@ ghost use mathlib.Core.Path.{_≡_};
 ghost use Prim.Native.Nat.{_+_, _≤_};
 ghost use lib.ListN.{length};
 ghost use lib.Seq.{sets};
-ghost use Rattle.base.specs.Writing.{bytes, wrote, placed};
+ghost use Rattle.base.specs.Writing.{bytes, Writes};
 ghost use Rattle.answer_lines.specs.Decimal.{decimal, signed};
 ghost use Rattle.answer_lines.specs.Reply.{answerLine, refusalLine};
 use base::Wrote;
 
 // The line of an answer.
 pub fn write_answer(wall: i64, savings: i64, name: &[u8], out: &mut [u8]) -> Wrote
-    ensures { λ r. ⌜ (r ≡ wrote (bytes (answerLine wall savings (now (name .entry)))) (now (out .entry))) × (now (out .exit) ≡ placed (bytes (answerLine wall savings (now (name .entry)))) (now (out .entry))) ⌝ }
+    ensures { λ r. ⌜ Writes (bytes (answerLine wall savings (now (name .entry)))) (now (out .entry)) r (now (out .exit)) ⌝ }
 {
     let room = 5 + signed_length(wall) + signed_length(savings) + name.len();
     if out.len() < room {
@@ -29,7 +29,7 @@ pub fn write_answer(wall: i64, savings: i64, name: &[u8], out: &mut [u8]) -> Wro
 
 // The line of a refusal.
 pub fn write_refusal(number: u8, place: u64, out: &mut [u8]) -> Wrote
-    ensures { λ r. ⌜ (r ≡ wrote (bytes (refusalLine number place)) (now (out .entry))) × (now (out .exit) ≡ placed (bytes (refusalLine number place)) (now (out .entry))) ⌝ }
+    ensures { λ r. ⌜ Writes (bytes (refusalLine number place)) (now (out .entry)) r (now (out .exit)) ⌝ }
 {
     let room = 2 + decimal_length(number as u64) + decimal_length(place);
     if out.len() < room {

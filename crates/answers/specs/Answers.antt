@@ -1,30 +1,29 @@
--- What a question says. Assumes nothing: these are definitions.
+-- What a question says. To be believed.
 use Prim.Native.Nat.{ℕ, _+_}
 use mathlib.Core.List.{List, []}
-use lib.ListN.{length, take, drop}
-use lib.Dec.{leb}
-use Rattle.base.specs.Pick.{pick}
+use lib.ListN.{length}
+use Rattle.base.specs.Numbers.{numberGiven, placeGiven}
 use Rattle.signed.specs.Instant.{ticksOf}
 use Rattle.signed.specs.OffsetSum.{millisecondsOf}
 use Rattle.pool.specs.Index.{spanOf}
+use Rattle.strings.specs.Holder.{textOf}
+use Rattle.strings.specs.declared.Holder.the-variants.{InPool}
 use Rattle.zones.specs.declared.Found.{Found as Interval}
 use Rattle.answers.specs.declared.Mark.{Mark}
 use Rattle.answers.specs.declared.Mark.the-variants.{More, All}
 use Rattle.answers.specs.declared.Found.{Found}
 use Rattle.answers.specs.declared.Answer.{Answer}
 use Rattle.answers.specs.declared.Answer.the-variants.{In, Refused}
+use Rattle.answers.specs.Numbers.{givenByAnswer}
 use Rattle.answers.specs.declared.Outcome.{Outcome}
 use Rattle.answers.specs.declared.Outcome.the-variants.{Answered, Refused as Stopped, Cut, End}
 
--- The table's number of an answer, and the place of a refusal: "A refusal carries number and place and no name." An answer's values
--- are those of `Found`, with number 0.
+-- The table's number of an answer, and the place of a refusal
 abbrev pub numberOf : Answer → ℕ
-numberOf (In x) = 0
-numberOf (Refused n p) = n
+numberOf a = numberGiven (givenByAnswer a)
 
 abbrev pub placeOf : Answer → ℕ
-placeOf (In x) = 0
-placeOf (Refused n p) = p
+placeOf a = placeGiven (givenByAnswer a)
 
 -- what a question remembers: where the data of field 0 starts in the file, and that data; none before field 0
 pub record Pool : Type 0 where
@@ -53,7 +52,7 @@ waiting All n = n
 
 -- the bytes of an answer's name; none where the place is not in the bytes, which no answer to them has
 abbrev pub nameOf : List ℕ → Found → List ℕ
-nameOf bs x = pick (leb (x .name + x .length) (length bs)) (take (x .length) (drop (x .name) bs)) []
+nameOf bs x = textOf bs bs (InPool (x .name) (x .length))
 
 abbrev pub poolOf : ℕ → List ℕ → Pool
 poolOf start d = record { start = start; body = d }

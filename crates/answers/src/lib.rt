@@ -1,4 +1,5 @@
 // What a question says: the answer of an interval, the mark's part in it, and the answer's name.
+use strings::Holder;
 use zones::Found as Interval;
 ghost use mathlib.Core.Path.{_≡_};
 ghost use Prim.Native.Nat.{_≤_};
@@ -77,18 +78,9 @@ pub fn finish(o: Outcome, mark: Mark) -> Answer
     }
 }
 
-// The name of an answer, as a part of the asked bytes.
+// The name of an answer, as a part of the asked bytes, which have the pool in them.
 pub fn name_of<'a>(s: &'a [u8], x: Found) -> &'a [u8]
     ensures { λ r. ⌜ now r ≡ nameOf (now (s .entry)) x ⌝ }
 {
-    let a = x.name;
-    let n = x.length;
-    if s.len() < a {
-        return &s[0..0];
-    }
-    if s.len() - a < n {
-        return &s[0..0];
-    }
-    let e = a + n;
-    &s[a..e]
+    strings::text_of(s, s, Holder::InPool(x.name, x.length))
 }

@@ -4,7 +4,7 @@ use Prim.Native.Nat.{ℕ, zero, suc, _+_, _<_}
 use native.Mathlib.Omega.{arith}
 use lib.ListN.{drop}
 use lib.Seq.{getD-drop}
-use Rattle.base.proofs.Parts.{Bytes}
+use Rattle.base.specs.Bytes.{Bytes}
 
 pub no-bytes : Bytes []
 no-bytes i = omega arith

@@ -1,17 +1,13 @@
 -- The test of an instant, and what a moment is. Assumes nothing.
 use mathlib.Core.Path.{_≡_}
 use mathlib.Core.Bool.{true, false}
-use mathlib.Core.Logic.{_⊎_}
 use Prim.Native.Nat.{ℕ, _<_}
 use native.Mathlib.Omega.{arith}
 use lib.Dec.{leb}
 use borrow.Author.Tests.{le-leb, lt-leb, leb-true}
-use Rattle.base.specs.Moment.{Finite, finite, firstInstant, lastInstant, startOfTime, endOfTime}
+use Rattle.base.specs.Moment.{Finite, finite, firstInstant, lastInstant}
+pub use Rattle.base.specs.Moment.{Moment}
 use Rattle.base.proofs.Tests.{both-left, both-right}
-
--- a mark or an instant
-abbrev pub Moment : ℕ → Type 0
-Moment m = (m ≡ startOfTime) ⊎ ((m ≡ endOfTime) ⊎ Finite m)
 
 pub finite-true : (t : ℕ) → finite t ≡ true → Finite t
 finite-true t e = record {

@@ -3,12 +3,12 @@ use mathlib.Core.Path.{_≡_, refl, ap}
 use mathlib.Core.Bool.{Bool, true, false}
 use mathlib.Core.List.{List, [], _∷_}
 use Prim.Native.Nat.{ℕ}
-use native.Mathlib.Omega.{arith}
 use Rattle.base.specs.Pick.{pick}
 use Rattle.base.specs.Parsed.{Parsed, got, bad, bind, ended}
+use Rattle.base.proofs.Tests.{clash}
 
 pub bad-got : {A G : Type 0} {k : ℕ} {a : A} {r : List ℕ} → bad k ≡ got a r → G
-bad-got e = let z : _≡_ {A = ℕ} 0 1 = cc in absurd (omega arith)
+bad-got e = clash cc
 
 -- the parts of equal readings
 valueIn : {A : Type 0} → A → Parsed A → A

@@ -1,15 +1,12 @@
 -- Parts of a slice as the code lends them. Assumes nothing.
 use mathlib.Core.Path.{_≡_, sym, ap, _∙_}
 use mathlib.Core.List.{List, [], _∷_, _++_, append-nil}
-use Prim.Native.Nat.{ℕ, zero, suc, _+_, _-_, _≤_, _<_}
+use Prim.Native.Nat.{ℕ, zero, suc, _+_, _-_, _≤_}
 use native.Mathlib.Omega.{arith}
-use lib.ListN.{length, getD, take, drop, drop-of-length-le, length-drop}
+use lib.ListN.{length, take, drop, drop-of-length-le, length-drop}
 use lib.Seq.{take-all, take-nil, take-take, drop-drop}
 use borrow.Rule.Slice.PartMut.{putMid}
-
--- every element is a byte
-abbrev pub Bytes : List ℕ → Type 0
-Bytes s = (i : ℕ) → getD s i 0 < 256
+pub use Rattle.base.specs.Bytes.{Bytes}
 
 -- &s[a..] is what stands from a on
 pub part-from : (a : ℕ) (s : List ℕ) → take (length s - a) (drop a s) ≡ drop a s

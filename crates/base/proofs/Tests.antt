@@ -7,11 +7,15 @@ use lib.Dec.{ltb}
 use borrow.Author.Tests.{ltb-true, ltb-false}
 use Rattle.base.specs.Pick.{pick, both}
 
+-- what two different constructors that are equal come to: `clash cc`
+pub clash : {A : Type 0} → _≡_ {A = ℕ} 0 1 → A
+clash e = absurd (omega arith)
+
 pub never : {A : Type 0} {t : Bool} → t ≡ true → t ≡ false → A
 never {A} {t} e f = let z : true ≡ false = sym e ∙ f in absurd (go z)
   where
     go : true ≡ false → ⊥
-    go e = let z : _≡_ {A = ℕ} 0 1 = cc in omega arith
+    go e = clash cc
 
 -- a proof by cases on an order
 pub by-order : (a b : ℕ) {G : Type 0} → (a < b → G) → (b ≤ a → G) → G

@@ -11,12 +11,9 @@ use lib.Seq.{sets, sets-eq}
 use borrow.Author.Tests.{le-leb, lt-leb, leb-true}
 use Rattle.base.specs.Pick.{pick}
 use Rattle.base.specs.Writing.{Form, bytes, unfit, wrote, placed}
-use Rattle.base.specs.declared.Wrote.{Wrote}
+pub use Rattle.base.specs.Writing.{Writes}
 use Rattle.base.specs.declared.Wrote.the-variants.{Length, Refused}
-
--- the result r and the output e of writing the form x over d
-abbrev pub Writes : Form → List ℕ → Wrote → List ℕ → Type 0
-Writes x d r e = (r ≡ wrote x d) × (e ≡ placed x d)
+use Rattle.base.proofs.Tests.{clash}
 
 pub no-room : (xs d : List ℕ) → length d < length xs → Writes (bytes xs) d (Refused 15) d
 unfolding wrote placed
@@ -41,5 +38,5 @@ wrote-le (bytes xs) d n = go (leb (length xs) (length d)) refl
   where
     go : (t : Bool) → leb (length xs) (length d) ≡ t → Length n ≡ pick t (Length (length xs)) (Refused 15) → n ≤ length d
     go true l p = let m : n ≡ length xs = cc in omega (arith, leb-true (length xs) (length d) l)
-    go false l p = let z : _≡_ {A = ℕ} 0 1 = cc in absurd (omega arith)
-wrote-le (unfit k) d n = λ p. let z : _≡_ {A = ℕ} 0 1 = cc in absurd (omega arith)
+    go false l p = clash cc
+wrote-le (unfit k) d n = λ p. clash cc

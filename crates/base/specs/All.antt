@@ -1,4 +1,4 @@
--- What holds of every element of a list. Assumes nothing: these are definitions.
+-- What holds of every element of a list. To be believed.
 use mathlib.Core.List.{List, [], _∷_}
 
 pub data All {A : Type 0} (P : A → Type 0) : List A → Type 0 where

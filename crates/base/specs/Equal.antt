@@ -1,5 +1,5 @@
 -- Equality of byte strings, as a test: equal-true and equal-refl in proofs/EqualLaws.antt say that it is equality.
--- Assumes nothing: these are definitions.
+-- To be believed.
 use Prim.Native.Nat.{ℕ}
 use mathlib.Core.List.{List, [], _∷_}
 use mathlib.Core.Bool.{Bool, true, false}

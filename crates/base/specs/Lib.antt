@@ -5,3 +5,5 @@ pub mod Moment
 pub mod Run
 pub mod Equal
 pub mod All
+pub mod Bytes
+pub mod Numbers

@@ -1,9 +1,11 @@
--- Instants and the two marks as one kind of number, a moment. Assumes nothing: these are definitions.
+-- Instants and the two marks as one kind of number, a moment. To be believed.
 -- An instant is the count of ticks since 1 January of year -399: 400 Gregorian years are exactly 20,871 weeks, so leap years and
 -- weekdays go on from there as from year 1, and no number is negative. A mark is the number just outside the instants that
 -- puts it in its order, so an interval holds t exactly when its start is at most t and t is below its end.
 use Prim.Native.Nat.{ℕ, _≤_}
 use mathlib.Core.Bool.{Bool}
+use mathlib.Core.Logic.{_⊎_}
+use mathlib.Core.Path.{_≡_}
 use lib.Dec.{leb}
 use Rattle.base.specs.Pick.{both}
 
@@ -31,3 +33,7 @@ pub record Finite (t : ℕ) : Type 0 where
 
 abbrev pub finite : ℕ → Bool
 finite t = both (leb firstInstant t) (leb t lastInstant)
+
+-- a mark or an instant
+abbrev pub Moment : ℕ → Type 0
+Moment m = (m ≡ startOfTime) ⊎ ((m ≡ endOfTime) ⊎ Finite m)

@@ -1,4 +1,4 @@
--- Readers in a row, over the data of a field. Assumes nothing: these are definitions.
+-- Readers in a row, over the data of a field. To be believed.
 use Prim.Native.Nat.{ℕ, zero, suc}
 use mathlib.Core.List.{List, [], _∷_}
 use lib.ListN.{drop}

@@ -1,4 +1,4 @@
--- Choice by a test. Assumes nothing: these are definitions.
+-- Choice by a test. To be believed.
 use mathlib.Core.Bool.{Bool, true, false}
 
 abbrev pub pick : {A : Type 0} → Bool → A → A → A

@@ -1,5 +1,5 @@
 -- A machine that takes steps until it stops, for any state and outcome: the walk over a file's fields is one.
--- Assumes nothing: these are definitions.
+-- To be believed; that `run` is never short of steps is `run-stop` and `run-next` (proofs/RunLaws.antt).
 use Prim.Native.Nat.{ℕ, zero, suc}
 
 pub data Step (S O : Type 0) : Type 0 where

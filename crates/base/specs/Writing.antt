@@ -1,5 +1,6 @@
--- Writing a code to the front of the output. Assumes nothing: these are definitions.
+-- Writing a code to the front of the output. To be believed.
 use Prim.Native.Nat.{ℕ}
+use mathlib.Core.Path.{_≡_}
 use mathlib.Core.List.{List, _++_}
 use lib.ListN.{length, drop}
 use lib.Dec.{leb}
@@ -21,3 +22,7 @@ wrote (unfit n) d = Refused n
 unfoldable pub placed : Form → List ℕ → List ℕ
 placed (bytes xs) d = pick (leb (length xs) (length d)) (xs ++ drop (length xs) d) d
 placed (unfit n) d = d
+
+-- both: r and e are the result and the output of writing the form f over d
+abbrev pub Writes : Form → List ℕ → Wrote → List ℕ → Type 0
+Writes f d r e = (r ≡ wrote f d) × (e ≡ placed f d)

@@ -7,12 +7,12 @@ use lib.Dec.{ltb}
 use borrow.Author.Tests.{ltb-true, ltb-false}
 use Rattle.base.specs.Pick.{pick}
 use Rattle.base.specs.Moment.{epoch}
-use Rattle.calendar.specs.Calendar.{leapDay, monthLength, daysBefore, yearStart, dayNumber, weekdayOf, Date, IsDate, numberOf, nextDate, InYear, yearOf}
+use Rattle.calendar.specs.Calendar.{leapDay, monthLength, daysBefore, yearStart, dayNumber, weekdayOf, Date, IsDate, dateNumber, nextDate, InYear, yearOf}
 use Rattle.calendar.proofs.Years.{year-next, year-400, year-one}
 use Rattle.calendar.proofs.Months.{month-next, january, december, month-end, before-400}
 
 next-go : (k m d : ℕ) (a b : Bool) → ltb d (monthLength k m) ≡ a → ltb m 12 ≡ b → IsDate (record { year = k; month = m; day = d }) →
-    numberOf (pick a (record { year = k; month = m; day = d + 1 })
+    dateNumber (pick a (record { year = k; month = m; day = d + 1 })
     (pick b (record { year = k; month = m + 1; day = 1 })
     (record { year = k + 1; month = 1; day = 1 }))) ≡ dayNumber k m d + 1
 unfolding dayNumber
@@ -21,18 +21,18 @@ next-go k m d false true p q v = omega (arith, ltb-false, month-next k m (ltb-tr
 next-go k m d false false p q v = omega (arith, ltb-false, december k m (omega (arith, ltb-false m 12 q)), january (k + 1), year-next k)
 
 -- the next date's number is one more: within a month, at the end of a month, after 28 and 29 February, at the end of a year
-pub next-date : (a : Date) → IsDate a → numberOf (nextDate a) ≡ numberOf a + 1
+pub next-date : (a : Date) → IsDate a → dateNumber (nextDate a) ≡ dateNumber a + 1
 unfolding nextDate
 next-date a v = next-go (a .year) (a .month) (a .day) _ _ refl refl v
 
 -- the year of a date's day is the date's
-in-year : (a : Date) → IsDate a → InYear (numberOf a) (a .year)
+in-year : (a : Date) → IsDate a → InYear (dateNumber a) (a .year)
 unfolding dayNumber
 in-year a v =
     record { from = omega arith; to = omega (arith, month-end (a .year) (a .month) (omega arith), year-next (a .year)) }
 
-pub date-year : (a : Date) → IsDate a → a .year ≡ yearOf (numberOf a)
-date-year a v = year-one (numberOf a) (a .year) (in-year a v)
+pub date-year : (a : Date) → IsDate a → a .year ≡ yearOf (dateNumber a)
+date-year a v = year-one (dateNumber a) (a .year) (in-year a v)
 
 -- 400 years later each date is 146097 days later
 pub day-400 : (k m d : ℕ) → dayNumber (k + 400) m d ≡ dayNumber k m d + 146097

@@ -2,3 +2,4 @@ pub mod Tables
 pub mod Years
 pub mod Months
 pub mod Dates
+pub mod Numbering

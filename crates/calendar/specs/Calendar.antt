@@ -1,9 +1,10 @@
 -- The proleptic Gregorian calendar: "Dates are proleptic Gregorian, with years 0 and below allowed inside the arithmetic."
--- Assumes nothing: these are definitions.
+-- To be believed; `next-date` (proofs/Dates.antt) says it of one day and the next.
 -- A year is the number k of whole years since 1 January of year -399, so year 1 is 400 and year -399, the lowest, is 0; a day is the
 -- number of days since that 1 January, a Monday. Years 0 and below are thus the numbers below 400, and nothing is negative. That no
 -- year lies before is no loss: 400 years are 146097 days, exactly 20871 weeks, and leap years, day numbers and weekdays repeat with
 -- them (leap-400, day-400, weekday-400 in proofs/), so a count of years from any earlier 400 years gives the same calendar.
+use mathlib.Core.Path.{_≡_}
 use mathlib.Core.List.{List, [], _∷_}
 use Prim.Native.Nat.{ℕ, _+_, _-_, _*_, _/_, _%_, _≤_, _<_}
 use lib.Dec.{eqb, ltb, leb}
@@ -54,8 +55,8 @@ pub record IsDate (a : Date) : Type 0 where
   pub day-low : 1 ≤ a .day
   pub day-high : a .day ≤ monthLength (a .year) (a .month)
 
-abbrev pub numberOf : Date → ℕ
-numberOf a = dayNumber (a .year) (a .month) (a .day)
+abbrev pub dateNumber : Date → ℕ
+dateNumber a = dayNumber (a .year) (a .month) (a .day)
 
 unfoldable pub nextDate : Date → Date
 nextDate a =
@@ -64,6 +65,12 @@ nextDate a =
     (pick (ltb (a .month) 12)
     (record { year = a .year; month = a .month + 1; day = 1 })
     (record { year = a .year + 1; month = 1; day = 1 }))
+
+-- Days are numbered in the order of their dates, from the first, 1 January of year -399. So says dayNumber, and nothing else does
+-- (numbering, only-numbering in proofs/Numbering.antt).
+pub record Numbering (f : Date → ℕ) : Type 0 where
+  pub first : f (record { year = 0; month = 1; day = 1 }) ≡ 0
+  pub next : (a : Date) → IsDate a → f (nextDate a) ≡ f a + 1
 
 -- k is the year whose days hold n
 pub record InYear (n k : ℕ) : Type 0 where

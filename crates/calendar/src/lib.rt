@@ -9,7 +9,7 @@ const LENGTHS: [u64; 13] = [0, 31, 28, 31, 30, 31, 30, 31, 31, 30, 31, 30, 31];
 const BEFORES: [u64; 13] = [0, 0, 31, 59, 90, 120, 151, 181, 212, 243, 273, 304, 334];
 
 // The leap days of a year: 0 or 1.
-pub fn leap_day(k: u64) -> u64
+fn leap_day(k: u64) -> u64
     requires { ⌜ k < 20000 ⌝ }
     ensures { λ r. ⌜ r ≡ leapDay k ⌝ }
 {
@@ -36,7 +36,7 @@ pub fn month_length(k: u64, m: u64) -> u64
 }
 
 // The days of a year before a month.
-pub fn days_before(k: u64, m: u64) -> u64
+fn days_before(k: u64, m: u64) -> u64
     requires { ⌜ (k < 20000) × (m < 13) ⌝ }
     ensures { λ r. ⌜ r ≡ daysBefore k m ⌝ }
 {
@@ -46,7 +46,7 @@ pub fn days_before(k: u64, m: u64) -> u64
 }
 
 // The day of 1 January.
-pub fn year_start(k: u64) -> u64
+fn year_start(k: u64) -> u64
     requires { ⌜ k < 20000 ⌝ }
     ensures { λ r. ⌜ r ≡ yearStart k ⌝ }
 {

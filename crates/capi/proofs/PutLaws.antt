@@ -9,10 +9,9 @@ use lib.Signed.{ltZ}
 use borrow.Author.Tests.{ltb-true}
 use mir.Syntax.{w64}
 use mir.Val.{SFits}
-use Rattle.base.specs.Writing.{Form, wrote, placed}
+use Rattle.base.specs.Writing.{Form, wrote, placed, Writes}
 use Rattle.base.specs.declared.Wrote.{Wrote}
 use Rattle.base.proofs.Tests.{never}
-use Rattle.base.proofs.WriteLaws.{Writes}
 use Rattle.replies.specs.Small.{SmallWrote}
 use Rattle.replies.specs.Reply.{writtenOf, Puts}
 use Rattle.capi.specs.Functions.{integerForm}

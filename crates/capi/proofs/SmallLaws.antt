@@ -33,14 +33,15 @@ use Rattle.field_checks.specs.declared.VersionText.{VersionText}
 use Rattle.field_checks.specs.declared.VersionText.the-variants.{Part as TextPart, Refused as NoText}
 use Rattle.field_checks.proofs.VersionLaws.{text-of-field}
 use Rattle.answers.specs.Answers.{Pool, noPool}
-use Rattle.walks.specs.Walk.{question}
-use Rattle.questions.specs.Question.{finish, ask}
+use Rattle.questions.specs.Question.{question, finish, ask}
 use Rattle.answers.specs.declared.Mark.{Mark}
 use Rattle.answers.specs.declared.Found.{Found}
 use Rattle.signed.proofs.IntegerLaws.{instant-finite}
-use Rattle.demands.proofs.Names.{name-inside}
+use Rattle.questions.proofs.NameLaws.{name-inside}
 use Rattle.replies.specs.Small.{SmallRead, SmallNumber, SmallText}
 use Rattle.capi.specs.Small.{SmallAnswer, SmallVersion}
+use Rattle.frames.proofs.NearLaws.{Near, walk-near}
+use Rattle.capi.proofs.PlaceLaws.{version-near}
 
 pub count-small : (s : List ℕ) (c : Read) → c ≡ readCount s → SmallRead c
 count-small s (Value v n) e = let x = counted s e in record { to = (omega arith, omega arith) }
@@ -69,20 +70,21 @@ text-small s (Untext k) e = record { to = tt }
 
 pub version-small : (f : List ℕ) → length f < 2 ^ 63 → (t : VersionText) → t ≡ versionOf f → SmallVersion t
 version-small f l (TextPart a n) e = let x = text-of-field f a n (sym e) in record { to = (omega (arith, x .within), omega (arith, x .within)) }
-version-small f l (NoText k p) e = record { to = tt }
+version-small f l (NoText n p) e = record { to = version-near f n p (sym e) }
 
 module _ (bs id : List ℕ) (z : ℤ) (mark : Mark) (l : length bs < 2 ^ 63) where
-  finish-small : (instantOf z ≡ 0 → ⊥) → (o : Out Pool Found) → walk (question id (instantOf z)) noPool bs ≡ o → SmallAnswer (finish mark o)
-  finish-small h (found x p) e =
+  finish-small : (instantOf z ≡ 0 → ⊥) → (o : Out Pool Found) → walk (question id (instantOf z)) noPool bs ≡ o → Near o → SmallAnswer (finish mark o)
+  finish-small h (found x p) e k =
       let i = name-inside bs id (instantOf z) (instant-finite (instantOf z) z refl h) x p e in
       record { to = (omega arith, omega arith) }
-  finish-small h (refused n p) e = record { to = tt }
-  finish-small h (cut p) e = record { to = tt }
-  finish-small h (ended m p) e = record { to = tt }
+  finish-small h (refused n p) e k = record { to = k .to }
+  finish-small h (cut p) e k = record { to = k .to }
+  finish-small h (ended m p) e k = record { to = k .to }
 
   pub ask-small : SmallAnswer (ask bs id z mark)
   unfolding ask
   ask-small =
       pick-holds SmallAnswer (eqb (instantOf z) 0)
-      (λ e. record { to = tt })
-      (λ e. finish-small (eqb-false (instantOf z) 0 e) (walk (question id (instantOf z)) noPool bs) refl)
+      (λ e. record { to = omega arith })
+      (λ e. finish-small (eqb-false (instantOf z) 0 e) (walk (question id (instantOf z)) noPool bs) refl
+      (walk-near (question id (instantOf z)) noPool bs))

@@ -1,6 +1,8 @@
--- What each C function says, by the definitions of the crates below. Assumes nothing: these are definitions.
+-- What each C function says, by the definitions of the crates below. To be believed: what programs in C are told.
 use Prim.Native.Nat.{ℕ}
 use mathlib.Core.Bool.{Bool, true, false}
+use mathlib.Core.List.{List, [], _∷_}
+use mathlib.Core.Path.{_≡_}
 use lib.IntN.{ℤ, pos, negsuc}
 use Rattle.base.specs.Writing.{Form, unfit}
 use Rattle.counts.specs.Count.{countForm}
@@ -13,12 +15,11 @@ use Rattle.answers.specs.declared.Mark.{Mark}
 use Rattle.answers.specs.declared.Mark.the-variants.{More, All}
 use Rattle.answers.specs.declared.Answer.{Answer}
 use Rattle.answers.specs.declared.Answer.the-variants.{In, Refused as Denied}
+use Rattle.rewrite.specs.Preferred.{rewriteOf, outputOf}
 use Rattle.rewrite.specs.declared.Rewritten.{Rewritten}
 use Rattle.rewrite.specs.declared.Rewritten.the-variants.{Length, Refused as Unwritten}
-use Rattle.replies.specs.Reply.{refusal, ofLength}
+use Rattle.replies.specs.Reply.{refusal, ofLength, Reply, numbers, refused}
 use Rattle.replies.specs.Functions.{previousOf, momentOf}
-use Rattle.replies.specs.declared.Reply.{Reply}
-use Rattle.replies.specs.declared.Reply.the-variants.{Two, Six, Refused}
 
 -- the whole-file check
 abbrev pub verdictResult : Verdict → ℕ
@@ -30,6 +31,12 @@ abbrev pub rewrittenResult : Rewritten → ℕ
 rewrittenResult (Length n) = ofLength n
 rewrittenResult (Unwritten n p) = refusal n p
 
+-- the result r and the output e at the return of a rewrite of f, where the output was d: "A rewrite gives its length and leaves later
+-- output bytes as found."
+pub record Rewrites (f d : List ℕ) (r : ℕ) (e : List ℕ) : Type 0 where
+  pub result : r ≡ rewrittenResult (rewriteOf f d)
+  pub output : e ≡ outputOf f d
+
 -- "The marked question says 'more may come' or 'this is all'."
 abbrev pub markOf : Bool → Mark
 markOf true = More
@@ -37,13 +44,13 @@ markOf false = All
 
 -- "An answer carries wall offset, savings, the name as a part of the lent bytes, and the interval's start and end."
 abbrev pub answerReply : Answer → Reply
-answerReply (In x) = Six (x .wall) (x .savings) (pos (x .name)) (pos (x .length)) (x .start) (x .end)
-answerReply (Denied n p) = Refused n p
+answerReply (In x) = numbers (x .wall ∷ x .savings ∷ pos (x .name) ∷ pos (x .length) ∷ x .start ∷ x .end ∷ [])
+answerReply (Denied n p) = refused n p
 
 -- the version text's place and length
 abbrev pub versionReply : VersionText → Reply
-versionReply (TextPart a n) = Two (pos a) (pos n)
-versionReply (NoText n p) = Refused n p
+versionReply (TextPart a n) = numbers (pos a ∷ pos n ∷ [])
+versionReply (NoText n p) = refused n p
 
 -- "7 for a number the code can't carry": a count is not below 0
 abbrev pub integerForm : ℤ → Form

@@ -1,6 +1,6 @@
--- What the inner functions ask: that each number fits where it goes. The C functions ask nothing. Assumes nothing: these are
--- definitions.
-use Prim.Native.Nat.{_<_, _^_}
+-- What the inner functions ask: that each number fits where it goes. The C functions ask nothing. To be believed by
+-- none: each is proved where it is asked.
+use Prim.Native.Nat.{_≤_, _<_, _^_}
 use Rattle.field_checks.specs.declared.VersionText.{VersionText}
 use Rattle.field_checks.specs.declared.VersionText.the-variants.{Part as TextPart, Refused as NoText}
 use Rattle.answers.specs.declared.Answer.{Answer}
@@ -8,14 +8,14 @@ use Rattle.answers.specs.declared.Answer.the-variants.{In, Refused as Denied}
 
 abbrev pub AnswerTo : Answer → Type 0
 AnswerTo (In x) = (x .name < 2 ^ 63) × (x .length < 2 ^ 63)
-AnswerTo (Denied n p) = Unit {0}
+AnswerTo (Denied n p) = p ≤ 4194304
 
 pub record SmallAnswer (a : Answer) : Type 0 where
   pub to : AnswerTo a
 
 abbrev pub VersionTo : VersionText → Type 0
 VersionTo (TextPart a n) = (a < 2 ^ 63) × (n < 2 ^ 63)
-VersionTo (NoText n p) = Unit {0}
+VersionTo (NoText n p) = p ≤ 4194304
 
 pub record SmallVersion (t : VersionText) : Type 0 where
   pub to : VersionTo t

@@ -3,7 +3,6 @@ use answers::Answer;
 use answers::Mark;
 use field_checks::Verdict;
 use field_checks::VersionText;
-use replies::Reply;
 use rewrite::Rewritten;
 ghost use mathlib.Core.Path.{_≡_};
 ghost use Rattle.counts.specs.Count.{readCount};
@@ -13,16 +12,15 @@ ghost use Rattle.transitions.specs.Transition.{readMoment};
 ghost use Rattle.texts.specs.Text.{readText, textForm};
 ghost use Rattle.field_checks.specs.Check.{checkOf, versionOf};
 ghost use Rattle.questions.specs.Question.{ask as askOf, askPlain};
-ghost use Rattle.rewrite.specs.Preferred.{rewriteOf, outputOf};
 ghost use Rattle.replies.specs.Reply.{Gives, Puts};
 ghost use Rattle.replies.specs.Functions.{readReply, numberReply, textReply, momentReply, previousOf};
-ghost use Rattle.capi.specs.Functions.{verdictResult, rewrittenResult, markOf, answerReply, versionReply, integerForm, kindForm};
+ghost use Rattle.capi.specs.Functions.{verdictResult, Rewrites, markOf, answerReply, versionReply, integerForm, kindForm};
 ghost use Rattle.capi.specs.Small.{SmallAnswer, SmallVersion};
 
 // The preferred form of a whole file.
 #[no_mangle]
 pub extern "C" fn nzd_rewrite(file: &[u8], out: &mut [u8]) -> u64
-    ensures { λ r. ⌜ (r ≡ rewrittenResult (rewriteOf (now (file .entry)) (now (out .entry)))) × (now (out .exit) ≡ outputOf (now (file .entry)) (now (out .entry))) ⌝ }
+    ensures { λ r. ⌜ Rewrites (now (file .entry)) (now (out .entry)) r (now (out .exit)) ⌝ }
 {
     match rewrite::rewrite(file, out) {
         Rewritten::Length(n) => 256 * (n as u64),
@@ -50,108 +48,113 @@ fn mark_of(more: bool) -> Mark
     Mark::All
 }
 
-fn answer_reply(a: Answer) -> Reply
+// The numbers of an answer.
+fn give_answer(a: Answer, out: &mut [i64; 6]) -> u64
     requires { ⌜ SmallAnswer a ⌝ }
-    ensures { λ r. ⌜ r ≡ answerReply a ⌝ }
+    ensures { λ r. ⌜ Gives (answerReply a) (now (out .entry)) r (now (out .exit)) ⌝ }
 {
     match a {
-        Answer::In(x) => Reply::Six(
-            x.wall,
-            x.savings,
-            x.name as i64,
-            x.length as i64,
-            x.start,
-            x.end,
-        ),
-        Answer::Refused(n, p) => Reply::Refused(n, p),
+        Answer::In(x) => {
+            *out = [
+                x.wall,
+                x.savings,
+                x.name as i64,
+                x.length as i64,
+                x.start,
+                x.end,
+            ];
+            0
+        }
+        Answer::Refused(n, p) => replies::refusal(n, p),
     }
 }
 
 // The marked question.
 #[no_mangle]
-pub extern "C" fn nzd_ask(file: &[u8], id: &[u8], ticks: i64, more: bool, out: &mut [i64]) -> u64
-    ensures { λ r. ⌜ Gives 6 (answerReply (askOf (now (file .entry)) (now (id .entry)) ticks (markOf more))) (now (out .entry)) r (now (out .exit)) ⌝ }
+pub extern "C" fn nzd_ask(file: &[u8], id: &[u8], ticks: i64, more: bool, out: &mut [i64; 6]) -> u64
+    ensures { λ r. ⌜ Gives (answerReply (askOf (now (file .entry)) (now (id .entry)) ticks (markOf more))) (now (out .entry)) r (now (out .exit)) ⌝ }
 {
     let mark = mark_of(more);
     let a = questions::ask(file, id, ticks, mark);
-    let x = answer_reply(a);
-    replies::give(x, 6, out)
+    give_answer(a, out)
 }
 
 // The plain question.
 #[no_mangle]
-pub extern "C" fn nzd_ask_plain(file: &[u8], id: &[u8], ticks: i64, out: &mut [i64]) -> u64
-    ensures { λ r. ⌜ Gives 6 (answerReply (askPlain (now (file .entry)) (now (id .entry)) ticks)) (now (out .entry)) r (now (out .exit)) ⌝ }
+pub extern "C" fn nzd_ask_plain(file: &[u8], id: &[u8], ticks: i64, out: &mut [i64; 6]) -> u64
+    ensures { λ r. ⌜ Gives (answerReply (askPlain (now (file .entry)) (now (id .entry)) ticks)) (now (out .entry)) r (now (out .exit)) ⌝ }
 {
     let a = questions::ask_plain(file, id, ticks);
-    let x = answer_reply(a);
-    replies::give(x, 6, out)
+    give_answer(a, out)
 }
 
-fn version_reply(t: VersionText) -> Reply
+// Place and length of the version text.
+fn give_version(t: VersionText, out: &mut [i64; 2]) -> u64
     requires { ⌜ SmallVersion t ⌝ }
-    ensures { λ r. ⌜ r ≡ versionReply t ⌝ }
+    ensures { λ r. ⌜ Gives (versionReply t) (now (out .entry)) r (now (out .exit)) ⌝ }
 {
     match t {
-        VersionText::Part(a, n) => Reply::Two(a as i64, n as i64),
-        VersionText::Refused(n, p) => Reply::Refused(n, p),
+        VersionText::Part(a, n) => {
+            *out = [a as i64, n as i64];
+            0
+        }
+        VersionText::Refused(n, p) => replies::refusal(n, p),
     }
 }
 
 // The version text.
 #[no_mangle]
-pub extern "C" fn nzd_version_text(file: &[u8], out: &mut [i64]) -> u64
-    ensures { λ r. ⌜ Gives 2 (versionReply (versionOf (now (file .entry)))) (now (out .entry)) r (now (out .exit)) ⌝ }
+pub extern "C" fn nzd_version_text(file: &[u8], out: &mut [i64; 2]) -> u64
+    ensures { λ r. ⌜ Gives (versionReply (versionOf (now (file .entry)))) (now (out .entry)) r (now (out .exit)) ⌝ }
 {
     let t = checks::version_text(file);
-    let x = version_reply(t);
-    replies::give(x, 2, out)
+    give_version(t, out)
 }
 
 #[no_mangle]
-pub extern "C" fn nzd_read_count(s: &[u8], out: &mut [i64]) -> u64
-    ensures { λ r. ⌜ Gives 2 (readReply (readCount (now (s .entry)))) (now (out .entry)) r (now (out .exit)) ⌝ }
+pub extern "C" fn nzd_read_count(s: &[u8], out: &mut [i64; 2]) -> u64
+    ensures { λ r. ⌜ Gives (readReply (readCount (now (s .entry)))) (now (out .entry)) r (now (out .exit)) ⌝ }
 {
     let c = counts::read_count(s);
-    let x = replies::read_reply(c);
-    replies::give(x, 2, out)
+    replies::give_read(c, out)
 }
 
 #[no_mangle]
-pub extern "C" fn nzd_read_signed_count(s: &[u8], out: &mut [i64]) -> u64
-    ensures { λ r. ⌜ Gives 2 (numberReply (readSignedCount (now (s .entry)))) (now (out .entry)) r (now (out .exit)) ⌝ }
+pub extern "C" fn nzd_read_signed_count(s: &[u8], out: &mut [i64; 2]) -> u64
+    ensures { λ r. ⌜ Gives (numberReply (readSignedCount (now (s .entry)))) (now (out .entry)) r (now (out .exit)) ⌝ }
 {
     let c = counts::read_signed_count(s);
-    let x = replies::number_reply(c);
-    replies::give(x, 2, out)
+    replies::give_number(c, out)
 }
 
 #[no_mangle]
-pub extern "C" fn nzd_read_offset(s: &[u8], out: &mut [i64]) -> u64
-    ensures { λ r. ⌜ Gives 2 (numberReply (readOffset (now (s .entry)))) (now (out .entry)) r (now (out .exit)) ⌝ }
+pub extern "C" fn nzd_read_offset(s: &[u8], out: &mut [i64; 2]) -> u64
+    ensures { λ r. ⌜ Gives (numberReply (readOffset (now (s .entry)))) (now (out .entry)) r (now (out .exit)) ⌝ }
 {
     let c = offsets::read_offset(s);
-    let x = replies::number_reply(c);
-    replies::give(x, 2, out)
+    replies::give_number(c, out)
 }
 
 #[no_mangle]
-pub extern "C" fn nzd_read_text(s: &[u8], out: &mut [i64]) -> u64
-    ensures { λ r. ⌜ Gives 2 (textReply (readText (now (s .entry)))) (now (out .entry)) r (now (out .exit)) ⌝ }
+pub extern "C" fn nzd_read_text(s: &[u8], out: &mut [i64; 2]) -> u64
+    ensures { λ r. ⌜ Gives (textReply (readText (now (s .entry)))) (now (out .entry)) r (now (out .exit)) ⌝ }
 {
     let t = texts::read_text(s);
-    let x = replies::text_reply(t);
-    replies::give(x, 2, out)
+    replies::give_text(t, out)
 }
 
 #[no_mangle]
-pub extern "C" fn nzd_read_transition(s: &[u8], previous: i64, finite: bool, out: &mut [i64]) -> u64
-    ensures { λ r. ⌜ Gives 3 (momentReply (readMoment (previousOf finite previous) (now (s .entry)))) (now (out .entry)) r (now (out .exit)) ⌝ }
+pub extern "C" fn nzd_read_transition(
+    s: &[u8],
+    previous: i64,
+    finite: bool,
+    out: &mut [i64; 3],
+) -> u64
+    ensures { λ r. ⌜ Gives (momentReply (readMoment (previousOf finite previous) (now (s .entry)))) (now (out .entry)) r (now (out .exit)) ⌝ }
 {
     let p = replies::previous_of(finite, previous);
     let c = transitions::read_moment(p, s);
-    let x = replies::moment_reply(c);
-    replies::give(x, 3, out)
+    replies::give_moment(c, out)
 }
 
 #[no_mangle]

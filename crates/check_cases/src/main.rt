@@ -3,7 +3,7 @@
 // The instant is in ticks since 1970; the zone's ID, the file's parts and the times, three bytes, are in hexadecimal, `-` for none.
 // For each it writes the check's number and place, `0 0` for a well-formed file; the version text's number and place, with its length behind a
 // 0; and the plain question's number and place, or 0, wall offset, savings, start, end and name, the name in hexadecimal.
-// The stored output comes from tests/check_cases/make.py.
+// The stored output comes from tests/make/check_cases.py.
 use answers::Answer;
 use answers::Found;
 use field_checks::Verdict;

@@ -1,4 +1,4 @@
-// Runs the small codes on cases from standard input, and writes an answer for each: tests/code_cases/make.py says what they are.
+// Runs the small codes on cases from standard input, and writes an answer for each: tests/make/code_cases.py says what they are.
 use base::Read;
 use base::Wrote;
 use libc::STDIN_FILENO;

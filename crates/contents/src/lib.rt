@@ -1,5 +1,6 @@
 // A field's data in their preferred form: whether they are in it, how long it is, and the writing of it. Every transition is written in
 // the writer's form, all else is copied.
+use base::END;
 use base::Read;
 use base::Wrote;
 ghost use mathlib.Core.Path.{_≡_};
@@ -13,9 +14,6 @@ ghost use Rattle.counts.specs.Count.{writeCount};
 ghost use Rattle.transitions.specs.Transition.{writeMoment};
 ghost use Rattle.pieces.specs.Content.{printPieces, contentOf, print};
 ghost use Rattle.pieces.specs.View.{HasPieces, HasContent, piecesAt, Put};
-
-// The mark end of time, as a moment.
-const END: u64 = 3281606784000000000;
 
 // The length of n pieces from a place on, in their preferred form.
 fn pieces_size(s: &[u8], at: usize, n: u64) -> usize

@@ -7,24 +7,17 @@ use native.Mathlib.Omega.{arith}
 use lib.ListN.{length, getD, drop}
 use lib.Seq.{drop-cons}
 use borrow.Author.Tests.{lt-ltb, le-leb, lt-leb}
-use Rattle.base.specs.Writing.{bytes}
+use Rattle.base.specs.Writing.{bytes, Writes}
 use Rattle.base.specs.declared.Wrote.{Wrote}
 use Rattle.base.specs.declared.Wrote.the-variants.{Refused as WriteRefused}
-use Rattle.base.proofs.WriteLaws.{Writes, not-carried}
+use Rattle.base.proofs.WriteLaws.{not-carried}
 use Rattle.base.specs.declared.Read.the-variants.{Value, Refused}
 use Rattle.base.proofs.Parts.{Bytes}
 use Rattle.counts.specs.Groups.{readGroups}
 use Rattle.counts.specs.Count.{readCount, writeCount, countForm}
 use Rattle.counts.proofs.GroupLaws.{group, read-written, Written, read-form, same-added, past-added, group-refused}
 use Rattle.counts.proofs.GroupWriteLaws.{write-some, write-size, write-mono, write-most, write-least, write-bytes}
-
--- a count v that s gives in n bytes
-pub record Counted (s : List ℕ) (v n : ℕ) : Type 0 where
-  pub small : v ≤ 2147483647
-  pub some : 1 ≤ n
-  pub size : n ≤ 5
-  pub within : n ≤ length s
-  pub single : v < 128 → n ≡ 1
+pub use Rattle.counts.specs.Facts.{Counted, CountSize}
 
 pub counted : (s : List ℕ) {v n : ℕ} → Value v n ≡ readCount s → Counted s v n
 counted s e =
@@ -53,11 +46,6 @@ count-past e s p q = past-added e 4 7 s p q
 
 pub count-refused : (s : List ℕ) {k : ℕ} → Refused k ≡ readCount s → (k ≡ 7) ⊎ (k ≡ 9)
 count-refused s e = group-refused 4 7 s e
-
--- the written form: 1 to 5 bytes, not shorter for a larger number
-pub record CountSize (v : ℕ) : Type 0 where
-  pub some : 1 ≤ length (writeCount v)
-  pub most : length (writeCount v) ≤ 5
 
 pub count-size : (v : ℕ) → CountSize v
 count-size v = record { some = write-some 4 v; most = write-size 4 v }

@@ -15,6 +15,7 @@ use Rattle.base.specs.declared.Read.the-variants.{Value, Refused}
 use Rattle.base.proofs.Tests.{pick-holds}
 use Rattle.base.proofs.Parts.{Bytes}
 use Rattle.counts.specs.Fixed.{fixedFrom, readFixed, fixedBytes}
+pub use Rattle.counts.specs.Facts.{Between, FixedRead}
 
 -- the loop that reads them: i of n bytes are read, which give v
 pub fixed-next : (n i v : ℕ) (s : List ℕ) → i < n → n ≤ length s
@@ -42,11 +43,6 @@ room n i v b m h hb l =
     let w = room-suc (n - (i + 1)) v b hb in
     let k = rw e at l in
     (omega arith, omega (arith, mul-le-mul-left (v * 256 + b + 1) (one-le-pow (n - (i + 1)) 256 (lit≤ tt))))
-
--- the number has the bits of high above its n bytes
-pub record Between (n high v : ℕ) : Type 0 where
-  pub low : high * 256 ^ n ≤ v
-  pub below : v < (high + 1) * 256 ^ n
 
 pub fixed-between : (n high : ℕ) (s : List ℕ) → Bytes s → n ≤ length s → Between n high (fixedFrom n high s)
 unfolding fixedFrom
@@ -87,12 +83,6 @@ unfolding fixedBytes
 fixed-bytes zero v i = omega arith
 fixed-bytes (suc n) v zero = omega arith
 fixed-bytes (suc n) v (suc i) = fixed-bytes n v i
-
--- n bytes that are there
-pub record FixedRead (n high : ℕ) (s : List ℕ) (v m : ℕ) : Type 0 where
-  pub value : v ≡ fixedFrom n high s
-  pub size : m ≡ n
-  pub within : n ≤ length s
 
 abbrev IsFixed : ℕ → ℕ → List ℕ → Read → Type 0
 IsFixed n high s (Value v m) = FixedRead n high s v m

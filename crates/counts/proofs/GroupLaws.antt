@@ -16,9 +16,10 @@ use borrow.Author.Tests.{lt-ltb, le-ltb, le-leb, lt-leb, ne-eqb, ltb-true, ltb-f
 use Rattle.base.specs.Pick.{pick, both}
 use Rattle.base.specs.declared.Read.{Read}
 use Rattle.base.specs.declared.Read.the-variants.{Value, Refused}
-use Rattle.base.proofs.Tests.{by-order, pick-holds}
+use Rattle.base.proofs.Tests.{by-order, pick-holds, clash}
 use Rattle.base.proofs.Parts.{Bytes}
 use Rattle.counts.specs.Groups.{more, before, readGroups, writeGroups}
+pub use Rattle.counts.specs.Facts.{Group, Written}
 
 -- where the reader's loop stands: i bytes with the top bit set are read, whose groups give v, and the next group counts unit
 pub record Reading (top : ℕ) (s : List ℕ) (v unit i : ℕ) : Type 0 where
@@ -93,14 +94,6 @@ module _ (top : ℕ) (s : List ℕ) (v unit i : ℕ) (r : Reading top s v unit i
     pub reading-above : top < getD s 4 0 → Refused 7 ≡ readGroups 4 top s
     reading-above h = rw (lt-leb (getD s 4 0) top h) at fifth-byte
 
--- a value v that s gives in n bytes
-pub record Group (k top : ℕ) (s : List ℕ) (v n : ℕ) : Type 0 where
-  pub small : v < (top + 1) * 128 ^ k
-  pub some : 1 ≤ n
-  pub size : n ≤ k + 1
-  pub within : n ≤ length s
-  pub single : v < 128 → n ≡ 1
-
 abbrev IsGroup : ℕ → ℕ → List ℕ → Read → Type 0
 IsGroup k top s (Value v n) = Group k top s v n
 IsGroup k top s (Refused j) = Unit
@@ -152,11 +145,6 @@ read-written (suc k) top v rest ht hv =
       ne-eqb (v / 128) 0 (omega arith),
     ) (ap₂ Value (omega arith) (omega arith)))
 
--- s starts with the written form of the value v that it gives in n bytes: so the form is unique
-pub record Written (k : ℕ) (s : List ℕ) (v n : ℕ) : Type 0 where
-  pub form : s ≡ writeGroups k v ++ drop n s
-  pub size : n ≡ length (writeGroups k v)
-
 abbrev IsWritten : ℕ → List ℕ → Read → Type 0
 IsWritten k s (Value v n) = Written k s v n
 IsWritten k s (Refused j) = Unit
@@ -193,7 +181,7 @@ same-more : (b : ℕ) (g h : Read) → ((Refused 9 ≡ g → ⊥) → h ≡ g) �
 same-more b (Value v n) h f p = ap (more b) (f (λ z. p (cut z)))
   where
     cut : Refused 9 ≡ Value v n → Refused 9 ≡ more b (Value v n)
-    cut z = let q : _≡_ {A = ℕ} 0 1 = cc in absurd (omega arith)
+    cut z = clash cc
 same-more b (Refused k) h f p = ap (more b) (f p)
 
 pub same-added : (e : List ℕ) (k top : ℕ) (s : List ℕ) → (Refused 9 ≡ readGroups k top s → ⊥) → readGroups k top (s ++ e) ≡ readGroups k top s
@@ -219,7 +207,7 @@ past-more b s (Value w m) (Value v n) f p = go (eqb w 0) p
   where
     go : (t : Bool) → Refused 9 ≡ pick t (Refused 7) (Value (b % 128 + 128 * w) (m + 1)) → Past (b ∷ s) (more b (Value v n))
     go true q = let z : _≡_ {A = ℕ} 9 7 = cc in absurd (omega arith)
-    go false q = let z : _≡_ {A = ℕ} 0 1 = cc in absurd (omega arith)
+    go false q = clash cc
 
 past : (e : List ℕ) (k top : ℕ) (s : List ℕ) → Refused 9 ≡ readGroups k top s → Past s (readGroups k top (s ++ e))
 unfolding readGroups
@@ -231,12 +219,12 @@ past e k top [] p = go (readGroups k top e) refl
 past e zero top (b ∷ s) p = go (leb b top) p
   where
     go : (t : Bool) → Refused 9 ≡ pick t (Value b 1) (Refused 7) → Past (b ∷ s) (pick (leb b top) (Value b 1) (Refused 7))
-    go true q = let z : _≡_ {A = ℕ} 0 1 = cc in absurd (omega arith)
+    go true q = clash cc
     go false q = let z : _≡_ {A = ℕ} 9 7 = cc in absurd (omega arith)
 past e (suc k) top (b ∷ s) p = go (past e k top s) (ltb b 128) p
   where
     go : (Refused 9 ≡ readGroups k top s → Past s (readGroups k top (s ++ e))) → (t : Bool) → Refused 9 ≡ pick t (Value b 1) (more b (readGroups k top s)) → Past (b ∷ s) (pick t (Value b 1) (more b (readGroups k top (s ++ e))))
-    go f true q = let z : _≡_ {A = ℕ} 0 1 = cc in absurd (omega arith)
+    go f true q = clash cc
     go f false q = past-more b s (readGroups k top s) (readGroups k top (s ++ e)) f q
 
 pub past-added : (e : List ℕ) (k top : ℕ) (s : List ℕ) {v n : ℕ} → Refused 9 ≡ readGroups k top s → Value v n ≡ readGroups k top (s ++ e) → length s < n

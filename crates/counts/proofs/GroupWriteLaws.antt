@@ -9,12 +9,12 @@ use lib.Dec.{ltb, lit≤}
 use lib.ListN.{length, set, length-set}
 use lib.Seq.{sets}
 use borrow.Author.Tests.{lt-ltb, le-ltb, ltb-true}
-use Rattle.base.specs.Writing.{bytes}
+use Rattle.base.specs.Writing.{bytes, Writes}
 use Rattle.base.specs.declared.Wrote.the-variants.{Length}
 use Rattle.base.proofs.Tests.{by-order, pick-holds}
 use Rattle.base.proofs.Parts.{Bytes}
 use Rattle.base.proofs.ByteLaws.{no-bytes, cons-bytes}
-use Rattle.base.proofs.WriteLaws.{Writes, stored}
+use Rattle.base.proofs.WriteLaws.{stored}
 use Rattle.counts.specs.Groups.{writeGroups}
 
 -- the form is at least one byte

@@ -1,4 +1,5 @@
 pub mod GroupLaws
+pub mod ShortestLaws
 pub mod GroupWriteLaws
 pub mod CountLaws
 pub mod SignedCountLaws

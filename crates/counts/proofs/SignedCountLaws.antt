@@ -8,11 +8,11 @@ use lib.ListN.{length, drop}
 use mir.Syntax.{w32}
 use mir.Val.{SFits}
 use borrow.Author.Tests.{le-leb, lt-leb}
-use Rattle.base.specs.Writing.{bytes}
+use Rattle.base.specs.Writing.{bytes, Writes}
 use Rattle.base.specs.declared.Wrote.{Wrote}
 use Rattle.base.specs.declared.Wrote.the-variants.{Refused}
 use Rattle.base.proofs.Parts.{Bytes}
-use Rattle.base.proofs.WriteLaws.{Writes, not-carried}
+use Rattle.base.proofs.WriteLaws.{not-carried}
 use Rattle.signed.specs.declared.Number.the-variants.{Value as Signed}
 use Rattle.signed.specs.Number.{number}
 use Rattle.signed.specs.Zigzag.{zigzagOf, unzigzagOf}
@@ -21,13 +21,7 @@ use Rattle.signed.proofs.IntegerLaws.{unzigzag-zigzag, zigzag-unzigzag, zigzag-
 use Rattle.counts.specs.Groups.{readGroups, writeGroups}
 use Rattle.counts.specs.SignedCount.{readSignedCount, writeSignedCount, signedCountForm}
 use Rattle.counts.proofs.GroupLaws.{group, read-written, read-form}
-
--- a signed count z that s gives in n bytes
-pub record SignedCounted (s : List ℕ) (z : ℤ) (n : ℕ) : Type 0 where
-  pub small : SFits w32 z
-  pub some : 1 ≤ n
-  pub size : n ≤ 5
-  pub within : n ≤ length s
+pub use Rattle.counts.specs.Facts.{SignedCounted, SignedWritten}
 
 pub signed-counted : (s : List ℕ) {z : ℤ} {n : ℕ} → Signed z n ≡ readSignedCount s → SignedCounted s z n
 signed-counted s {z} {n} e =
@@ -42,11 +36,6 @@ signed-count-written z rest h =
     let l : zigzagOf z < 4294967296 = zigzag-fits z h in
     ap (number unzigzagOf) (read-written 4 15 (zigzagOf z) rest (omega arith) (omega arith))
     ∙ ap (λ (y : ℤ). Signed y (length (writeSignedCount z))) (unzigzag-zigzag z (omega arith))
-
--- what reads as z is the written form of z: so the form is unique
-pub record SignedWritten (s : List ℕ) (z : ℤ) (n : ℕ) : Type 0 where
-  pub form : s ≡ writeSignedCount z ++ drop n s
-  pub size : n ≡ length (writeSignedCount z)
 
 pub signed-count-form : (s : List ℕ) {z : ℤ} {n : ℕ} → Bytes s → Signed z n ≡ readSignedCount s → SignedWritten s z n
 signed-count-form s {z} {n} h e =

@@ -1,4 +1,4 @@
--- The count. Assumes nothing: these are definitions.
+-- The count. To be believed.
 use Prim.Native.Nat.{ℕ}
 use mathlib.Core.List.{List}
 use lib.Dec.{leb}

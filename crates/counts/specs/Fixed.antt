@@ -1,4 +1,4 @@
--- Numbers in a fixed number of bytes, high first. Assumes nothing: these are definitions.
+-- Numbers in a fixed number of bytes, high first. To be believed.
 use Prim.Native.Nat.{ℕ, zero, suc, _+_, _*_, _/_, _%_, _^_}
 use mathlib.Core.List.{List, [], _∷_}
 use lib.Dec.{leb}

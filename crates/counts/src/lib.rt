@@ -6,7 +6,7 @@ ghost use mathlib.Core.Path.{_≡_};
 ghost use Prim.Native.Nat.{_+_, _*_, _^_, _≤_, _<_};
 ghost use lib.ListN.{length};
 ghost use Rattle.base.specs.declared.Read.the-variants.{Value};
-ghost use Rattle.base.specs.Writing.{bytes, wrote, placed};
+ghost use Rattle.base.specs.Writing.{bytes, Writes};
 ghost use Rattle.counts.specs.Groups.{before, readGroups, writeGroups};
 ghost use Rattle.counts.specs.Count.{readCount, writeCount, countForm};
 ghost use Rattle.counts.specs.SignedCount.{readSignedCount, signedCountForm};
@@ -83,8 +83,8 @@ pub fn count_size(v: u64) -> usize
 }
 
 // Writes the groups of `v`, once they are known to have room.
-pub fn write_groups(v: u64, out: &mut [u8]) -> Wrote
-    ensures { λ r. ⌜ (r ≡ wrote (bytes (writeGroups 4 v)) (now (out .entry))) × (now (out .exit) ≡ placed (bytes (writeGroups 4 v)) (now (out .entry))) ⌝ }
+fn write_groups(v: u64, out: &mut [u8]) -> Wrote
+    ensures { λ r. ⌜ Writes (bytes (writeGroups 4 v)) (now (out .entry)) r (now (out .exit)) ⌝ }
 {
     let n = count_size(v);
     if out.len() < n {
@@ -103,7 +103,7 @@ pub fn write_groups(v: u64, out: &mut [u8]) -> Wrote
 
 // Writes `v` as a count to the front of `out`.
 pub fn write_count(v: u64, out: &mut [u8]) -> Wrote
-    ensures { λ r. ⌜ (r ≡ wrote (countForm v) (now (out .entry))) × (now (out .exit) ≡ placed (countForm v) (now (out .entry))) ⌝ }
+    ensures { λ r. ⌜ Writes (countForm v) (now (out .entry)) r (now (out .exit)) ⌝ }
 {
     if v <= 2147483647 {
         write_groups(v, out)
@@ -124,7 +124,7 @@ pub fn read_signed_count(s: &[u8]) -> Number
 
 // Writes `v` as a signed count to the front of `out`.
 pub fn write_signed_count(v: i64, out: &mut [u8]) -> Wrote
-    ensures { λ r. ⌜ (r ≡ wrote (signedCountForm v) (now (out .entry))) × (now (out .exit) ≡ placed (signedCountForm v) (now (out .entry))) ⌝ }
+    ensures { λ r. ⌜ Writes (signedCountForm v) (now (out .entry)) r (now (out .exit)) ⌝ }
 {
     let u = signed::zigzag(v);
     if u <= 4294967295 {

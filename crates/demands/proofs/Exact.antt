@@ -7,7 +7,7 @@ use mathlib.Core.Option.{Option, none, some}
 use Prim.Native.Nat.{ℕ, _≤_, _<_}
 use native.Mathlib.Omega.{arith}
 use lib.IntN.{ℤ}
-use lib.ListN.{length, take}
+use lib.ListN.{length, take, drop, take-append-drop}
 use lib.Dec.{ltb}
 use borrow.Author.Tests.{ne-eqb, ltb-false}
 use Rattle.base.specs.Pick.{pick}
@@ -16,23 +16,28 @@ use Rattle.signed.specs.Instant.{instantOf}
 use Rattle.counts.specs.Groups.{readGroups}
 use Rattle.frames.specs.Frame.{Field}
 use Rattle.frames.specs.Machine.{walk}
-use Rattle.frames.specs.Fields.{endAt, fields, pass, outcome, upTo, firstAbove}
+use Rattle.frames.specs.Fields.{FieldOf, endAt, fields, pass, outcome, upTo, firstAbove}
 use Rattle.base.specs.All.{All, all-none, all-also}
-use Rattle.base.proofs.AllLaws.{all-head, all-tail, all-map, all-left}
-use Rattle.frames.proofs.ChainLaws.{listing-chain, chain-first, chain-split}
+use Rattle.base.proofs.AllLaws.{all-head, all-tail, all-map, all-left, all-right}
+use Rattle.base.proofs.Tests.{by-order}
+use Rattle.frames.proofs.ChainLaws.{listing-chain, chain-fields, chain-first, chain-split}
+use Rattle.frames.proofs.ThereLaws.{past-there, there-past}
 use Rattle.frames.proofs.GrowthLaws.{exactly}
 use Rattle.frames.proofs.PassLaws.{pass-first, lockstep}
 use Rattle.frames.proofs.CapLaws.{stopAt}
 use Rattle.frames.proofs.PartLaws.{absent-beside, answer-beside, walk-ended, walk-fields}
-use Rattle.zones.specs.Lookup.{inBody}
-use Rattle.answers.specs.Answers.{numberOf, Pool, noPool, answered}
-use Rattle.walks.specs.Walk.{question}
-use Rattle.questions.specs.Question.{finish, ask}
+use Rattle.zones.specs.Lookup.{inZone}
+use Rattle.answers.specs.Answers.{Pool, noPool, answered, nameOf}
+use Rattle.questions.specs.Question.{question, finish, ask}
 use Rattle.answers.specs.declared.Mark.{Mark}
 use Rattle.answers.specs.declared.Mark.the-variants.{More, All as Whole}
+use Rattle.answers.specs.declared.Answer.the-variants.{In, Refused}
+use Rattle.questions.proofs.NameLaws.{standing-name}
 use Rattle.field_checks.specs.Check.{start, job, WellFormed, filePool, HasId}
 use Rattle.demands.specs.Zones.{InRange, Asked, NoZone}
 use Rattle.demands.specs.Parts.{There, Missing}
+use Rattle.demands.specs.Whole.{orEnd, absentAt}
+use Rattle.demands.proofs.Lone.{none-before}
 use Rattle.demands.proofs.Standing.{waits}
 use Rattle.demands.proofs.Beside.{Alike, Passed, keeps, answers}
 
@@ -91,15 +96,24 @@ pub zone-there : (f id : List ℕ) (z : ℤ) (g : Field) (k : ℕ) → WellForme
 zone-there f id z g k w a h l =
     let t : ℕ = instantOf z in
     let low = all-map {Q = λ (h : Field). h .id ≤ 1} (λ g′ e. omega (arith, e .rising, a .has .is-zone)) (chain-split f false 0 4 (a .before) g (a .behind) (rw (a .splits) at (listing-chain f 255))) in
+    let first = none-before f id g w a in
+    let o : FieldOf f g = all-head (all-right (a .before) (g ∷ a .behind) (subst (All (FieldOf f)) (a .splits) (chain-fields f false 0 4 (fields f) (listing-chain f 255)))) in
     let v = answer-beside job (question id t) (Alike (filePool (fields f))) (Passed (filePool (fields f)) id)
     (λ x x′ y g′ p r e. keeps (filePool (fields f)) id t x x′ y r g′ p e) refl start (w .memory) noPool f (length f) (w .ends) (begin-alike (filePool (fields f)))
-    (a .before) g (a .behind) (a .splits) (passed f id (a .before) (g ∷ a .behind) (a .splits) low (a .first)) (omega (arith, a .has .is-zone))
-    (λ x x′ y r e. (answered y (inBody t (a .has .zone .body)), answers (filePool (fields f)) id t x x′ y r g (a .has) e)) in
+    (a .before) g (a .behind) (a .splits) (passed f id (a .before) (g ∷ a .behind) (a .splits) low first) (omega (arith, a .has .is-zone))
+    (λ x x′ y r e. (answered y (inZone t (a .has .zone)), answers (filePool (fields f)) id t x x′ y r g (a .has) e)) in
     let x = exactly (question id t) noPool f (v .0) (g .past) k (v .1) l in
+    let part : FieldOf (take k f) g → ask (take k f) id z More ≡ In (v .0)
+    = λ b. asks (take k f) id z More h ∙ ap (finish More) (x .from-then (there-past f k l g b) ∙ v .1) in
+    let all : ask f id z Whole ≡ In (v .0) = asks f id z Whole h ∙ ap (finish Whole) (v .1) in
     record {
-      before = λ b. rw (asks (take k f) id z More h) (waits (walk (question id t) noPool (take k f)) (x .before b));
-      from-then = λ b. asks (take k f) id z More h ∙ ap (finish More) (x .from-then b ∙ v .1) ∙ sym (asks f id z Whole h ∙ ap (finish Whole) (v .1));
-      answered = rw (asks f id z Whole h, v .1);
+      given = v .0;
+      answered = all;
+      before = λ b. by-order k (g .past)
+          (λ s. rw (asks (take k f) id z More h) (waits (walk (question id t) noPool (take k f)) (x .before s)))
+          (λ s. absurd (b (past-there f k l g o s)));
+      from-then = λ b. part b ∙ sym all;
+      same-name = λ b. sym (standing-name (take k f) (drop k f) id z (v .0) (part b)) ∙ ap (λ (bs : List ℕ). nameOf bs (v .0)) (take-append-drop k f);
     }
 
 -- the file has no such zone
@@ -116,8 +130,8 @@ zone-missing f id z k w n h l =
     }
 
 -- The whole file, as all there is, says 12 where it lacks the zone: at the first byte of a field with an ID above 1, or at its end.
-pub missing-number : (f id : List ℕ) (z : ℤ) → WellFormed f → NoZone f id → InRange z → numberOf (ask f id z Whole) ≡ 12
-missing-number f id z w n h =
+pub missing-whole : (f id : List ℕ) (z : ℤ) → WellFormed f → NoZone f id → InRange z → ask f id z Whole ≡ Refused 12 (absentAt f)
+missing-whole f id z w n h =
     let t : ℕ = instantOf z in
     let s = up-to-first (fields f) in
     let c = walk-ended job start (w .memory) f (length f) (w .ends) in
@@ -130,6 +144,6 @@ missing-number f id z w n h =
     walk-fields (question id t) noPool f (length f) (c .whole) ∙ rw (u .1) in
     rw (asks f id z Whole h, o) (go (firstAbove 1 (fields f)) (u .0))
   where
-    go : (a : Option ℕ) (m : Pool) → numberOf (finish Whole (outcome (stopAt a (endAt (length f))) m)) ≡ 12
+    go : (a : Option ℕ) (m : Pool) → finish Whole (outcome (stopAt a (endAt (length f))) m) ≡ Refused 12 (orEnd f a)
     go none m = refl
     go (some q) m = refl

@@ -10,7 +10,7 @@ use Rattle.base.specs.Parsed.{got, parseByte, ended, many}
 use Rattle.counts.specs.Groups.{readGroups}
 use Rattle.offsets.specs.Offset.{readSum}
 use Rattle.utf8.specs.Utf8.{chars}
-use Rattle.texts.specs.Text.{sized as textSized}
+use Rattle.texts.specs.Text.{textSized}
 use Rattle.pool.specs.Pool.{allStrings, counted}
 use Rattle.base.specs.Equal.{equal}
 use Rattle.places.specs.Name.{judgeName, parseName}
@@ -22,10 +22,11 @@ use Rattle.frames.specs.Frame.{order, zeros, version, sized, field, frame, Fiel
 use Rattle.frames.specs.Machine.{act, step, walk}
 use Rattle.frames.specs.Fields.{scan, listing}
 use Rattle.base.specs.All.{all-none, all-also}
-use Rattle.field_checks.specs.Check.{placed, poolKept, newId, zoneKept, textKept, contentOf, WellFormed, filePool}
+use Rattle.field_checks.specs.Check.{placed, poolKept, newId, zoneKept, textKept, judged, WellFormed, filePool}
 use Rattle.demands.specs.Zones.{InRange, Asked, NoZone}
 use Rattle.demands.specs.Parts.{There, Missing}
 use Rattle.demands.proofs.Exact.{zone-there, zone-missing}
+use Rattle.base.proofs.Tests.{clash}
 
 -- 00 00 00 00, 00 05 01 03 55 54 43, 01 04 00 01 30 00, and 02 01 00
 abbrev pub file : List ℕ
@@ -47,11 +48,11 @@ abbrev text : Field
 text = record { place = 17; id = 2; start = 19; past = 20; body = 0 ∷ [] }
 
 pub well-formed : WellFormed file
-unfolding walk step act iterate frame version zeros field sized order readGroups contentOf poolKept zoneKept newId textKept textSized chars counted allStrings many ended among equal parseZone afterId afterFlag parseFixed afterFixedOffset zoneOf parseName judgeName parseByte readSum listing scan
+unfolding walk step act iterate frame version zeros field sized order readGroups judged poolKept zoneKept newId textKept textSized chars counted allStrings many ended among equal parseZone afterId afterFlag parseFixed afterFixedOffset zoneOf parseName judgeName parseByte readSum listing scan
 well-formed = record {
   memory = record { pool = utc ∷ []; ids = utc ∷ []; text = placed 20 0 };
   ends = refl;
-  some-field = λ e. let z : _≡_ {A = ℕ} 0 1 = cc in omega arith;
+  some-field = λ e. clash cc;
 }
 
 -- the zone "UTC" is there
@@ -62,7 +63,6 @@ asked = record {
   behind = text ∷ [];
   splits = refl;
   has = record { zone = record { id = 0; body = fixed 86400000 0 }; rest = []; is-zone = refl; parsed = refl; bytes = refl };
-  first = all-also (λ h. let z : _≡_ {A = ℕ} 0 1 = h .is-zone in omega arith) all-none;
 }
 
 -- the zone "GMT" is not

@@ -8,7 +8,7 @@ use Rattle.field_checks.specs.Check.{WellFormed}
 use Rattle.demands.specs.Zones.{InRange}
 use Rattle.demands.specs.Parts.{Standing, PartOf}
 use Rattle.demands.proofs.Standing.{standing}
-use Rattle.demands.proofs.Names.{standing-name}
+use Rattle.questions.proofs.NameLaws.{standing-name}
 use Rattle.demands.proofs.Exact.{zone-there, zone-missing}
 use Rattle.demands.proofs.Agree.{asked-or-none}
 

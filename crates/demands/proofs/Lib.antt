@@ -1,5 +1,5 @@
 pub mod Standing
-pub mod Names
+pub mod Lone
 pub mod Beside
 pub mod Exact
 pub mod Agree
@@ -7,8 +7,10 @@ pub mod Growth
 pub mod RangeLaws
 pub mod Right
 pub mod Rewriting
+pub mod Rewritten
 pub mod Example
 pub mod Tailed
 pub mod Worked
 pub mod ContentNumbers
 pub mod Numbers
+pub mod Places

@@ -1,4 +1,4 @@
--- THE NUMBERS GIVEN BACK are those that document 01's table has for a check and for a question. Assumes nothing.
+-- THE NUMBERS GIVEN BACK are those that document 01's table has for a check, the version text, a rewrite and a question. Assumes nothing.
 use mathlib.Core.Path.{_≡_, refl}
 use mathlib.Core.Bool.{Bool, true, false}
 use mathlib.Core.List.{List, [], _∷_}
@@ -12,6 +12,9 @@ use borrow.Author.Tests.{eqb-false, ltb-true}
 use Rattle.base.specs.Pick.{pick}
 use Rattle.base.specs.Equal.{equal}
 use Rattle.base.specs.All.{All, all-none, all-also}
+use Rattle.base.specs.Bytes.{Bytes}
+use Rattle.base.specs.Numbers.{numberGiven}
+use Rattle.base.proofs.ByteLaws.{tail-bytes}
 use Rattle.base.proofs.AllLaws.{all-head, all-tail}
 use Rattle.base.specs.Parsed.{Parsed, got, bad as faultOf}
 use Rattle.base.specs.Run.{next, iterate, follow}
@@ -27,27 +30,35 @@ use Rattle.pool.specs.Pool.{Pool as PoolContent, parsePool, stringsOf}
 use Rattle.pool.proofs.PoolLaws.{pool-faulty}
 use Rattle.zones.specs.Content.{Zone}
 use Rattle.zones.specs.Parse.{parseZone}
-use Rattle.zones.specs.Lookup.{inBody}
+use Rattle.zones.specs.Lookup.{inZone}
 use Rattle.ids.specs.Ids.{among}
 use Rattle.frames.specs.Frame.{largest, once, order, zeros, version, sized, field, frame, Field}
 use Rattle.frames.specs.Machine.{Out, found, refused, cut, ended, Content, bad, answer, keep, Job, State, stateAt, fieldAt, verdict, onward, act, step, walk}
 use Rattle.frames.specs.declared.Frame.{Frame}
 use Rattle.frames.specs.declared.Frame.the-variants.{End, Cut, Refused, Version, Whole}
-use Rattle.field_checks.specs.Check.{TextPlace, nowhere, placed, Memory, start, withId, withText, poolIn, poolKept, newId, zoneIn, zoneKept, textIn, textKept, contentOf, job}
-use Rattle.field_checks.specs.Check.{concluded, concludes, conclusion, verdictOf, checkOf, WellFormed}
+use Rattle.field_checks.specs.Check.{TextPlace, nowhere, placed, Memory, start, withId, withText, poolIn, poolKept, newId, zoneIn, zoneKept, textIn, textKept, judged, job}
+use Rattle.field_checks.specs.Check.{Kind, poolField, zoneField, textField, otherField, kindOf, contentBy}
+use Rattle.field_checks.specs.Check.{concluded, concludes, conclusion, verdictOf, checkOf, textGiven, versionOf, WellFormed}
+use Rattle.field_checks.specs.Numbers.{givenByVerdict, givenByVersionText}
+use Rattle.field_checks.specs.declared.Conclusion.{Conclusion}
+use Rattle.rewrite.specs.Preferred.{preferred, given, rewriteOf}
+use Rattle.rewrite.specs.Numbers.{givenByRewritten}
+use Rattle.rewrite.specs.declared.Rewritten.the-variants.{Length, Refused as Unwritten}
 use Rattle.field_checks.proofs.WellFormedLaws.{good-well-formed}
 use Rattle.field_checks.specs.declared.Conclusion.the-variants.{Refused as Unfit, Bare, WithText}
 use Rattle.field_checks.specs.declared.Verdict.{Verdict}
 use Rattle.field_checks.specs.declared.Verdict.the-variants.{Good, Refused as Ill}
 use Rattle.answers.specs.Answers.{Pool, noPool, answered, waiting}
-use Rattle.walks.specs.Walk.{poolSays, zoneSays, says, question}
-use Rattle.questions.specs.Question.{finish, ask}
+use Rattle.answers.specs.Numbers.{givenByAnswer}
+use Rattle.locate.specs.Asked.{poolSays, zoneSays, says}
+use Rattle.questions.specs.Question.{answerAt, question, finish, ask}
 use Rattle.answers.specs.declared.Mark.{Mark}
 use Rattle.answers.specs.declared.Mark.the-variants.{More, All as Whole′}
 use Rattle.answers.specs.declared.Found.{Found}
 use Rattle.answers.specs.declared.Answer.the-variants.{Refused as No}
-use Rattle.demands.specs.Numbers.{OfContent, too-large, faulty, OfFile, OfCheck, check-cut, check-fault, second-zone, verdictNumber, InTable}
-use Rattle.demands.specs.Numbers.{OfQuestion, not-yet, question-cut, question-fault, no-zone, no-instant, AnswerInTable}
+use Rattle.demands.specs.Numbers.{OfContent, too-large, faulty, OfFile, OfCheck, check-cut, check-fault, second-zone, InTable}
+use Rattle.demands.specs.Numbers.{OfRewrite, rewrite-check, no-room, OfVersion, version-check, no-text}
+use Rattle.demands.specs.Numbers.{OfQuestion, not-yet, question-cut, question-fault, no-zone, no-instant}
 use Rattle.demands.proofs.ContentNumbers.{Fine, zone-numbers}
 
 of-content : (n : ℕ) → OfContent n → OfFile n
@@ -200,47 +211,87 @@ kept-text m a d = go (readText d) refl
     go (Part b n) e = two b n (eqb (b + n) (length d))
 
 kept : (m : Memory) (g : Field) → Kept (job .content m g)
-unfolding contentOf
-kept m g = go (eqb (g .id) 0) (eqb (g .id) 1) (eqb (g .id) 2)
+unfolding judged
+kept m g = go (kindOf (g .id))
   where
-    go : (t u v : Bool) → Kept (pick t (poolKept m (g .body)) (pick u (zoneKept m (g .body)) (pick v (textKept m (g .start) (g .body)) (keep m))))
-    go true u v = kept-pool m (g .body)
-    go false true v = kept-zone m (g .body)
-    go false false true = kept-text m (g .start) (g .body)
-    go false false false = tt
+    go : (k : Kind) → Kept (contentBy k m (g .start) (g .body))
+    go poolField = kept-pool m (g .body)
+    go zoneField = kept-zone m (g .body)
+    go textField = kept-text m (g .start) (g .body)
+    go otherField = tt
 
--- A CHECK GIVES 0, 2 TO 11 OR 13, and nothing else
-pub check-numbers : (f : List ℕ) → All (λ b. b ≤ 255) f → InTable (checkOf f)
+bytes-all : (f : List ℕ) → Bytes f → All (λ b. b ≤ 255) f
+bytes-all [] h = all-none
+bytes-all (b ∷ s) h = let l : b ≤ 255 = omega (arith, h 0) in all-also l (bytes-all s (tail-bytes b s h))
+
+-- what the walk of the check comes to
+abbrev Ends : Conclusion → Type 0
+Ends (Unfit n p) = OfCheck n
+Ends (Bare p) = Unit {0}
+Ends (WithText a n) = Unit {0}
+
+conclusion-numbers : (f : List ℕ) → Bytes f → Ends (conclusion f)
 unfolding conclusion concluded
-check-numbers f a = go (walk job start f) (walk-number job OfCheck (λ i. i ≤ 255) check-file check-above kept start f a)
+conclusion-numbers f b = go (walk job start f) (walk-number job OfCheck (λ i. i ≤ 255) check-file check-above kept start f (bytes-all f b))
   where
-    last : (t : TextPlace) (p : ℕ) → InTable (verdictOf (concluded t p))
+    last : (t : TextPlace) (p : ℕ) → Ends (concluded t p)
     last nowhere p = by (eqb p 4)
       where
-        by : (t : Bool) → InTable (verdictOf (pick t (Unfit 6 p) (Bare p)))
+        by : (t : Bool) → Ends (pick t (Unfit 6 p) (Bare p))
         by true = check-fault (record { low = omega arith; high = omega arith })
         by false = tt
     last (placed b n) p = by (eqb p 4)
       where
-        by : (t : Bool) → InTable (verdictOf (pick t (Unfit 6 p) (WithText b n)))
+        by : (t : Bool) → Ends (pick t (Unfit 6 p) (WithText b n))
         by true = check-fault (record { low = omega arith; high = omega arith })
         by false = tt
 
-    go : (o : Out Memory ⊥) → Comes job OfCheck (λ i. i ≤ 255) check-file check-above o → InTable (verdictOf (concludes o))
+    go : (o : Out Memory ⊥) → Comes job OfCheck (λ i. i ≤ 255) check-file check-above o → Ends (concludes o)
     go (found v p) h = absurd v
     go (refused n p) h = h
     go (cut p) h = check-cut refl
     go (ended m p) h = last (m .text) p
 
--- so number 0 is a well-formed file (well-formed-good in checks is the other way)
-pub check-zero : (f : List ℕ) → All (λ b. b ≤ 255) f → verdictNumber (checkOf f) ≡ 0 → WellFormed f
-check-zero f a e = good-well-formed f (go (checkOf f) (check-numbers f a) e)
+-- A CHECK GIVES 0, 2 TO 11 OR 13, and nothing else
+verdict-numbers : (x : Conclusion) → Ends x → InTable OfCheck (givenByVerdict (verdictOf x))
+verdict-numbers (Unfit n p) h = h
+verdict-numbers (Bare p) h = tt
+verdict-numbers (WithText a n) h = tt
+
+pub check-numbers : (f : List ℕ) → Bytes f → InTable OfCheck (givenByVerdict (checkOf f))
+check-numbers f b = verdict-numbers (conclusion f) (conclusion-numbers f b)
+
+-- so number 0 is a well-formed file (well-formed-good in field_checks is the other way)
+pub check-zero : (f : List ℕ) → Bytes f → numberGiven (givenByVerdict (checkOf f)) ≡ 0 → WellFormed f
+check-zero f b e = good-well-formed f (go (checkOf f) (check-numbers f b) e)
   where
-    go : (v : Verdict) → InTable v → verdictNumber v ≡ 0 → v ≡ Good
+    go : (v : Verdict) → InTable OfCheck (givenByVerdict v) → numberGiven (givenByVerdict v) ≡ 0 → v ≡ Good
     go Good h e = refl
     go (Ill n p) (check-cut q) e = absurd (omega arith)
     go (Ill n p) (check-fault q) e = absurd (omega (arith, q .low))
     go (Ill n p) (second-zone q) e = absurd (omega arith)
+
+-- THE VERSION TEXT GIVES 0, 2 TO 11, 12 OR 13
+pub version-numbers : (f : List ℕ) → Bytes f → InTable OfVersion (givenByVersionText (versionOf f))
+version-numbers f b = go (conclusion f) (conclusion-numbers f b)
+  where
+    go : (x : Conclusion) → Ends x → InTable OfVersion (givenByVersionText (textGiven x))
+    go (Unfit n p) h = version-check h
+    go (Bare p) h = no-text refl
+    go (WithText a n) h = tt
+
+-- A REWRITE GIVES 0, 2 TO 11, 13 OR 15, whatever the output
+pub rewrite-numbers : (f d : List ℕ) → Bytes f → InTable OfRewrite (givenByRewritten (rewriteOf f d))
+unfolding rewriteOf
+rewrite-numbers f d b = go (checkOf f) (check-numbers f b)
+  where
+    by-room : (t : Bool) → InTable OfRewrite (givenByRewritten (pick t (Length (length (preferred f))) (Unwritten 15 0)))
+    by-room true = tt
+    by-room false = no-room refl
+
+    go : (v : Verdict) → InTable OfCheck (givenByVerdict v) → InTable OfRewrite (givenByRewritten (given v (preferred f) d))
+    go (Ill n p) h = rewrite-check h
+    go Good h = by-room (leb (length (preferred f)) (length d))
 
 -- A QUESTION GIVES 0 TO 12 OR 14, whatever the bytes, and never 13
 ask-file : (n : ℕ) → OfFile n → OfQuestion n
@@ -253,10 +304,10 @@ module _ (id : List ℕ) (t : ℕ) where
   abbrev Said : Content Pool Found → Type 0
   Said = Says (question id t) OfQuestion (λ i. Unit {0}) ask-file ask-above
 
-  said : (y : Pool) (g : Field) → Said (says id t y g)
+  said : (y : Pool) (g : Field) → Said (says (answerAt t) id y g)
   unfolding says
   said y g =
-      one (eqb (g .id) 0) (poolSays g (parsePool (g .body))) (zoneSays id t y (parseZone (length (stringsOf (y .body))) (g .body)))
+      one (eqb (g .id) 0) (poolSays g (parsePool (g .body))) (zoneSays (answerAt t) id y (parseZone (length (stringsOf (y .body))) (g .body)))
       (by-pool (parsePool (g .body)) refl) (by-zone (parseZone (length (stringsOf (y .body))) (g .body)) (zone-numbers (length (stringsOf (y .body))) (g .body)))
     where
       one : (t : Bool) (x z : Content Pool Found) → Said x → Said z → Said (pick t x z)
@@ -267,24 +318,24 @@ module _ (id : List ℕ) (t : ℕ) where
       by-pool (got ts r) e = tt
       by-pool (faultOf n) e = question-fault (of-text n (pool-faulty (g .body) n e))
 
-      by-zone : (p : Parsed Zone) → Fine p → Said (zoneSays id t y p)
-      by-zone (got z r) h = one (equal (getD (stringsOf (y .body)) (z .id) []) id) (answer (answered y (inBody t (z .body)))) (keep y) tt tt
+      by-zone : (p : Parsed Zone) → Fine p → Said (zoneSays (answerAt t) id y p)
+      by-zone (got z r) h = one (equal (getD (stringsOf (y .body)) (z .id) []) id) (answer (answered y (inZone t z))) (keep y) tt tt
       by-zone (faultOf n) h = question-fault (of-content n h)
 
-pub question-numbers : (bs id : List ℕ) (z : ℤ) (mark : Mark) → AnswerInTable (ask bs id z mark)
+pub question-numbers : (bs id : List ℕ) (z : ℤ) (mark : Mark) → InTable OfQuestion (givenByAnswer (ask bs id z mark))
 unfolding ask
 question-numbers bs id z mark = go (eqb (instantOf z) 0)
   where
-    by-mark : (m : Mark) (n p : ℕ) → OfQuestion n → AnswerInTable (No (waiting m n) p)
+    by-mark : (m : Mark) (n p : ℕ) → OfQuestion n → InTable OfQuestion (givenByAnswer (No (waiting m n) p))
     by-mark More n p h = not-yet refl
     by-mark Whole′ n p h = h
 
-    done : (o : Out Pool Found) → Comes (question id (instantOf z)) OfQuestion (λ i. Unit {0}) ask-file ask-above o → AnswerInTable (finish mark o)
+    done : (o : Out Pool Found) → Comes (question id (instantOf z)) OfQuestion (λ i. Unit {0}) ask-file ask-above o → InTable OfQuestion (givenByAnswer (finish mark o))
     done (found x p) h = tt
     done (refused n p) h = h
     done (cut p) h = by-mark mark 2 p (question-cut refl)
     done (ended m p) h = by-mark mark 12 p (no-zone refl)
 
-    go : (b : Bool) → AnswerInTable (pick b (No 14 0) (finish mark (walk (question id (instantOf z)) noPool bs)))
+    go : (b : Bool) → InTable OfQuestion (givenByAnswer (pick b (No 14 0) (finish mark (walk (question id (instantOf z)) noPool bs))))
     go true = no-instant refl
     go false = done (walk (question id (instantOf z)) noPool bs) (walk-number (question id (instantOf z)) OfQuestion (λ i. Unit {0}) ask-file ask-above (said id (instantOf z)) noPool bs (any bs))

@@ -1,22 +1,17 @@
 -- An instant in range is one from year 1 to year 9999. Assumes nothing.
 use mathlib.Core.Path.{_≡_, refl}
 use mathlib.Core.Bool.{Bool, true, false}
-use Prim.Native.Nat.{suc, _+_, _-_, _*_, _≤_}
+use Prim.Native.Nat.{suc, _+_, _-_, _*_}
 use native.Mathlib.Omega.{arith}
 use lib.Dec.{T, leb}
 use lib.IntN.{ℤ, pos, negsuc, negℤ}
-use lib.Signed.{_≤ℤ_}
 use borrow.Author.Tests.{leb-true}
 use Rattle.base.specs.Pick.{pick}
 use Rattle.base.specs.Moment.{epoch, firstInstant, lastInstant}
-use Rattle.signed.specs.Instant.{biasedOf}
-use Rattle.calendar.specs.Calendar.{yearStart}
-use Rattle.demands.specs.Zones.{InRange}
-
--- "Finite ones run from -621355968000000000 (year 1) to 2534023007999999999 (end of 9999)"
-pub record FirstToLast (z : ℤ) : Type 0 where
-  pub first : negℤ (pos 621355968000000000) ≤ℤ z
-  pub last : z ≤ℤ pos 2534023007999999999
+use Rattle.signed.specs.Instant.{biasedOf, ticksOf}
+use Rattle.calendar.specs.Calendar.{leapDay, daysBefore, yearStart, dayNumber}
+use Rattle.transitions.specs.Transition.{year1800}
+use Rattle.demands.specs.Zones.{InRange, FirstToLast}
 
 pub in-range : (z : ℤ) → InRange z → FirstToLast z
 unfolding biasedOf
@@ -52,3 +47,11 @@ year-1 = refl
 pub year-9999 : yearStart (9999 + 399 + 1) * 864000000000 ≡ lastInstant + 1
 unfolding yearStart
 year-9999 = refl
+
+-- "minutes since 1800-01-01T00:00Z (tick -53646624000000000)"
+pub year-1800 : dayNumber (1800 + 399) 1 1 * 864000000000 ≡ year1800
+unfolding dayNumber daysBefore leapDay yearStart
+year-1800 = refl
+
+pub tick-1800 : ticksOf year1800 ≡ negℤ (pos 53646624000000000)
+tick-1800 = refl

@@ -1,11 +1,10 @@
--- THE QUESTIONS AND THE REWRITER: on a well-formed file every question gives the same on the preferred file, places of refusals apart.
+-- THE QUESTIONS AND THE REWRITER: on a well-formed file every question that means "this is all" gives the same on the preferred file, places of refusals apart.
 -- Assumes nothing.
 use mathlib.Core.Path.{_≡_, refl, sym, ap, _∙_, subst, subst⁻¹}
 use mathlib.Core.Bool.{Bool, true, false}
 use mathlib.Core.List.{List, [], _∷_}
 use mathlib.Core.Logic.{_⊎_, inl, inr}
 use Prim.Native.Nat.{ℕ}
-use native.Mathlib.Omega.{arith}
 use lib.IntN.{ℤ}
 use lib.Dec.{eqb}
 use lib.ListN.{length, getD}
@@ -20,22 +19,23 @@ use Rattle.zones.specs.declared.Found.{Found as Interval}
 use Rattle.frames.specs.Frame.{Field}
 use Rattle.frames.specs.Fields.{Listing, fields}
 use Rattle.base.specs.All.{All}
-use Rattle.base.proofs.AllLaws.{all-head, all-left, all-right}
+use Rattle.base.proofs.AllLaws.{all-head, all-right}
 use Rattle.frames.proofs.ChainLaws.{listing-chain}
 use Rattle.answers.specs.Answers.{numberOf}
-use Rattle.questions.specs.Question.{ask, askPlain}
+use Rattle.questions.specs.Question.{ask}
 use Rattle.answers.specs.declared.Mark.the-variants.{All as Whole}
 use Rattle.answers.specs.declared.Answer.{Answer}
-use Rattle.answers.specs.declared.Answer.the-variants.{In, Refused}
+use Rattle.answers.specs.declared.Answer.the-variants.{Refused}
 use Rattle.field_checks.specs.Check.{WellFormed, filePool, HasId}
 use Rattle.rewrite.specs.Preferred.{preferred}
 use Rattle.rewrite.proofs.KeptLaws.{FieldKept}
 use Rattle.rewrite.proofs.MovedLaws.{movedTo, moved}
-use Rattle.rewrite.proofs.PassMovedLaws.{Read, bodies-known, fields-kept}
+use Rattle.field_checks.proofs.ZoneIdLaws.{zones-read}
+use Rattle.rewrite.proofs.PassMovedLaws.{fields-kept}
 use Rattle.rewrite.proofs.ZoneMovedLaws.{moved-pool, moved-around, moved-lacks}
 use Rattle.rewrite.proofs.Rewriting.{preferred-fields, rewritten-well-formed}
 use Rattle.demands.specs.Zones.{InRange, Asked, NoZone}
-use Rattle.demands.proofs.Exact.{missing-number}
+use Rattle.demands.proofs.Exact.{missing-whole}
 use Rattle.demands.proofs.Agree.{asked-or-none}
 use Rattle.demands.specs.Right.{Right}
 use Rattle.demands.specs.Same.{SameFound, SameAnswer, both-answer, both-refuse}
@@ -46,10 +46,8 @@ same-number f h a b (both-answer s) = refl
 same-number f h a b both-refuse = refl
 
 -- two refusals with one number
-refusals : (f h : List ℕ) (a b : Answer) → numberOf a ≡ 12 → numberOf b ≡ 12 → SameAnswer f h a b
-refusals f h (In x) b d e = absurd (omega arith)
-refusals f h (Refused n p) (In x) d e = absurd (omega arith)
-refusals f h (Refused n p) (Refused m q) d e = let s : n ≡ m = omega arith in rw s both-refuse
+refusals : (f h : List ℕ) (a b : Answer) {n p q : ℕ} → a ≡ Refused n p → b ≡ Refused n q → SameAnswer f h a b
+refusals f h a b d e = rw (d, e) both-refuse
 
 module _ (f : List ℕ) (w : WellFormed f) (b : Bytes f) where
   all-kept : All FieldKept (fields f)
@@ -67,10 +65,8 @@ module _ (f : List ℕ) (w : WellFormed f) (b : Bytes f) where
       let ts = filePool (fields f) in
       let u = moved-around 4 (a .before) g (a .behind) in
       let k = subst (All FieldKept) (a .splits) all-kept in
-      let r = subst (All (Read ts)) (a .splits) (bodies-known f w) in
       let here : FieldKept g = all-head (all-right (a .before) (g ∷ a .behind) k) in
-      let p = here .zone (a .has .is-zone) (length ts) (a .has .zone) (a .has .rest) (a .has .parsed) in
-      let n = moved-lacks ts id 4 (a .before) (all-left (a .before) (g ∷ a .behind) k) (all-left (a .before) (g ∷ a .behind) r) (a .first) in (
+      let p = here .zone (a .has .is-zone) (length ts) (a .has .zone) (a .has .rest) (a .has .parsed) in (
         movedTo (u .to) g,
         record {
           before = moved 4 (a .before);
@@ -83,7 +79,6 @@ module _ (f : List ℕ) (w : WellFormed f) (b : Bytes f) where
             parsed = subst⁻¹ (λ (ss : List (List ℕ)). parseZone (length ss) (movedTo (u .to) g .body) ≡ got (a .has .zone) []) same-pool p;
             bytes = subst⁻¹ (λ (ss : List (List ℕ)). getD ss (a .has .zone .id) [] ≡ id) same-pool (a .has .bytes);
           };
-          first = subst⁻¹ (λ (ss : List (List ℕ)). All (λ h. HasId ss id h → ⊥) (moved 4 (a .before))) same-pool n;
         },
         refl,
       )
@@ -93,7 +88,7 @@ module _ (f : List ℕ) (w : WellFormed f) (b : Bytes f) where
   lacks-moved id n =
       subst⁻¹ (λ (ss : List (List ℕ)). All (λ h. HasId ss id h → ⊥) (fields (preferred f))) same-pool
       (subst⁻¹ (All (λ h. HasId (filePool (fields f)) id h → ⊥)) moved-fields
-      (moved-lacks (filePool (fields f)) id 4 (fields f) all-kept (bodies-known f w) n))
+      (moved-lacks (filePool (fields f)) id 4 (fields f) all-kept (zones-read f w) n))
 
   -- both answers are of the one interval of that zone that holds the instant
   one-interval : (id : List ℕ) (z : ℤ) (u : Zone) → Right f id z u → Right (preferred f) id z u
@@ -109,7 +104,7 @@ module _ (f : List ℕ) (w : WellFormed f) (b : Bytes f) where
             ∙ sym (s .named ∙ ap (λ (ss : List (List ℕ)). getD ss (s .interval .name) []) same-pool
             ∙ ap (λ (x : Interval). getD (filePool (fields f)) (x .name) []) i);
       } in
-      rw (r .plain, s .plain) (both-answer e)
+      rw (r .marked Whole, s .marked Whole) (both-answer e)
 
   same-in-range : (id : List ℕ) (z : ℤ) → InRange z → ((g : Field) × Asked f id g) ⊎ NoZone f id
       → SameAnswer f (preferred f) (ask f id z Whole) (ask (preferred f) id z Whole)
@@ -118,11 +113,11 @@ module _ (f : List ℕ) (w : WellFormed f) (b : Bytes f) where
       let s = right (preferred f) id z (m .0) (rewritten-well-formed f w b) (m .1) h in
       one-interval id z (a .1 .has .zone) (right f id z (a .0) w (a .1) h) (subst (Right (preferred f) id z) (m .2) s)
   same-in-range id z h (inr n) =
-      refusals f (preferred f) _ _ (missing-number f id z w n h)
-      (missing-number (preferred f) id z (rewritten-well-formed f w b) (lacks-moved id n) h)
+      refusals f (preferred f) _ _ (missing-whole f id z w n h)
+      (missing-whole (preferred f) id z (rewritten-well-formed f w b) (lacks-moved id n) h)
 
   -- THE SAME ANSWERS: for every zone name and every instant, in range or not
-  pub same-answers : (id : List ℕ) (z : ℤ) → SameAnswer f (preferred f) (askPlain f id z) (askPlain (preferred f) id z)
+  pub same-answers : (id : List ℕ) (z : ℤ) → SameAnswer f (preferred f) (ask f id z Whole) (ask (preferred f) id z Whole)
   unfolding ask
   same-answers id z = go (eqb (instantOf z) 0) refl
     where

@@ -2,8 +2,8 @@
 -- offset, savings, name and bounds given are those of that interval. Assumes nothing.
 use mathlib.Core.Path.{_≡_, refl, sym, ap, _∙_, subst, subst⁻¹}
 use mathlib.Core.Bool.{false}
-use mathlib.Core.List.{List, [], _∷_, _++_, append-assoc}
-use Prim.Native.Nat.{ℕ, _+_, _-_, _≤_, _<_}
+use mathlib.Core.List.{List, [], _∷_}
+use Prim.Native.Nat.{ℕ, _+_, _≤_, _<_}
 use native.Mathlib.Omega.{arith}
 use lib.IntN.{ℤ}
 use lib.ListN.{length, take, drop, getD}
@@ -17,10 +17,10 @@ use Rattle.pool.specs.Pool.{stringsOf}
 use Rattle.pool.specs.Index.{spanOf}
 use Rattle.pool.proofs.StringLaws.{span-inside, span-string}
 use Rattle.zones.specs.Content.{Zone}
-use Rattle.zones.specs.Lookup.{inBody}
+use Rattle.zones.specs.Lookup.{inZone}
 use Rattle.zones.specs.declared.Found.{Found as Interval}
 use Rattle.zones.proofs.SoundLaws.{zone-sound}
-use Rattle.zones.proofs.RangeLaws.{body-found}
+use Rattle.zones.proofs.RangeLaws.{zone-found}
 use Rattle.zones.proofs.PartitionLaws.{lookup-holds, lookup-only}
 use Rattle.frames.specs.Frame.{Field}
 use Rattle.frames.specs.Machine.{keep}
@@ -30,17 +30,17 @@ use Rattle.base.proofs.AllLaws.{all-head, all-tail, all-map, all-left}
 use Rattle.frames.proofs.ChainLaws.{listing-chain, chain-fields, chain-split}
 use Rattle.frames.proofs.PassLaws.{pass-first, pass-head, lockstep}
 use Rattle.frames.proofs.PartLaws.{walk-ended, walk-answer}
-use Rattle.answers.specs.Answers.{Pool, noPool, answered, nameOf}
-use Rattle.walks.specs.Walk.{says, question}
-use Rattle.questions.specs.Question.{finish}
-use Rattle.answers.specs.declared.Mark.the-variants.{All as Whole}
+use Rattle.answers.specs.Answers.{numberOf, Pool, noPool, answered, nameOf}
+use Rattle.locate.specs.Asked.{says}
+use Rattle.questions.specs.Question.{answerAt, question, finish}
 use Rattle.signed.proofs.IntegerLaws.{instant-finite}
-use Rattle.field_checks.specs.Check.{Memory, start, job, contentOf, WellFormed, filePool, HasId}
-use Rattle.field_checks.proofs.ZoneIdLaws.{one-zone, each-zone}
+use Rattle.field_checks.specs.Check.{Memory, start, job, judged, WellFormed, filePool, HasId}
+use Rattle.field_checks.proofs.ZoneIdLaws.{each-zone}
 use Rattle.demands.specs.Zones.{InRange, ZoneIn, Asked}
 use Rattle.demands.specs.Right.{Right, Answered}
 use Rattle.demands.proofs.Beside.{Alike, Passed, keeps, answers, zone-pool}
-use Rattle.demands.proofs.Names.{by-kept}
+use Rattle.questions.proofs.NameLaws.{by-kept}
+use Rattle.demands.proofs.Lone.{none-before}
 use Rattle.demands.proofs.Exact.{asks, passed, begin-alike}
 
 -- the pool's data is a part of the file
@@ -60,7 +60,7 @@ field-located : (f : List ℕ) (g : Field) → FieldOf f g → Located f (record
 field-located f g o = record { within = omega (arith, o .ends, o .within); part = o .bytes }
 
 go-on : (f : List ℕ) (ts : List (List ℕ)) (id : List ℕ) (t : ℕ) (x x′ : Memory) (y : Pool) (g : Field) → Known f ts id g → Beside f ts x y
-    → contentOf x (g .id) (g .start) (g .body) ≡ keep x′ → (y′ : Pool) × (says id t y g ≡ keep y′) × Beside f ts x′ y′
+    → judged x (g .id) (g .start) (g .body) ≡ keep x′ → (y′ : Pool) × (says (answerAt t) id y g ≡ keep y′) × Beside f ts x′ y′
 go-on f ts id t x x′ y g k r e =
     let w = keeps ts id t x x′ y (r .alike) g (k .passes) e in
     (w .0, w .1, record { alike = w .2; located = by-kept (Located f) id t y g (w .0) (w .1) (r .located) (field-located f g (k .is-field)) })
@@ -88,7 +88,7 @@ right f id z g w a h =
     let ts : List (List ℕ) = filePool (fields f) in
     let zone : Zone = a .has .zone in
     let fin : Finite t = instant-finite t z refl h in
-    let ok = zone-sound (length ts) (g .body) zone (a .has .rest) (a .has .parsed) .0 .body-ok in
+    let ok = zone-sound (length ts) (g .body) zone (a .has .rest) (a .has .parsed) .0 in
     let c = walk-ended job start (w .memory) f (length f) (w .ends) in
     let q = pass-first (job .content) start (w .memory) (a .before) (g ∷ a .behind)
     (subst (λ (gs : List Field). pass (job .content) start gs ≡ next (w .memory)) (a .splits) (c .kept)) in
@@ -96,49 +96,35 @@ right f id z g w a h =
     (chain-split f false 0 4 (a .before) g (a .behind) (rw (a .splits) at (listing-chain f 255))) in
     let fs = all-left (a .before) (g ∷ a .behind) (subst (All (FieldOf f)) (a .splits) (chain-fields f false 0 4 (fields f) (listing-chain f 255))) in
     let u = lockstep (Beside f ts) (Known f ts id) (job .content) (question id t .content) (λ x x′ y g′ k r e. go-on f ts id t x x′ y g′ k r e)
-    (a .before) start (q .0) noPool (known f ts id (a .before) (passed f id (a .before) (g ∷ a .behind) (a .splits) low (a .first)) fs)
+    (a .before) start (q .0) noPool (known f ts id (a .before) (passed f id (a .before) (g ∷ a .behind) (a .splits) low (none-before f id g w a)) fs)
     (record { alike = begin-alike ts; located = record { within = omega arith; part = refl } }) (q .1) in
     let p = pass-head (job .content) (q .0) (w .memory) g (a .behind) (q .2) in
     let y : Pool = u .0 in
-    let i : Interval = inBody t (zone .body) in
+    let i : Interval = inZone t zone in
     let s = answers ts id t (q .0) (p .0) y (u .2 .alike) g (a .has) (p .1) in
     let o = walk-answer (question id t) noPool f (length f) (c .whole) (a .before) g (a .behind) y (answered y i) (a .splits) (omega (arith, a .has .is-zone)) (u .1) s in
-    let l = lookup-holds (length ts) t (zone .body) ok fin in
+    let l = lookup-holds (length ts) t zone ok fin in
     let same : stringsOf (y .body) ≡ ts = sym (u .2 .alike .same) ∙ zone-pool ts id t (q .0) (p .0) y (u .2 .alike) g (a .has) (p .1) in
     record {
-      number-is = rw (asks f id z Whole h, o);
+      number-is = ap numberOf (asks f id z _ h ∙ ap (finish _) o);
       given = answered y i;
-      plain = asks f id z Whole h ∙ ap (finish Whole) o;
+      plain = asks f id z _ h ∙ ap (finish _) o;
       marked = λ mark. asks f id z mark h ∙ ap (finish mark) o;
       interval = i;
       of-zone = l .0;
       holds = l .1;
-      only = λ x e k. lookup-only (length ts) t (zone .body) x ok fin e k;
+      only = λ x e k. lookup-only (length ts) t zone ok fin x e k;
       wall-is = refl;
       savings-is = refl;
       start-is = refl;
       end-is = refl;
-      named = name-is f y i (u .2 .located) (subst⁻¹ (λ (ss : List (List ℕ)). i .name < length ss) same (body-found (length ts) t (zone .body) ok fin .name-ok))
+      named = name-is f y i (u .2 .located) (subst⁻¹ (λ (ss : List (List ℕ)). i .name < length ss) same (zone-found (length ts) t zone ok fin .name-ok))
           ∙ ap (λ (ss : List (List ℕ)). getD ss (i .name) []) same;
     }
 
--- A zone of a well-formed file is the asked one where its ID bytes are asked: no other field has them.
-unshared : (f : List ℕ) → WellFormed f → (x : List ℕ) (g : Field) (behind : List Field) → HasId (filePool (fields f)) x g → (pre gs : List Field)
-    → fields f ≡ pre ++ (gs ++ g ∷ behind) → All (λ h. HasId (filePool (fields f)) x h → ⊥) gs
-unshared f w x g behind k pre [] e = all-none
-unshared f w x g behind k pre (h ∷ gs) e =
-    all-also (λ m. one-zone f w pre h gs g behind x e m k)
-    (unshared f w x g behind k (pre ++ h ∷ []) gs (e ∙ sym (append-assoc pre (h ∷ []) (gs ++ g ∷ behind))))
-
-pub zone-asked : (f : List ℕ) → WellFormed f → (g : Field) → ZoneIn f g → (x : List ℕ) → HasId (filePool (fields f)) x g → Asked f x g
-zone-asked f w g i x k =
-    record {
-      before = i .before;
-      behind = i .behind;
-      splits = i .splits;
-      has = k;
-      first = unshared f w x g (i .behind) k [] (i .before) (i .splits);
-    }
+-- a zone of a file is the asked one where its ID bytes are asked
+pub zone-asked : (f : List ℕ) (g : Field) → ZoneIn f g → (x : List ℕ) → HasId (filePool (fields f)) x g → Asked f x g
+zone-asked f g i x k = record { before = i .before; behind = i .behind; splits = i .splits; has = k }
 
 -- DEMAND 2, FOR READERS: every well-formed file, every zone of it, every instant from year 1 to year 9999
 pub demand-2 : (f : List ℕ) → WellFormed f → (g : Field) → ZoneIn f g → Answered f g
@@ -151,5 +137,5 @@ demand-2 f w g i =
     record {
       zone = k .zone;
       parsed = e;
-      right = λ z h. right f (getD ts (k .zone .id) []) z g w (zone-asked f w g i (getD ts (k .zone .id) []) own) h;
+      right = λ z h. right f (getD ts (k .zone .id) []) z g w (zone-asked f g i (getD ts (k .zone .id) []) own) h;
     }

@@ -11,8 +11,7 @@ use Rattle.signed.specs.Instant.{instantOf}
 use Rattle.frames.specs.Machine.{Out, found, refused, cut, ended, final, walk}
 use Rattle.frames.proofs.GrowthLaws.{walk-stable}
 use Rattle.answers.specs.Answers.{numberOf, Pool, noPool}
-use Rattle.walks.specs.Walk.{question}
-use Rattle.questions.specs.Question.{finish, ask}
+use Rattle.questions.specs.Question.{question, finish, ask}
 use Rattle.answers.specs.declared.Mark.{Mark}
 use Rattle.answers.specs.declared.Mark.the-variants.{More}
 use Rattle.answers.specs.declared.Found.{Found}

@@ -12,7 +12,7 @@ use Rattle.counts.specs.Groups.{readGroups}
 use Rattle.offsets.specs.Offset.{readSum}
 use Rattle.transitions.specs.Transition.{fromCount, readMoment}
 use Rattle.utf8.specs.Utf8.{chars}
-use Rattle.texts.specs.Text.{sized as textSized}
+use Rattle.texts.specs.Text.{textSized}
 use Rattle.calendar.specs.Calendar.{leapDay, monthLength, daysBefore, yearStart, dayNumber, estimate, yearOf}
 use Rattle.rules.specs.Rules.{mostDay}
 use Rattle.occurrences.specs.Rules.{monthDay, onOrAfter, onOrBefore, moved, fallsOn, occurrence, subtracted}
@@ -33,9 +33,9 @@ use Rattle.ids.specs.Ids.{among}
 use Rattle.frames.specs.Frame.{order, zeros, version, sized, field, frame, Field}
 use Rattle.frames.specs.Machine.{act, step, walk}
 use Rattle.frames.specs.Fields.{scan, listing}
-use Rattle.field_checks.specs.Check.{poolKept, newId, zoneKept, contentOf, concluded, conclusion, WellFormed}
+use Rattle.field_checks.specs.Check.{poolKept, newId, zoneKept, judged, concluded, conclusion, WellFormed}
 use Rattle.field_checks.proofs.WellFormedLaws.{good-well-formed}
-use Rattle.walks.specs.Walk.{says}
+use Rattle.locate.specs.Asked.{says}
 use Rattle.questions.specs.Question.{ask, askPlain}
 use Rattle.answers.specs.Answers.{nameOf}
 use Rattle.answers.specs.declared.Answer.{Answer}
@@ -56,7 +56,7 @@ file =
     ∷ 0xB0 ∷ 0x27 ∷ 1 ∷ 0x32 ∷ 1 ∷ 0x1C ∷ 10 ∷ 1 ∷ 0x32 ∷ 2 ∷ 0x1C ∷ 3 ∷ 1 ∷ 0x32 ∷ 0x32 ∷ []
 
 pub well-formed : WellFormed file
-unfolding conclusion walk iterate step act frame version zeros field order sized readGroups many counted allStrings ended concluded poolKept contentOf chars textSized zoneKept newId among equal parseZone afterId afterFlag parseFixed afterFixedOffset zoneOf parseByte parseName judgeName readSum parseListed afterCount afterIntervals afterEnd afterTailByte parseTailed afterTail behind readMoment fromCount parseInterval afterStart parseDetails afterName afterWall parseTail parseDaylight afterDaylightName parseSavings afterSavings parseStandard afterOffset afterStandardName parseRule afterByte parseMonth afterMonth parseDay afterDay parseTime afterTime byteOk monthOk dayOk timeOk sumOk mostDay monthLength leapDay
+unfolding conclusion walk iterate step act frame version zeros field order sized readGroups many counted allStrings ended concluded poolKept judged chars textSized zoneKept newId among equal parseZone afterId afterFlag parseFixed afterFixedOffset zoneOf parseByte parseName judgeName readSum parseListed afterCount afterIntervals afterEnd afterTailByte parseTailed afterTail behind readMoment fromCount parseInterval afterStart parseDetails afterName afterWall parseTail parseDaylight afterDaylightName parseSavings afterSavings parseStandard afterOffset afterStandardName parseRule afterByte parseMonth afterMonth parseDay afterDay parseTime afterTime byteOk monthOk dayOk timeOk sumOk mostDay monthLength leapDay
 well-formed = good-well-formed file refl
 
 abbrev pool : Field

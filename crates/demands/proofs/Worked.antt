@@ -10,7 +10,7 @@ use Rattle.counts.specs.Fixed.{fixedFrom}
 use Rattle.offsets.specs.Offset.{readSum}
 use Rattle.transitions.specs.Transition.{fromCount, readMoment}
 use Rattle.utf8.specs.Utf8.{chars}
-use Rattle.texts.specs.Text.{sized as textSized}
+use Rattle.texts.specs.Text.{textSized}
 use Rattle.calendar.specs.Calendar.{leapDay, monthLength, daysBefore, yearStart, dayNumber}
 use Rattle.rules.specs.Rules.{mostDay}
 use Rattle.occurrences.specs.Rules.{monthDay, onOrAfter, onOrBefore, moved, fallsOn, occurrence, subtracted}
@@ -24,7 +24,7 @@ use Rattle.zones.specs.Lookup.{inBody}
 use Rattle.zones.specs.Parse.{zoneOf, afterFixedOffset, parseFixed, afterFlag, afterId, parseZone}
 use Rattle.frames.specs.Frame.{order, zeros, version, sized, field, frame}
 use Rattle.frames.specs.Machine.{act, step, walk}
-use Rattle.walks.specs.Walk.{says}
+use Rattle.locate.specs.Asked.{says}
 use Rattle.questions.specs.Question.{ask}
 use Rattle.demands.specs.Cases.{Case, given, cases}
 

@@ -1,14 +1,15 @@
 -- TWELVE WORKED CASES OF DOCUMENT 01, each with the sentence that it is. `worked` (proofs/Worked.antt) says that they hold; the other worked
--- values are run by programs (docs/STATEMENTS.md says which). Assumes nothing: these are definitions.
+-- values are run by programs (docs/STATEMENTS.md says which). To be believed.
 use mathlib.Core.List.{List, [], _∷_, _++_}
 use Prim.Native.Nat.{ℕ, _+_, _*_, _-_}
 use lib.IntN.{ℤ, pos, negsuc}
 use lib.ListN.{take}
 use Rattle.base.specs.Moment.{epoch}
+use Rattle.base.specs.Numbers.{GivenBack, answering, refusing}
 use Rattle.base.specs.Parsed.{Parsed, got, bad}
 use Rattle.base.specs.Writing.{Form, bytes, unfit}
 use Rattle.signed.specs.declared.Number.{Number}
-use Rattle.signed.specs.declared.Number.the-variants.{Value, Refused as Unread}
+use Rattle.signed.specs.Number.{givenByNumber}
 use Rattle.counts.specs.Count.{countForm}
 use Rattle.counts.specs.SignedCount.{readSignedCount}
 use Rattle.offsets.specs.Offset.{readOffset}
@@ -17,37 +18,41 @@ use Rattle.calendar.specs.Calendar.{dayNumber}
 use Rattle.rules.specs.declared.Rule.{Rule}
 use Rattle.occurrences.specs.Rules.{fallsOn, occurrence, subtracted}
 use Rattle.tails.specs.Tail.{parseRule}
-use Rattle.questions.specs.Question.{ask}
+use Rattle.questions.specs.Question.{ask, askPlain}
 use Rattle.answers.specs.Answers.{nameOf}
+use Rattle.answers.specs.Numbers.{givenByAnswer}
 use Rattle.answers.specs.declared.Mark.{Mark}
-use Rattle.answers.specs.declared.Mark.the-variants.{More, All}
+use Rattle.answers.specs.declared.Mark.the-variants.{More}
 use Rattle.answers.specs.declared.Answer.{Answer}
 use Rattle.answers.specs.declared.Answer.the-variants.{In, Refused}
 
 -- what is asked: a count written; a signed count, an offset or a transition (behind a previous one) read; a rule's bytes in a year, where
--- both wall offsets are zero; a question of some bytes
+-- both wall offsets are zero; a marked or a plain question of some bytes
 pub data Asking : Type 0 where
   writing : ℕ → Asking
   reading : (List ℕ → Number) → List ℕ → Asking
   rule : List ℕ → ℕ → Asking
   question : List ℕ → List ℕ → ℤ → Mark → Asking
+  plain : List ℕ → List ℕ → ℤ → Asking
 
--- what is given: a code's bytes; a value and the length of its code; a day and a Unix second; wall offset, savings and name; a refusal's
--- number and place
+-- what is given: a code's bytes; number, place and values; a day and a Unix second; wall offset, savings and name
 pub data Given : Type 0 where
   code : List ℕ → Given
-  value : ℤ → ℕ → Given
+  told : GivenBack → Given
   falls : ℕ → ℕ → Given
   reply : ℤ → ℤ → List ℕ → Given
-  refusal : ℕ → ℕ → Given
+
+-- a value and the length of its code
+abbrev pub value : ℤ → ℕ → Given
+value v n = told (answering (v ∷ pos n ∷ []))
+
+-- a refusal's number and place
+abbrev pub refusal : ℕ → ℕ → Given
+refusal n p = told (refusing n p)
 
 abbrev pub ofForm : Form → Given
 ofForm (bytes xs) = code xs
 ofForm (unfit n) = refusal n 0
-
-abbrev pub ofNumber : Number → Given
-ofNumber (Value v n) = value v n
-ofNumber (Unread n) = refusal n 0
 
 -- "years 0 and below allowed": a year is counted from -399
 abbrev pub ofRule : ℕ → Parsed Rule → Given
@@ -56,13 +61,14 @@ ofRule y (bad n) = refusal n 0
 
 abbrev pub ofAnswer : List ℕ → Answer → Given
 ofAnswer bs (In x) = reply (x .wall) (x .savings) (nameOf bs x)
-ofAnswer bs (Refused n p) = refusal n p
+ofAnswer bs (Refused n p) = told (givenByAnswer (Refused n p))
 
 abbrev pub given : Asking → Given
 given (writing v) = ofForm (countForm v)
-given (reading read s) = ofNumber (read s)
+given (reading read s) = told (givenByNumber (read s))
 given (rule s y) = ofRule y (parseRule s)
 given (question bs id z mark) = ofAnswer bs (ask bs id z mark)
+given (plain bs id z) = ofAnswer bs (askPlain bs id z)
 
 pub record Case : Type 0 where
   pub asked : Asking
@@ -93,13 +99,13 @@ cases =
     -- 6. "Rule 3E 03 10 34 (Sunday on or after 8 March, 02:00 wall) falls on 2024-03-10": 02:00 of that day is Unix second 1710036000
     ∷ record { asked = rule (0x3E ∷ 0x03 ∷ 0x10 ∷ 0x34 ∷ []) 2024; expected = falls (dayNumber (2024 + 399) 3 10) (1710036000 * 10000000) }
     -- 7. "`UTC 0` writes `0 0 0 UTC`"
-    ∷ record { asked = question file utc (pos 0) All; expected = reply (pos 0) (pos 0) utc }
+    ∷ record { asked = plain file utc (pos 0); expected = reply (pos 0) (pos 0) utc }
     -- 8. "`GMT 0 part` writes `1 17`"
     ∷ record { asked = question file gmt (pos 0) More; expected = refusal 1 17 }
     -- 9. "On the first 16 bytes `UTC 0 part` writes `1 11`"
     ∷ record { asked = question (take 16 file) utc (pos 0) More; expected = refusal 1 11 }
     -- 10. "`UTC 0` writes `2 11`"
-    ∷ record { asked = question (take 16 file) utc (pos 0) All; expected = refusal 2 11 }
+    ∷ record { asked = plain (take 16 file) utc (pos 0); expected = refusal 2 11 }
     -- 11. "With one byte 02 added, `GMT 0 part` writes `12 17`"
     ∷ record { asked = question (file ++ 2 ∷ []) gmt (pos 0) More; expected = refusal 12 17 }
     -- 12. "On no bytes: `1 0`"

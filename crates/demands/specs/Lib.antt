@@ -4,3 +4,6 @@ pub mod Parts
 pub mod Cases
 pub mod Numbers
 pub mod Same
+pub mod Whole
+pub mod Rewrites
+pub mod Places

@@ -1,10 +1,7 @@
--- The numbers of document 01's table that the check and the question can give. Assumes nothing: these are definitions.
+-- The numbers of document 01's table that each function for a whole file can give. To be believed.
 use Prim.Native.Nat.{ℕ, _≤_}
 use mathlib.Core.Path.{_≡_}
-use Rattle.field_checks.specs.declared.Verdict.{Verdict}
-use Rattle.field_checks.specs.declared.Verdict.the-variants.{Good, Refused}
-use Rattle.answers.specs.declared.Answer.{Answer}
-use Rattle.answers.specs.declared.Answer.the-variants.{In, Refused as No}
+use Rattle.base.specs.Numbers.{GivenBack, answering, refusing}
 
 -- faults of a field's contents: a largest size passed, and 7 to 11
 pub data OfContent (n : ℕ) : Type 0 where
@@ -22,14 +19,14 @@ pub data OfCheck (n : ℕ) : Type 0 where
   check-fault : OfFile n → OfCheck n
   second-zone : n ≡ 13 → OfCheck n
 
--- the table's number of a verdict
-abbrev pub verdictNumber : Verdict → ℕ
-verdictNumber Good = 0
-verdictNumber (Refused n p) = n
+-- "Rewriting, and reading the version text, check all first; then 15 or 12"
+pub data OfRewrite (n : ℕ) : Type 0 where
+  rewrite-check : OfCheck n → OfRewrite n
+  no-room : n ≡ 15 → OfRewrite n
 
-abbrev pub InTable : Verdict → Type 0
-InTable Good = Unit {0}
-InTable (Refused n p) = OfCheck n
+pub data OfVersion (n : ℕ) : Type 0 where
+  version-check : OfCheck n → OfVersion n
+  no-text : n ≡ 12 → OfVersion n
 
 -- what a question refuses with: 13 is "never given by a question"
 pub data OfQuestion (n : ℕ) : Type 0 where
@@ -39,6 +36,7 @@ pub data OfQuestion (n : ℕ) : Type 0 where
   no-zone : n ≡ 12 → OfQuestion n
   no-instant : n ≡ 14 → OfQuestion n
 
-abbrev pub AnswerInTable : Answer → Type 0
-AnswerInTable (In x) = Unit {0}
-AnswerInTable (No n p) = OfQuestion n
+-- what is given back is an answer, or a refusal whose number has P
+abbrev pub InTable : (ℕ → Type 0) → GivenBack → Type 0
+InTable P (answering vs) = Unit {0}
+InTable P (refusing n p) = P n

@@ -1,4 +1,4 @@
--- What demand 3 says: "More bytes never change what we have said." Assumes nothing: these are definitions.
+-- What demand 3 says: "More bytes never change what we have said." To be believed.
 use Prim.Native.Nat.{ℕ, _≤_, _<_}
 use mathlib.Core.Path.{_≡_}
 use mathlib.Core.List.{List, _++_}
@@ -7,7 +7,7 @@ use mathlib.Core.Option.{some}
 use lib.IntN.{ℤ}
 use lib.ListN.{take}
 use Rattle.frames.specs.Frame.{Field}
-use Rattle.frames.specs.Fields.{fields, firstAbove}
+use Rattle.frames.specs.Fields.{FieldOf, fields, firstAbove}
 use Rattle.answers.specs.Answers.{numberOf, nameOf}
 use Rattle.questions.specs.Question.{ask}
 use Rattle.answers.specs.declared.Mark.{Mark}
@@ -23,11 +23,14 @@ pub record Standing (bs more id : List ℕ) (z : ℤ) (mark : Mark) : Type 0 whe
   pub same-name : (x : Found) → ask bs id z More ≡ In x → nameOf (bs ++ more) x ≡ nameOf bs x
 
 -- "If the file has the asked zone, the part gives 'not yet' exactly when that zone's field isn't all there, and else the answer that the
--- whole file gives as all there is." A field is all there in the first k bytes where the place just past it is at most k.
+-- whole file gives as all there is", "the name byte for byte". "A field is all there when the part holds its ID byte, its size and every data
+-- byte that the size counts": g is a field of the first k bytes.
 pub record There (f id : List ℕ) (z : ℤ) (g : Field) (k : ℕ) : Type 0 where
-  pub before : k < g .past → numberOf (ask (take k f) id z More) ≡ 1
-  pub from-then : g .past ≤ k → ask (take k f) id z More ≡ ask f id z All
-  pub answered : numberOf (ask f id z All) ≡ 0
+  pub given : Found
+  pub answered : ask f id z All ≡ In given
+  pub before : (FieldOf (take k f) g → ⊥) → numberOf (ask (take k f) id z More) ≡ 1
+  pub from-then : FieldOf (take k f) g → ask (take k f) id z More ≡ ask f id z All
+  pub same-name : FieldOf (take k f) g → nameOf (take k f) given ≡ nameOf f given
 
 -- "If the file has no such zone, the part gives 'not yet' exactly when it holds no first byte of a field with an ID above 1, and else
 -- 'no such zone'", at that byte's place

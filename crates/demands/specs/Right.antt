@@ -1,6 +1,6 @@
 -- What demand 2 says to a reader: "On a well-formed file each instant from year 1 to year 9999 falls in exactly one interval of each zone,
 -- and the offset, savings, name and bounds given are those of the published format and its yearly rules." The intervals of a zone are a
--- definition on its content (`InBody`), not by way of the lookup. Assumes nothing: these are definitions.
+-- definition on its content (`InZone`), not by way of the lookup. To be believed.
 use Prim.Native.Nat.{ℕ}
 use mathlib.Core.Path.{_≡_}
 use mathlib.Core.List.{List, []}
@@ -11,7 +11,7 @@ use Rattle.signed.specs.Instant.{instantOf, ticksOf}
 use Rattle.signed.specs.OffsetSum.{millisecondsOf}
 use Rattle.zones.specs.Content.{Zone}
 use Rattle.zones.specs.Parse.{parseZone}
-use Rattle.zones.specs.Intervals.{Holds, InBody}
+use Rattle.zones.specs.Intervals.{Holds, InZone}
 use Rattle.zones.specs.declared.Found.{Found as Interval}
 use Rattle.frames.specs.Frame.{Field}
 use Rattle.frames.specs.Fields.{fields}
@@ -32,9 +32,9 @@ pub record Right (f id : List ℕ) (z : ℤ) (w : Zone) : Type 0 where
   pub marked : (mark : Mark) → ask f id z mark ≡ In given
   -- it is of one interval of the zone, which holds the instant, and no other does
   pub interval : Interval
-  pub of-zone : InBody (w .body) interval
+  pub of-zone : InZone w interval
   pub holds : Holds interval (instantOf z)
-  pub only : (x : Interval) → InBody (w .body) x → Holds x (instantOf z) → x ≡ interval
+  pub only : (x : Interval) → InZone w x → Holds x (instantOf z) → x ≡ interval
   -- and has its values
   pub wall-is : given .wall ≡ millisecondsOf (interval .wall)
   pub savings-is : given .savings ≡ millisecondsOf (interval .savings)

@@ -1,4 +1,4 @@
--- What a question gives on two files, places aside. Assumes nothing: these are definitions.
+-- What a question gives on two files, places aside. To be believed.
 use Prim.Native.Nat.{ℕ}
 use mathlib.Core.Path.{_≡_}
 use mathlib.Core.List.{List}

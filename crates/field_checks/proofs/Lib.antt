@@ -1,6 +1,10 @@
+pub mod KindLaws
 pub mod TakeLaws
 pub mod StepLaws
 pub mod WellFormedLaws
 pub mod ZoneIdLaws
 pub mod VersionLaws
+pub mod FileLaws
+pub mod TextLaws
+pub mod PartLaws
 pub mod Vectors

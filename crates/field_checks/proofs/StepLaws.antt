@@ -18,8 +18,8 @@ use Rattle.frames.specs.declared.Frame.{Frame}
 use Rattle.frames.specs.declared.Frame.the-variants.{End, Cut, Refused as Unframed, Version, Whole}
 use Rattle.frames.proofs.HeadLaws.{Headed, whole-headed, order-follows}
 use Rattle.frames.proofs.StepLaws.{Room, whole-room, version-room, from-end, from-cut, from-refused, from-version, from-bad, from-keep}
-use Rattle.field_checks.specs.Check.{TextPlace, nowhere, placed, Memory, start, contentOf, job, concluded, concludes, conclusion}
-use Rattle.field_checks.specs.Cursor.{part, textOf, Indexed, Stands, Says, TookField, seenAt, stateOf, Holds, Onward, Stepped}
+use Rattle.field_checks.specs.Check.{TextPlace, nowhere, placed, Memory, start, judged, job, concluded, concludes, conclusion}
+use Rattle.field_checks.specs.Cursor.{part, textOf, Indexed, Stands, Says, TookField, seenAt, stateOf, Represents, Onward, Stepped}
 use Rattle.field_checks.specs.declared.Conclusion.{Conclusion}
 use Rattle.field_checks.specs.declared.Conclusion.the-variants.{Refused as Ill, Bare, WithText}
 use Rattle.field_checks.specs.declared.Kept.{Kept}
@@ -141,9 +141,9 @@ module _ (s : List ℕ) (c : Cursor) (ix fl mk : List ℕ) (f : Frame)
     ends-past : (0 < c .at → 4 ≤ c .at) → 4 < c .at + (n + m)
     ends-past p = let l : 4 ≤ c .at = p (pos-of-ne-zero (headed .place)) in omega (arith, room .head)
 
-    content-is : (y : Memory) (x : Content Memory ⊥) → contentOf y i (c .at + n) (part s (c .at + n) (c .at + (n + m))) ≡ x
+    content-is : (y : Memory) (x : Content Memory ⊥) → judged y i (c .at + n) (part s (c .at + n) (c .at + (n + m))) ≡ x
         → job .content y (fieldAt (c .at) rest i n m) ≡ x
-    content-is y x e = ap (contentOf y i (c .at + n)) body-part ∙ e
+    content-is y x e = ap (judged y i (c .at + n)) body-part ∙ e
 
     module _ (ix′ fl′ mk′ : List ℕ) (r : Taken)
         (t : TookField s (c .kept) i (c .at + n) (c .at + (n + m)) ix fl mk ix′ fl′ mk′ r) where
@@ -183,7 +183,7 @@ module _ (s : List ℕ) (c : Cursor) (ix fl mk : List ℕ) (f : Frame)
 -- the walk has come to a cursor
 pub record Walking (s : List ℕ) (c : Cursor) (ix fl mk : List ℕ) : Type 0 where
   pub memory : Memory
-  pub holds : Holds s c ix fl mk memory
+  pub holds : Represents s c ix fl mk memory
   pub same : conclusion s ≡ concludes (from job (stateOf s c memory))
 
 abbrev pub nothing : Kept

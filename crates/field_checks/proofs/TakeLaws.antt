@@ -20,16 +20,17 @@ use Rattle.pool.proofs.PoolLaws.{ready}
 use Rattle.zones.specs.Content.{Zone}
 use Rattle.zones.specs.Parse.{parseZone}
 use Rattle.zones.specs.Lookup.{verdictOf}
-use Rattle.zones.specs.declared.Verdict.{Verdict}
-use Rattle.zones.specs.declared.Verdict.the-variants.{Good, Refused as Unzoned}
+use Rattle.zones.specs.declared.ZoneVerdict.{ZoneVerdict}
+use Rattle.zones.specs.declared.ZoneVerdict.the-variants.{Good, Refused as Unzoned}
 use Rattle.zones.proofs.SoundLaws.{zone-sound}
 use Rattle.ids.specs.Memory.{Taken as TakenId}
 use Rattle.ids.proofs.MemoryLaws.{keeps-none}
-use Rattle.field_checks.specs.Check.{Memory, poolIn, poolKept, newId, zoneIn, zoneKept, textKept, contentOf}
+use Rattle.field_checks.specs.Check.{Memory, poolIn, poolKept, newId, zoneIn, zoneKept, textKept, judged}
 use Rattle.field_checks.specs.Cursor.{part, poolOf, Indexed, Stands, Fresh, Says, TookPool, TookZone, TookText, TookField}
 use Rattle.field_checks.specs.declared.Kept.{Kept}
 use Rattle.field_checks.specs.declared.Taken.{Taken}
 use Rattle.field_checks.specs.declared.Taken.the-variants.{Refused, Keep}
+use Rattle.base.proofs.Tests.{clash}
 
 pub part-length : (s : List ℕ) (a e : ℕ) → e ≤ length s → length (part s a e) ≡ e - a
 part-length s a e h = length-take-le (e - a) (drop a s) (rw length-drop (omega arith))
@@ -43,7 +44,7 @@ module _ (s : List ℕ) (k : Kept) (a e : ℕ) (ix ix′ : List ℕ) (c : Checke
     where
       go : (fl mk : List ℕ) (y : Memory) (p : Pool) → Unpooled n ≡ checked p → Says s ix′ fl mk (poolIn y p) (Refused n)
       go fl mk y (faulty m) r = cc
-      go fl mk y (got ts q) r = let z : _≡_ {A = ℕ} 0 1 = cc in absurd (omega arith)
+      go fl mk y (got ts q) r = clash cc
 
   pub pool-kept : (n : ℕ) → c ≡ Strings n → a ≤ e → e ≤ length s → roomOf (part s a e) ≤ length ix
       → TookPool s k a e ix ix′ (Keep (record { start = a; end = e; count = n; text = k .text; len = k .len }))
@@ -53,7 +54,7 @@ module _ (s : List ℕ) (k : Kept) (a e : ℕ) (ix ix′ : List ℕ) (c : Checke
       go : (fl mk : List ℕ) (y : Memory) → Stands s k fl mk y → Fresh fl mk y → (p : Pool) → parsePool (part s a e) ≡ p
           → Strings n ≡ checked p
           → Says s ix′ fl mk (poolIn y p) (Keep (record { start = a; end = e; count = n; text = k .text; len = k .len }))
-      go fl mk y st fr (faulty m) i r = let z : _≡_ {A = ℕ} 0 1 = cc in absurd (omega arith)
+      go fl mk y st fr (faulty m) i r = clash cc
       go fl mk y st fr (got ts u) i r =
           let w : stringsOf (part s a e) ≡ ts = ap stringsIn i in
           let j : n ≡ length ts = cc in (
@@ -67,7 +68,7 @@ module _ (s : List ℕ) (k : Kept) (a e : ℕ) (ix ix′ : List ℕ) (c : Checke
           )
 
 -- a field 1, by what the check of the zone gives
-module _ (s : List ℕ) (k : Kept) (a e : ℕ) (ix fl mk : List ℕ) (ind : Indexed s k ix) (v : Verdict)
+module _ (s : List ℕ) (k : Kept) (a e : ℕ) (ix fl mk : List ℕ) (ind : Indexed s k ix) (v : ZoneVerdict)
     (h : v ≡ verdictOf (parseZone (k .count) (part s a e))) where
   as-count : (y : Memory) → Stands s k fl mk y → v ≡ verdictOf (parseZone (length (y .pool)) (part s a e))
   as-count y st =
@@ -80,14 +81,14 @@ module _ (s : List ℕ) (k : Kept) (a e : ℕ) (ix fl mk : List ℕ) (ind : Inde
     where
       go : (y : Memory) (p : Parsed Zone) → Unzoned n ≡ verdictOf p → Says s ix fl mk (zoneIn y p) (Refused n)
       go y (faulty m) r = cc
-      go y (got z q) r = let w : _≡_ {A = ℕ} 0 1 = cc in absurd (omega arith)
+      go y (got z q) r = clash cc
 
   module _ (id : ℕ) (q : v ≡ Good id) where
     pub zone-id : id < k .count
     zone-id = go (parseZone (k .count) (part s a e)) refl (sym q ∙ h)
       where
         go : (p : Parsed Zone) → parseZone (k .count) (part s a e) ≡ p → Good id ≡ verdictOf p → id < k .count
-        go (faulty m) i r = let w : _≡_ {A = ℕ} 0 1 = cc in absurd (omega arith)
+        go (faulty m) i r = clash cc
         go (got z u) i r =
             let w : id ≡ z .id = cc in
             rw w (zone-sound (k .count) (part s a e) z u i .0 .id-ok)
@@ -100,7 +101,7 @@ module _ (s : List ℕ) (k : Kept) (a e : ℕ) (ix fl mk : List ℕ) (ind : Inde
     zone-new y st = go (parseZone (length (y .pool)) (part s a e)) (sym q ∙ as-count y st)
       where
         go : (p : Parsed Zone) → Good id ≡ verdictOf p → zoneIn y p ≡ newId y bytes
-        go (faulty m) r = let w : _≡_ {A = ℕ} 0 1 = cc in absurd (omega arith)
+        go (faulty m) r = clash cc
         go (got z u) r =
             let w : z .id ≡ id = cc in
             ap (newId y) (ap₂ (λ (ts : List (List ℕ)) (n : ℕ). getD ts n []) (st .strings) w)
@@ -152,20 +153,20 @@ module _ (s : List ℕ) (k : Kept) (a e : ℕ) (l₁ : a ≤ e) (l₂ : e ≤ le
 -- a field by its ID
 module _ (s : List ℕ) (k : Kept) (i a e : ℕ) (ix fl mk : List ℕ) where
   pub field-pool : (r : Taken) (ix′ : List ℕ) → i ≡ 0 → Indexed s k ix → TookPool s k a e ix ix′ r → TookField s k i a e ix fl mk ix′ fl mk r
-  unfolding contentOf
+  unfolding judged
   field-pool r ix′ q ind t =
       record { means = λ y st fr. rw (eq-eqb i 0 q) (t .means fl mk y st (fr q)) }
 
   module _ (n₀ : i ≡ 0 → ⊥) where
     pub field-zone : (r : Taken) (fl′ mk′ : List ℕ) → i ≡ 1 → TookZone s k a e ix fl mk fl′ mk′ r → TookField s k i a e ix fl mk ix fl′ mk′ r
-    unfolding contentOf
+    unfolding judged
     field-zone r fl′ mk′ q t = record { means = λ y st fr. rw (ne-eqb i 0 n₀, eq-eqb i 1 q) (t .means y st) }
 
     module _ (n₁ : i ≡ 1 → ⊥) (ind : Indexed s k ix) where
       pub field-text : (r : Taken) → i ≡ 2 → TookText s k a e r → TookField s k i a e ix fl mk ix fl mk r
-      unfolding contentOf
+      unfolding judged
       field-text r q t = record { means = λ y st fr. rw (ne-eqb i 0 n₀, ne-eqb i 1 n₁, eq-eqb i 2 q) (t .means ix fl mk y ind st) }
 
       pub field-other : (i ≡ 2 → ⊥) → TookField s k i a e ix fl mk ix fl mk (Keep k)
-      unfolding contentOf
+      unfolding judged
       field-other n₂ = record { means = λ y st fr. rw (ne-eqb i 0 n₀, ne-eqb i 1 n₁, ne-eqb i 2 n₂) (ind, st) }

@@ -7,7 +7,7 @@ use Rattle.base.specs.Parsed.{parseByte, ended, many}
 use Rattle.base.specs.Run.{iterate}
 use Rattle.counts.specs.Groups.{readGroups}
 use Rattle.utf8.specs.Utf8.{chars}
-use Rattle.texts.specs.Text.{sized as textSized}
+use Rattle.texts.specs.Text.{textSized}
 use Rattle.offsets.specs.Offset.{readSum}
 use Rattle.places.specs.Name.{judgeName, parseName}
 use Rattle.pool.specs.Pool.{allStrings, counted}
@@ -16,10 +16,15 @@ use Rattle.ids.specs.Ids.{among}
 use Rattle.zones.specs.Parse.{zoneOf, afterFixedOffset, parseFixed, afterFlag, afterId, parseZone}
 use Rattle.frames.specs.Frame.{order, zeros, version, sized, field, frame}
 use Rattle.frames.specs.Machine.{act, step, walk}
-use Rattle.field_checks.specs.Check.{poolKept, newId, zoneKept, textKept, contentOf, concluded, conclusion, checkOf, versionOf, WellFormed}
+use Rattle.frames.specs.Fields.{scan, listing}
+use Rattle.field_checks.specs.Check.{poolKept, newId, zoneKept, textKept, judged, concluded, conclusion, checkOf, versionOf, WellFormed}
 use Rattle.field_checks.specs.declared.Verdict.the-variants.{Good, Refused}
 use Rattle.field_checks.specs.declared.VersionText.the-variants.{Part as TextPart, Refused as NoText}
+use Rattle.field_checks.specs.File.{IsFile}
+use Rattle.field_checks.specs.Version.{GivesText, ReadsText}
 use Rattle.field_checks.proofs.WellFormedLaws.{good-well-formed}
+use Rattle.field_checks.proofs.FileLaws.{well-formed-file}
+use Rattle.field_checks.proofs.TextLaws.{version-text}
 
 abbrev pub bare : List ℕ
 bare = 0 ∷ 0 ∷ 0 ∷ 0 ∷ []
@@ -32,7 +37,7 @@ file = bare ++ 0 ∷ 5 ∷ 1 ∷ 3 ∷ 85 ∷ 84 ∷ 67 ∷ 1 ∷ 4 ∷ 0 ∷ 1 
 pub starts :
     map checkOf ([] ∷ bare ∷ (0 ∷ 0 ∷ []) ∷ (0 ∷ 0 ∷ 0 ∷ 1 ∷ []) ∷ (bare ++ 1 ∷ []) ∷ (bare ++ 0 ∷ 0 ∷ []) ∷ [])
     ≡ Refused 2 0 ∷ Refused 6 4 ∷ Refused 2 0 ∷ Refused 3 0 ∷ Refused 6 4 ∷ Refused 9 4 ∷ []
-unfolding conclusion walk iterate step act frame version zeros field order sized readGroups many counted allStrings ended concluded poolKept contentOf
+unfolding conclusion walk iterate step act frame version zeros field order sized readGroups many counted allStrings ended concluded poolKept judged
 starts = refl
 
 -- strings "A", "B", "A", a zone "A" and a zone of the ID that is given
@@ -44,17 +49,36 @@ zoned k = bare ++ 0 ∷ 7 ∷ 3 ∷ 1 ∷ 65 ∷ 1 ∷ 66 ∷ 1 ∷ 65 ∷ 1 ∷
 pub zones :
     map checkOf (file ∷ take 16 file ∷ (file ++ 0 ∷ []) ∷ zoned 1 ∷ zoned 2 ∷ (zoned 2 ++ 0 ∷ []) ∷ [])
     ≡ Good ∷ Refused 2 11 ∷ Refused 5 17 ∷ Good ∷ Refused 13 19 ∷ Refused 13 19 ∷ []
-unfolding conclusion walk iterate step act frame version zeros field order sized readGroups many counted allStrings ended concluded poolKept contentOf chars textSized zoneKept newId textKept among equal parseZone afterId afterFlag parseFixed afterFixedOffset zoneOf parseByte parseName judgeName readSum
+unfolding conclusion walk iterate step act frame version zeros field order sized readGroups many counted allStrings ended concluded poolKept judged chars textSized zoneKept newId textKept among equal parseZone afterId afterFlag parseFixed afterFixedOffset zoneOf parseByte parseName judgeName readSum
 zones = refl
 
 -- no version text; "A" in field 2; a byte left over there; a field 3 behind it
 pub texts :
     map versionOf (file ∷ (file ++ 2 ∷ 2 ∷ 1 ∷ 65 ∷ []) ∷ (file ++ 2 ∷ 3 ∷ 1 ∷ 65 ∷ 0 ∷ []) ∷ (file ++ 2 ∷ 2 ∷ 1 ∷ 65 ∷ 3 ∷ 1 ∷ 9 ∷ []) ∷ bare ∷ [])
     ≡ NoText 12 17 ∷ TextPart 20 1 ∷ NoText 9 17 ∷ TextPart 20 1 ∷ NoText 6 4 ∷ []
-unfolding conclusion walk iterate step act frame version zeros field order sized readGroups many counted allStrings ended concluded poolKept contentOf chars textSized zoneKept newId textKept among equal parseZone afterId afterFlag parseFixed afterFixedOffset zoneOf parseByte parseName judgeName readSum
+unfolding conclusion walk iterate step act frame version zeros field order sized readGroups many counted allStrings ended concluded poolKept judged chars textSized zoneKept newId textKept among equal parseZone afterId afterFlag parseFixed afterFixedOffset zoneOf parseByte parseName judgeName readSum
 texts = refl
 
 -- the premise of the laws about well-formed files is met
 pub file-well-formed : WellFormed file
-unfolding conclusion walk iterate step act frame version zeros field order sized readGroups many counted allStrings ended concluded poolKept contentOf chars textSized zoneKept newId textKept among equal parseZone afterId afterFlag parseFixed afterFixedOffset zoneOf parseByte parseName judgeName readSum
+unfolding conclusion walk iterate step act frame version zeros field order sized readGroups many counted allStrings ended concluded poolKept judged chars textSized zoneKept newId textKept among equal parseZone afterId afterFlag parseFixed afterFixedOffset zoneOf parseByte parseName judgeName readSum
 file-well-formed = good-well-formed file refl
+
+-- so it is a file by its bytes, and its version text is not there
+pub file-is : IsFile file
+file-is = well-formed-file file file-well-formed
+
+pub file-text : ReadsText file
+file-text = version-text file file-well-formed
+
+-- and that of the file with "A" in field 2 is
+pub text-well-formed : WellFormed (file ++ 2 ∷ 2 ∷ 1 ∷ 65 ∷ [])
+unfolding conclusion walk iterate step act frame version zeros field order sized readGroups many counted allStrings ended concluded poolKept judged chars textSized zoneKept newId textKept among equal parseZone afterId afterFlag parseFixed afterFixedOffset zoneOf parseByte parseName judgeName readSum
+text-well-formed = good-well-formed (file ++ 2 ∷ 2 ∷ 1 ∷ 65 ∷ []) refl
+
+pub text-there : GivesText (file ++ 2 ∷ 2 ∷ 1 ∷ 65 ∷ []) (record { place = 17; id = 2; start = 19; past = 21; body = 1 ∷ 65 ∷ [] })
+unfolding listing scan frame version zeros field sized order readGroups
+text-there =
+    version-text (file ++ 2 ∷ 2 ∷ 1 ∷ 65 ∷ []) text-well-formed .has
+    (record { place = 4; id = 0; start = 6; past = 11; body = 1 ∷ 3 ∷ 85 ∷ 84 ∷ 67 ∷ [] } ∷ record { place = 11; id = 1; start = 13; past = 17; body = 0 ∷ 1 ∷ 48 ∷ 0 ∷ [] } ∷ [])
+    (record { place = 17; id = 2; start = 19; past = 21; body = 1 ∷ 65 ∷ [] }) [] refl refl

@@ -2,16 +2,15 @@
 use mathlib.Core.Path.{_≡_, refl, sym, _∙_, ap}
 use mathlib.Core.Bool.{Bool, true, false}
 use mathlib.Core.List.{List, [], _∷_, _++_}
-use Prim.Native.Nat.{ℕ, zero, suc, _+_, _≤_}
-use native.Mathlib.Nat.{zero-add}
+use Prim.Native.Nat.{ℕ, _+_, _≤_}
 use native.Mathlib.Omega.{arith}
 use lib.ListN.{length, take, drop}
-use lib.Seq.{drop-drop, take-take}
 use lib.Dec.{eqb}
 use borrow.Author.Tests.{eqb-true}
 use Rattle.base.specs.Pick.{pick}
 use Rattle.base.specs.Parsed.{Parsed, got, bad as faulty}
 use Rattle.base.specs.Run.{next}
+use Rattle.base.proofs.Parts.{part-of-part}
 use Rattle.texts.specs.Text.{readText, partOf, textBytes}
 use Rattle.texts.specs.declared.Text.{Text}
 use Rattle.texts.specs.declared.Text.the-variants.{Part, Refused as Untext}
@@ -26,17 +25,21 @@ use Rattle.base.proofs.AllLaws.{all-head, all-right}
 use Rattle.frames.proofs.ChainLaws.{listing-chain, chain-fields}
 use Rattle.frames.proofs.PartLaws.{walk-ended}
 use Rattle.field_checks.specs.Check.{TextPlace, nowhere, placed, Memory, start, withPool, withId, withText, poolIn, poolKept, newId, zoneIn}
-use Rattle.field_checks.specs.Check.{zoneKept, textIn, textKept, contentOf, job, concluded, concludes, conclusion, textGiven, versionOf}
+use Rattle.field_checks.specs.Check.{Kind, poolField, zoneField, textField, otherField, kindOf, contentBy}
+use Rattle.field_checks.specs.Check.{zoneKept, textIn, textKept, judged, job, concluded, concludes, conclusion, textGiven, versionOf}
+use Rattle.field_checks.specs.Version.{TextIn}
 use Rattle.field_checks.specs.declared.Conclusion.the-variants.{Refused as Ill, Bare, WithText}
 use Rattle.field_checks.specs.declared.VersionText.the-variants.{Part as TextPart}
+use Rattle.field_checks.proofs.KindLaws.{KindId, kind-id}
+use Rattle.base.proofs.Tests.{clash}
 
 -- the text in the data of g starts at the place a and has n bytes
-record InField (g : Field) (a n : ℕ) : Type 0 where
-  is-text : g .id ≡ 2
-  behind : ℕ
-  read : readText (g .body) ≡ Part behind n
-  place : a ≡ g .start + behind
-  whole : behind + n ≡ length (g .body)
+pub record InField (g : Field) (a n : ℕ) : Type 0 where
+  pub is-text : g .id ≡ 2
+  pub behind : ℕ
+  pub read : readText (g .body) ≡ Part behind n
+  pub place : a ≡ g .start + behind
+  pub whole : behind + n ≡ length (g .body)
 
 -- it was there before, or g holds it
 data Comes (m : Memory) (g : Field) (a n : ℕ) : Type 0 where
@@ -51,7 +54,7 @@ same-text : (m : Memory) (g : Field) (k : Memory) → k .text ≡ m .text → Fr
 same-text m g k e m′ a n q t = let z : k ≡ m′ = cc in before (sym e ∙ ap (λ (y : Memory). y .text) z ∙ t)
 
 no-text : (m : Memory) (g : Field) (k : ℕ) → From m g (bad k)
-no-text m g k m′ a n q t = let z : _≡_ {A = ℕ} 0 1 = cc in absurd (omega arith)
+no-text m g k m′ a n q t = clash cc
 
 pool-text : (m : Memory) (g : Field) → From m g (poolKept m (g .body))
 unfolding poolKept
@@ -95,29 +98,28 @@ text-text m g i = go (readText (g .body)) refl
     go (Part b k) h = two b k h (eqb (b + k) (length (g .body))) refl
 
 field-text : (m : Memory) (g : Field) → From m g (job .content m g)
-unfolding contentOf
-field-text m g = go (eqb (g .id) 0) (eqb (g .id) 1) (eqb (g .id) 2) refl
+unfolding judged
+field-text m g = go (kindOf (g .id)) (kind-id (g .id))
   where
-    go : (p q r : Bool) → eqb (g .id) 2 ≡ r
-        → From m g (pick p (poolKept m (g .body)) (pick q (zoneKept m (g .body)) (pick r (textKept m (g .start) (g .body)) (keep m))))
-    go true q r e = pool-text m g
-    go false true r e = zone-text m g
-    go false false true e = text-text m g (eqb-true (g .id) 2 e)
-    go false false false e = same-text m g m refl
+    go : (k : Kind) → KindId (g .id) k → From m g (contentBy k m (g .start) (g .body))
+    go poolField i = pool-text m g
+    go zoneField i = zone-text m g
+    go textField i = text-text m g i
+    go otherField i = same-text m g m refl
 
 -- one of the fields gs holds the text
-record Among (gs : List Field) (a n : ℕ) : Type 0 where
-  prior : List Field
-  at : Field
-  after : List Field
-  split : gs ≡ prior ++ at ∷ after
-  holds : InField at a n
+pub record Among (gs : List Field) (a n : ℕ) : Type 0 where
+  pub prior : List Field
+  pub at : Field
+  pub after : List Field
+  pub split : gs ≡ prior ++ at ∷ after
+  pub holds : InField at a n
 
-data Came (m : Memory) (gs : List Field) (a n : ℕ) : Type 0 where
+pub data Came (m : Memory) (gs : List Field) (a n : ℕ) : Type 0 where
   earlier : m .text ≡ placed a n → Came m gs a n
   among : Among gs a n → Came m gs a n
 
-pass-text : (gs : List Field) (m m′ : Memory) (a n : ℕ) → pass (job .content) m gs ≡ next m′ → m′ .text ≡ placed a n → Came m gs a n
+pub pass-text : (gs : List Field) (m m′ : Memory) (a n : ℕ) → pass (job .content) m gs ≡ next m′ → m′ .text ≡ placed a n → Came m gs a n
 unfolding pass
 pass-text [] m m′ a n h t = let z : m ≡ m′ = cc in earlier (ap (λ (y : Memory). y .text) z ∙ t)
 pass-text (g ∷ gs) m m′ a n h t = go (job .content m g) refl h (λ m″ k. pass-text gs m″ m′ a n k t)
@@ -133,45 +135,35 @@ pass-text (g ∷ gs) m m′ a n h t = go (job .content m g) refl h (λ m″ k. p
 
     go : (x : Content Memory ⊥) → job .content m g ≡ x → onward (verdict g x) (λ y. pass (job .content) y gs) ≡ next m′
         → ((m″ : Memory) → pass (job .content) m″ gs ≡ next m′ → Came m″ gs a n) → Came m (g ∷ gs) a n
-    go (bad k) e h rec = let z : _≡_ {A = ℕ} 0 1 = cc in absurd (omega arith)
+    go (bad k) e h rec = clash cc
     go (answer v) e h rec = absurd v
     go (keep m″) e h rec = on m″ e (rec m″ h)
 
--- the n bytes of f from the place a on are the text of its field 2
-pub record TextIn (f : List ℕ) (a n : ℕ) : Type 0 where
-  pub prior : List Field
-  pub field : Field
-  pub after : List Field
-  pub split : fields f ≡ prior ++ field ∷ after
-  pub is-text : field .id ≡ 2
-  pub bytes : take n (drop a f) ≡ textBytes (field .body)
-  pub within : a + n ≤ length f
-
-part-of-part : (b n : ℕ) (l : List ℕ) → take n (drop b (take (b + n) l)) ≡ take n (drop b l)
-part-of-part zero n l = rw (zero-add n) (take-take n n l (omega arith))
-part-of-part (suc b) n [] = let z : suc b + n ≡ suc (b + n) = omega arith in rw z refl
-part-of-part (suc b) n (x ∷ l) = let z : suc b + n ≡ suc (b + n) = omega arith in rw z (part-of-part b n l)
+-- the text in the data of a field of f is a part of f
+pub text-bytes : (f : List ℕ) (g : Field) (a n : ℕ) → FieldOf f g → InField g a n → (take n (drop a f) ≡ textBytes (g .body)) × (a + n ≤ length f)
+text-bytes f g a n o i =
+    let b : g .body ≡ take (i .behind + n) (drop (g .start) f) = rw (i .whole) (o .bytes) in
+    let t : textBytes (g .body) ≡ take n (drop (i .behind) (g .body)) = ap (partOf (g .body)) (i .read) in (
+      ap (λ (p : ℕ). take n (drop p f)) (i .place)
+          ∙ sym (part-of-part f (g .start) (i .behind + n) (i .behind) n (omega arith))
+          ∙ ap (λ (d : List ℕ). take n (drop (i .behind) d)) (sym b)
+          ∙ sym t,
+      omega (arith, i .place, i .whole, o .ends, o .within),
+    )
 
 text-in : (f : List ℕ) (a n : ℕ) → Among (fields f) a n → TextIn f a n
 text-in f a n w =
-    let i = w .holds in
     let o : FieldOf f (w .at)
     = all-head (all-right (w .prior) (w .at ∷ w .after) (rw (w .split) at (chain-fields f false 0 4 (fields f) (listing-chain f 255)))) in
-    let b : w .at .body ≡ take (i .behind + n) (drop (w .at .start) f) = rw (i .whole) (o .bytes) in
-    let t : textBytes (w .at .body) ≡ take n (drop (i .behind) (w .at .body)) = ap (partOf (w .at .body)) (i .read) in
+    let t = text-bytes f (w .at) a n o (w .holds) in
     record {
       prior = w .prior;
       field = w .at;
       after = w .after;
       split = w .split;
-      is-text = i .is-text;
-      bytes =
-          ap (λ (p : ℕ). take n (drop p f)) (i .place)
-          ∙ ap (take n) (sym (drop-drop (i .behind) (w .at .start) f))
-          ∙ sym (part-of-part (i .behind) n (drop (w .at .start) f))
-          ∙ ap (λ (d : List ℕ). take n (drop (i .behind) d)) (sym b)
-          ∙ sym t;
-      within = omega (arith, i .place, i .whole, o .ends, o .within);
+      is-text = w .holds .is-text;
+      bytes = t .0;
+      within = t .1;
     }
 
 -- a text that is given was remembered
@@ -180,12 +172,12 @@ unfolding concluded
 given nowhere p a n = go (eqb p 4)
   where
     go : (t : Bool) → textGiven (pick t (Ill 6 p) (Bare p)) ≡ TextPart a n → nowhere ≡ placed a n
-    go true e = let z : _≡_ {A = ℕ} 0 1 = cc in absurd (omega arith)
-    go false e = let z : _≡_ {A = ℕ} 0 1 = cc in absurd (omega arith)
+    go true e = clash cc
+    go false e = clash cc
 given (placed b k) p a n = go (eqb p 4)
   where
     go : (t : Bool) → textGiven (pick t (Ill 6 p) (WithText b k)) ≡ TextPart a n → placed b k ≡ placed a n
-    go true e = let z : _≡_ {A = ℕ} 0 1 = cc in absurd (omega arith)
+    go true e = clash cc
     go false e = let z : b ≡ a = cc in let y : k ≡ n = cc in cc
 
 -- THE VERSION TEXT is that of field 2, as a part of the bytes
@@ -194,12 +186,12 @@ unfolding conclusion
 text-of-field f a n = go (walk job start f) refl
   where
     come : Came start (fields f) a n → TextIn f a n
-    come (earlier e) = let z : _≡_ {A = ℕ} 0 1 = cc in absurd (omega arith)
+    come (earlier e) = clash cc
     come (among w) = text-in f a n w
 
     go : (o : Out Memory ⊥) → walk job start f ≡ o → textGiven (concludes o) ≡ TextPart a n → TextIn f a n
     go (found v p) e h = absurd v
-    go (refused k p) e h = let z : _≡_ {A = ℕ} 0 1 = cc in absurd (omega arith)
-    go (cut p) e h = let z : _≡_ {A = ℕ} 0 1 = cc in absurd (omega arith)
+    go (refused k p) e h = clash cc
+    go (cut p) e h = clash cc
     go (ended m p) e h =
         come (pass-text (fields f) start m a n (walk-ended job start m f p e .kept) (given (m .text) p a n h))

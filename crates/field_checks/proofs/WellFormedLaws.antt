@@ -21,15 +21,16 @@ use Rattle.field_checks.specs.Check.{TextPlace, nowhere, placed, Memory,
 use Rattle.field_checks.specs.Check.{verdictOf, checkOf, WellFormed}
 use Rattle.field_checks.specs.declared.Verdict.the-variants.{Good, Refused}
 use Rattle.field_checks.proofs.StepLaws.{none-seen}
+use Rattle.base.proofs.Tests.{clash}
 
 version-no-end : (r : List ℕ) → version r ≡ End → ⊥
 unfolding version
 version-no-end r = go (leb 4 (length r)) (zeros (take 4 r))
   where
     go : (p q : Bool) → pick p (pick q Version (Unframed 3)) Cut ≡ End → ⊥
-    go true true e = let z : _≡_ {A = ℕ} 0 1 = cc in omega arith
-    go true false e = let z : _≡_ {A = ℕ} 0 1 = cc in omega arith
-    go false q e = let z : _≡_ {A = ℕ} 0 1 = cc in omega arith
+    go true true e = clash cc
+    go true false e = clash cc
+    go false q e = clash cc
 
 -- bytes that end with the version: no field begins behind it
 behind-version : (k : ℕ) (r : List ℕ) (p : ℕ) → 0 < k → scan k 255 4 false 0 r .ending ≡ endAt p
@@ -41,10 +42,10 @@ behind-version (suc k) r p l e n = go (frame 255 4 false 0 r) refl e n
     go : (x : Frame) → frame 255 4 false 0 r ≡ x → listed 4 r x (scan k 255) .ending ≡ endAt p
         → listed 4 r x (scan k 255) .fields ≡ [] → p ≡ 4
     go End q e n = cc
-    go Cut q e n = let z : _≡_ {A = ℕ} 0 1 = cc in absurd (omega arith)
-    go (Unframed m) q e n = let z : _≡_ {A = ℕ} 0 1 = cc in absurd (omega arith)
+    go Cut q e n = clash cc
+    go (Unframed m) q e n = clash cc
     go Version q e n = absurd (omega (arith, version-place 255 4 false 0 r q))
-    go (Whole i h m) q e n = let z : _≡_ {A = ℕ} 0 1 = cc in absurd (omega arith)
+    go (Whole i h m) q e n = clash cc
 
 no-field : (f : List ℕ) (p : ℕ) → listing 255 f .ending ≡ endAt p → fields f ≡ [] → p ≡ 4
 unfolding listing scan frame
@@ -53,13 +54,13 @@ no-field f p e n = go (version f) refl e n
     go : (x : Frame) → version f ≡ x → listed 0 f x (scan (length f) 255) .ending ≡ endAt p
         → listed 0 f x (scan (length f) 255) .fields ≡ [] → p ≡ 4
     go End q e n = absurd (version-no-end f q)
-    go Cut q e n = let z : _≡_ {A = ℕ} 0 1 = cc in absurd (omega arith)
-    go (Unframed m) q e n = let z : _≡_ {A = ℕ} 0 1 = cc in absurd (omega arith)
+    go Cut q e n = clash cc
+    go (Unframed m) q e n = clash cc
     go Version q e n = behind-version (length f) (drop 4 f) p (omega (arith, version-room 255 0 false 0 f (sym q) .1)) e n
-    go (Whole i h m) q e n = let z : _≡_ {A = ℕ} 0 1 = cc in absurd (omega arith)
+    go (Whole i h m) q e n = clash cc
 
 -- a field ends past the version
-some-field : (f : List ℕ) (gs : List Field) → Chain f false 0 4 gs → (gs ≡ [] → ⊥) → 4 < length f
+pub some-field : (f : List ℕ) (gs : List Field) → Chain f false 0 4 gs → (gs ≡ [] → ⊥) → 4 < length f
 some-field f [] c n = absurd (n refl)
 some-field f (g ∷ gs) c n = omega (arith, c .0, c .1 .starts, c .1 .ends, c .1 .within)
 
@@ -82,8 +83,8 @@ good-well-formed f = go (walk job start f) refl
   where
     go : (o : Out Memory ⊥) → walk job start f ≡ o → verdictOf (concludes o) ≡ Good → WellFormed f
     go (found v p) e h = absurd v
-    go (refused n p) e h = let z : _≡_ {A = ℕ} 0 1 = cc in absurd (omega arith)
-    go (cut p) e h = let z : _≡_ {A = ℕ} 0 1 = cc in absurd (omega arith)
+    go (refused n p) e h = clash cc
+    go (cut p) e h = clash cc
     go (ended m p) e h =
         let t = walk-ended job start m f p e in
         record {
@@ -93,4 +94,4 @@ good-well-formed f = go (walk job start f) refl
         }
       where
         bad-end : Refused 6 p ≡ Good → ⊥
-        bad-end q = let z : _≡_ {A = ℕ} 0 1 = cc in omega arith
+        bad-end q = clash cc

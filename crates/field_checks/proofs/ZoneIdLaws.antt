@@ -1,5 +1,5 @@
 -- "a well-formed file has at most one" zone with given ID bytes. Assumes nothing.
-use mathlib.Core.Path.{_≡_, refl, sym, _∙_, ap}
+use mathlib.Core.Path.{_≡_, refl, sym, _∙_, ap, subst}
 use mathlib.Core.Bool.{Bool, true, false}
 use mathlib.Core.List.{List, [], _∷_, _++_}
 use Prim.Native.Nat.{ℕ, _+_, _<_}
@@ -10,7 +10,7 @@ use borrow.Author.Tests.{eq-eqb, ne-eqb}
 use Rattle.base.specs.Pick.{pick}
 use Rattle.base.specs.Parsed.{Parsed, got, bad as faulty}
 use Rattle.base.specs.Run.{next}
-use Rattle.base.proofs.Tests.{never}
+use Rattle.base.proofs.Tests.{never, clash}
 use Rattle.texts.specs.Text.{readText}
 use Rattle.texts.specs.declared.Text.{Text}
 use Rattle.texts.specs.declared.Text.the-variants.{Part, Refused as Untext}
@@ -19,17 +19,21 @@ use Rattle.base.specs.Equal.{equal}
 use Rattle.base.proofs.EqualLaws.{equal-refl}
 use Rattle.zones.specs.Content.{Zone}
 use Rattle.zones.specs.Parse.{parseZone}
+use Rattle.zones.proofs.SoundLaws.{zone-sound}
 use Rattle.ids.specs.Ids.{among}
 use Rattle.frames.specs.Frame.{Field}
 use Rattle.frames.specs.Machine.{Content, bad, answer, keep, verdict, onward}
 use Rattle.frames.specs.Fields.{fields, pass}
-use Rattle.base.specs.All.{All}
+use Rattle.base.specs.All.{All, all-none, all-also}
 use Rattle.base.proofs.AllLaws.{all-head, all-tail, all-left, all-right}
 use Rattle.frames.proofs.ChainLaws.{Chain, listing-chain, chain-first}
 use Rattle.frames.proofs.PassLaws.{pass-first, pass-head}
 use Rattle.frames.proofs.PartLaws.{walk-ended}
 use Rattle.field_checks.specs.Check.{placed, Memory, start, withPool, withId, withText, poolIn, poolKept, newId, zoneIn}
-use Rattle.field_checks.specs.Check.{zoneKept, textIn, textKept, contentOf, job, WellFormed, filePool, HasId}
+use Rattle.field_checks.specs.Check.{Kind, poolField, zoneField, textField, otherField, kindOf, contentBy}
+use Rattle.field_checks.specs.Check.{zoneKept, textIn, textKept, judged, job, WellFormed, filePool, HasId}
+use Rattle.field_checks.proofs.KindLaws.{KindId, kind-id}
+use Rattle.field_checks.specs.File.{ZoneData, AsZone}
 
 -- m′ has the pool of m, and its IDs at least
 pub record Grown (m m′ : Memory) : Type 0 where
@@ -54,7 +58,7 @@ abbrev pub KeepGrows : Memory → Content Memory ⊥ → Type 0
 KeepGrows m x = (m′ : Memory) → x ≡ keep m′ → Grown m m′
 
 bad-keeps : (m : Memory) (n : ℕ) → KeepGrows m (bad n)
-bad-keeps m n m′ e = let z : _≡_ {A = ℕ} 0 1 = cc in absurd (omega arith)
+bad-keeps m n m′ e = clash cc
 
 new-grows : (m : Memory) (x : List ℕ) → KeepGrows m (newId m x)
 unfolding newId
@@ -90,13 +94,14 @@ text-grows m a d = go (readText d)
 
 -- a field behind the first
 pub field-grows : (m : Memory) (g : Field) → 0 < g .id → KeepGrows m (job .content m g)
-unfolding contentOf
-field-grows m g l m′ e = go (eqb (g .id) 1) (eqb (g .id) 2) m′ (rw (ne-eqb (g .id) 0 (λ z. omega arith)) at e)
+unfolding judged
+field-grows m g l = go (kindOf (g .id)) (kind-id (g .id))
   where
-    go : (p q : Bool) → KeepGrows m (pick p (zoneKept m (g .body)) (pick q (textKept m (g .start) (g .body)) (keep m)))
-    go true q m′ e = zone-grows m (g .body) m′ e
-    go false true m′ e = text-grows m (g .start) (g .body) m′ e
-    go false false m′ e = let z : m ≡ m′ = cc in rw (← z) (grown-same m)
+    go : (k : Kind) → KindId (g .id) k → KeepGrows m (contentBy k m (g .start) (g .body))
+    go poolField i m′ e = absurd (omega arith)
+    go zoneField i m′ e = zone-grows m (g .body) m′ e
+    go textField i m′ e = text-grows m (g .start) (g .body) m′ e
+    go otherField i m′ e = let z : m ≡ m′ = cc in rw (← z) (grown-same m)
 
 pass-grows : (gs : List Field) (m m′ : Memory) → All (λ g. 0 < g .id) gs → pass (job .content) m gs ≡ next m′ → Grown m m′
 unfolding pass
@@ -105,22 +110,22 @@ pass-grows (g ∷ gs) m m′ a h = go (job .content m g) refl h (λ m″. pass-g
   where
     go : (x : Content Memory ⊥) → job .content m g ≡ x → onward (verdict g x) (λ y. pass (job .content) y gs) ≡ next m′
         → ((m″ : Memory) → pass (job .content) m″ gs ≡ next m′ → Grown m″ m′) → Grown m m′
-    go (bad n) e k rec = let z : _≡_ {A = ℕ} 0 1 = cc in absurd (omega arith)
+    go (bad n) e k rec = clash cc
     go (answer v) e k rec = absurd v
     go (keep m″) e k rec = grown-on m m″ m′ (field-grows m g (all-head a) m″ e) (rec m″ k)
 
 -- the first field is the pool
 pub first-pool : (g : Field) (m : Memory) → g .id ≡ 0 → job .content start g ≡ keep m → m .pool ≡ stringsOf (g .body)
-unfolding contentOf poolKept
+unfolding judged poolKept
 first-pool g m z e = go (parsePool (g .body)) (rw (eq-eqb (g .id) 0 z) at e)
   where
     go : (p : Pool) → poolIn start p ≡ keep m → m .pool ≡ stringsIn p
-    go (faulty n) h = let w : _≡_ {A = ℕ} 0 1 = cc in absurd (omega arith)
+    go (faulty n) h = clash cc
     go (got ts r) h = let w : withPool start ts ≡ m = cc in rw (← w) refl
 
 -- a zone is kept where its ID is new, and its ID with it
 zone-content : (m : Memory) (g : Field) (x : List ℕ) → HasId (m .pool) x g → job .content m g ≡ newId m x
-unfolding contentOf zoneKept
+unfolding judged zoneKept
 zone-content m g x h =
     rw (ne-eqb (g .id) 0 (λ z. omega (arith, h .is-zone)), eq-eqb (g .id) 1 (h .is-zone), h .parsed) (ap (newId m) (h .bytes))
 
@@ -131,7 +136,7 @@ zone-new m m′ g x h e = go (among x (m .ids)) refl (sym (zone-content m g x h)
   where
     go : (t : Bool) → among x (m .ids) ≡ t → pick {A = Content Memory ⊥} t (bad 13) (keep (withId m x)) ≡ keep m′
         → (among x (m .ids) ≡ false) × (among x (m′ .ids) ≡ true)
-    go true q k = let z : _≡_ {A = ℕ} 0 1 = cc in absurd (omega arith)
+    go true q k = clash cc
     go false q k =
         let z : withId m x ≡ m′ = cc in
         (q, rw (← z) (rw (equal-refl x)))
@@ -174,32 +179,40 @@ one-zone f w gs g hs h is x s p q =
         let t : filePool (fields f) ≡ m .0 .pool = ap filePool s ∙ sym (first-pool k (m .0) (z .0) (m .1)) in
         twice (m .0) (w .memory) ks g hs h is x (z .1) (rw (m .1) at e′) (rw t at p) (rw t at q)
 
--- EVERY FIELD 1 OF A WELL-FORMED FILE IS A ZONE with an ID of the file's pool, wherever it stands
-kept-zone : (m m′ : Memory) (g : Field) → g .id ≡ 1 → job .content m g ≡ keep m′ → (x : List ℕ) × HasId (m .pool) x g
-unfolding contentOf zoneKept
-kept-zone m m′ g i e =
-    go (parseZone (length (m .pool)) (g .body)) refl (rw (ne-eqb (g .id) 0 (λ z. omega arith), eq-eqb (g .id) 1 i) at e)
+-- EVERY FIELD 1 OF A WELL-FORMED FILE IS A ZONE of the file's pool, wherever it stands
+zone-read : (m m′ : Memory) (g : Field) → job .content m g ≡ keep m′ → AsZone (m .pool) g
+unfolding judged zoneKept
+zone-read m m′ g e i = go (parseZone (length (m .pool)) (g .body)) refl (rw (ne-eqb (g .id) 0 (λ z. omega arith), eq-eqb (g .id) 1 i) at e)
   where
-    go : (p : Parsed Zone) → parseZone (length (m .pool)) (g .body) ≡ p → zoneIn m p ≡ keep m′ → (x : List ℕ) × HasId (m .pool) x g
-    go (faulty n) k h = let w : _≡_ {A = ℕ} 0 1 = cc in absurd (omega arith)
-    go (got z r) k h = (getD (m .pool) (z .id) [], record { zone = z; rest = r; is-zone = i; parsed = k; bytes = refl })
+    go : (p : Parsed Zone) → parseZone (length (m .pool)) (g .body) ≡ p → zoneIn m p ≡ keep m′ → ZoneData (m .pool) (g .body)
+    go (faulty n) h k = clash cc
+    go (got z r) h k = record { zone = z; parsed = h ∙ ap (got z) (zone-sound (length (m .pool)) (g .body) z r h .1) }
+
+pass-read : (ts : List (List ℕ)) (gs : List Field) (m m′ : Memory) → m .pool ≡ ts → All (λ g. 0 < g .id) gs
+    → pass (job .content) m gs ≡ next m′ → All (AsZone ts) gs
+unfolding pass
+pass-read ts [] m m′ q a h = all-none
+pass-read ts (g ∷ gs) m m′ q a h =
+    let s = pass-head (job .content) m m′ g gs h in
+    let w = field-grows m g (all-head a) (s .0) (s .1) in
+    all-also (rw q at (zone-read m (s .0) g (s .1))) (pass-read ts gs (s .0) m′ (w .pool ∙ q) (all-tail a) (rw (s .1) at h))
+
+pub zones-read : (f : List ℕ) → WellFormed f → All (AsZone (filePool (fields f))) (fields f)
+unfolding filePool pass
+zones-read f w = go (fields f) (walk-ended job start (w .memory) f (length f) (w .ends) .kept) (listing-chain f 255)
+  where
+    go : (gs : List Field) → pass (job .content) start gs ≡ next (w .memory) → Chain f false 0 4 gs → All (AsZone (filePool gs)) gs
+    go [] e c = all-none
+    go (g ∷ gs) e c =
+        let z = chain-first f 4 g gs c in
+        let s = pass-head (job .content) start (w .memory) g gs e in
+        all-also (λ (i : g .id ≡ 1). absurd (omega (arith, z .0)))
+        (pass-read (stringsOf (g .body)) gs (s .0) (w .memory) (first-pool g (s .0) (z .0) (s .1)) (z .1) (rw (s .1) at e))
 
 pub each-zone : (f : List ℕ) → WellFormed f → (gs : List Field) (g : Field) (hs : List Field) → fields f ≡ gs ++ g ∷ hs → g .id ≡ 1
     → (x : List ℕ) × HasId (filePool (fields f)) x g
-unfolding filePool pass
-each-zone f w gs g hs s i = go gs s (walk-ended job start (w .memory) f (length f) (w .ends) .kept) (listing-chain f 255)
-  where
-    go : (gs : List Field) → fields f ≡ gs ++ g ∷ hs → pass (job .content) start (fields f) ≡ next (w .memory) → Chain f false 0 4 (fields f)
-        → (x : List ℕ) × HasId (filePool (fields f)) x g
-    go [] s e c =
-        let z = chain-first f 4 g hs (rw s at c) in
-        absurd (omega (arith, z .0))
-    go (k ∷ ks) s e c =
-        let z = chain-first f 4 k (ks ++ g ∷ hs) (rw s at c) in
-        let e′ : pass (job .content) start (k ∷ (ks ++ g ∷ hs)) ≡ next (w .memory) = rw s at e in
-        let m = pass-head (job .content) start (w .memory) k (ks ++ g ∷ hs) e′ in
-        let r = pass-first (job .content) (m .0) (w .memory) ks (g ∷ hs) (rw (m .1) at e′) in
-        let n = pass-head (job .content) (r .0) (w .memory) g hs (r .2) in
-        let o = pass-grows ks (m .0) (r .0) (all-left ks (g ∷ hs) (z .1)) (r .1) in
-        let t : filePool (fields f) ≡ r .0 .pool = ap filePool s ∙ sym (o .pool ∙ first-pool k (m .0) (z .0) (m .1)) in
-        rw t (kept-zone (r .0) (n .0) g i (n .1))
+each-zone f w gs g hs s i =
+    let ts = filePool (fields f) in
+    let a : All (AsZone ts) (gs ++ g ∷ hs) = subst (All (AsZone ts)) s (zones-read f w) in
+    let z : ZoneData ts (g .body) = all-head (all-right gs (g ∷ hs) a) i in
+    (getD ts (z .zone .id) [], record { zone = z .zone; rest = []; is-zone = i; parsed = z .parsed; bytes = refl })

@@ -1,5 +1,5 @@
 -- The whole-file check and the version text. "Built: checking a whole file; .. reading the tzdb version text". "The check and the
--- rewriter take the bytes as all there are." Assumes nothing: these are definitions.
+-- rewriter take the bytes as all there are." To be believed.
 use Prim.Native.Nat.{ℕ, _+_}
 use mathlib.Core.Path.{_≡_}
 use mathlib.Core.List.{List, [], _∷_}
@@ -77,14 +77,31 @@ textIn m a size (Part b n) = pick (eqb (b + n) size) (keep (withText m (placed (
 unfoldable pub textKept : Memory → ℕ → List ℕ → Content Memory ⊥
 textKept m a d = textIn m a (length d) (readText d)
 
--- a field by its ID; "Fields 3 and up are stepped over by their size"
-unfoldable pub contentOf : Memory → ℕ → ℕ → List ℕ → Content Memory ⊥
-contentOf m i a d =
-    pick (eqb i 0) (poolKept m d) (pick (eqb i 1) (zoneKept m d) (pick (eqb i 2) (textKept m a d) (keep m)))
+-- the kinds of field that the check tells apart
+pub data Kind : Type 0 where
+  poolField : Kind
+  zoneField : Kind
+  textField : Kind
+  otherField : Kind
+
+-- field 0, a field 1, "field 2 (tzdb version)", and any other
+abbrev pub kindOf : ℕ → Kind
+kindOf i = pick (eqb i 0) poolField (pick (eqb i 1) zoneField (pick (eqb i 2) textField otherField))
+
+-- a field by its kind, where its data d start at the place a; "Fields 3 and up are stepped over by their size"
+abbrev pub contentBy : Kind → Memory → ℕ → List ℕ → Content Memory ⊥
+contentBy poolField m a d = poolKept m d
+contentBy zoneField m a d = zoneKept m d
+contentBy textField m a d = textKept m a d
+contentBy otherField m a d = keep m
+
+-- a field by its ID
+unfoldable pub judged : Memory → ℕ → ℕ → List ℕ → Content Memory ⊥
+judged m i a d = contentBy (kindOf i) m a d
 
 -- the check goes to every ID, and answers from no field
 abbrev pub job : Job Memory ⊥
-job = record { last = 255; content = λ m g. contentOf m (g .id) (g .start) (g .body) }
+job = record { last = 255; content = λ m g. judged m (g .id) (g .start) (g .body) }
 
 -- the bytes end with the version, which takes 4 of them, or with a field: 6 where "a whole-file check finds no field"
 unfoldable pub concluded : TextPlace → ℕ → Conclusion

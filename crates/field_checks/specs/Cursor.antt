@@ -1,4 +1,4 @@
--- How a cursor and the lent arrays stand for the check's memory, and what each step says of it. Assumes nothing: these are definitions.
+-- How a cursor and the lent arrays stand for the check's memory, and what each step says of it. The code's way: internal functions alone use it; what the check gives is said by Check.antt.
 use Prim.Native.Nat.{ℕ, _-_, _≤_, _<_}
 use mathlib.Core.Path.{_≡_}
 use mathlib.Core.Bool.{Bool}
@@ -10,7 +10,7 @@ use Rattle.pool.specs.Pool.{stringsOf}
 use Rattle.pool.specs.Index.{Ready}
 use Rattle.ids.specs.Memory.{Keeps}
 use Rattle.frames.specs.Machine.{Content, bad, answer, keep, State, stateAt, from}
-use Rattle.field_checks.specs.Check.{TextPlace, nowhere, placed, Memory, poolKept, zoneKept, textKept, contentOf, job, concludes}
+use Rattle.field_checks.specs.Check.{TextPlace, nowhere, placed, Memory, poolKept, zoneKept, textKept, judged, job, concludes}
 use Rattle.field_checks.specs.declared.Kept.{Kept}
 use Rattle.field_checks.specs.declared.Cursor.{Cursor}
 use Rattle.field_checks.specs.declared.Taken.{Taken}
@@ -68,7 +68,7 @@ pub record TookText (s : List ℕ) (k : Kept) (a e : ℕ) (r : Taken) : Type 0 w
   pub means : (ix fl mk : List ℕ) (y : Memory) → Indexed s k ix → Stands s k fl mk y → Says s ix fl mk (textKept y a (part s a e)) r
 
 pub record TookField (s : List ℕ) (k : Kept) (i a e : ℕ) (ix fl mk ix′ fl′ mk′ : List ℕ) (r : Taken) : Type 0 where
-  pub means : (y : Memory) → Stands s k fl mk y → (i ≡ 0 → Fresh fl mk y) → Says s ix′ fl′ mk′ (contentOf y i a (part s a e)) r
+  pub means : (y : Memory) → Stands s k fl mk y → (i ≡ 0 → Fresh fl mk y) → Says s ix′ fl′ mk′ (judged y i a (part s a e)) r
 
 -- a field came before the place: it is past the version's end
 abbrev pub seenAt : ℕ → Bool
@@ -79,7 +79,7 @@ abbrev pub stateOf : List ℕ → Cursor → Memory → State Memory
 stateOf s c y = stateAt (c .at) (drop (c .at) s) (seenAt (c .at)) (c .prev) y
 
 -- the cursor c and the arrays stand for the memory y
-pub record Holds (s : List ℕ) (c : Cursor) (ix fl mk : List ℕ) (y : Memory) : Type 0 where
+pub record Represents (s : List ℕ) (c : Cursor) (ix fl mk : List ℕ) (y : Memory) : Type 0 where
   pub inside : c .at ≤ length s
   pub indexed : Indexed s (c .kept) ix
   pub stands : Stands s (c .kept) fl mk y
@@ -89,7 +89,7 @@ pub record Holds (s : List ℕ) (c : Cursor) (ix fl mk : List ℕ) (y : Memory) 
 -- a cursor farther on, from which the walk goes as from c
 pub record Onward (s : List ℕ) (c : Cursor) (y : Memory) (d : Cursor) (ix fl mk : List ℕ) : Type 0 where
   pub memory : Memory
-  pub holds : Holds s d ix fl mk memory
+  pub holds : Represents s d ix fl mk memory
   pub farther : c .at < d .at
   pub same : from job (stateOf s c y) ≡ from job (stateOf s d memory)
 
@@ -98,4 +98,4 @@ Goes s c y ix fl mk (Done x) = x ≡ concludes (from job (stateOf s c y))
 Goes s c y ix fl mk (Next d) = Onward s c y d ix fl mk
 
 pub record Stepped (s : List ℕ) (c : Cursor) (ix fl mk ix′ fl′ mk′ : List ℕ) (t : Turn) : Type 0 where
-  pub means : (y : Memory) → Holds s c ix fl mk y → Goes s c y ix′ fl′ mk′ t
+  pub means : (y : Memory) → Represents s c ix fl mk y → Goes s c y ix′ fl′ mk′ t

@@ -1,11 +1,13 @@
 // What the whole-file check takes of each field, and what it comes to at the end.
 use pool::Checked;
+use strings::Holder;
 use texts::Text;
-use zones::Verdict as ZoneVerdict;
+use zones::ZoneVerdict;
 ghost use mathlib.Core.Path.{_≡_};
 ghost use Prim.Native.Nat.{_≤_};
 ghost use lib.ListN.{length};
 ghost use Rattle.field_checks.specs.Check.{concluded};
+ghost use Rattle.field_checks.specs.VersionPart.{versionPart};
 ghost use Rattle.field_checks.specs.Cursor.{textOf, Indexed, TookPool, TookZone, TookText, TookField};
 
 // What is remembered of the fields seen, beside the arrays: where the pool's data starts and ends and how many strings it holds; where the
@@ -168,4 +170,14 @@ pub fn conclude(at: usize, k: Kept) -> Conclusion
         return Conclusion::WithText(k.text, k.len);
     }
     Conclusion::Bare(at)
+}
+
+// The version text, as a part of the file's bytes, which have field 2 in them; the empty part where it is refused.
+pub fn text_part<'a>(s: &'a [u8], t: VersionText) -> &'a [u8]
+    ensures { λ r. ⌜ now r ≡ versionPart (now (s .entry)) t ⌝ }
+{
+    match t {
+        VersionText::Part(a, n) => strings::text_of(s, s, Holder::InField(a, n)),
+        VersionText::Refused(_, _) => &s[0..0],
+    }
 }

@@ -4,10 +4,9 @@ use mathlib.Core.Bool.{Bool, true, false}
 use mathlib.Core.List.{List, _∷_}
 use mathlib.Core.Option.{Option, none, some}
 use Prim.Native.Nat.{ℕ, zero, suc, _+_}
-use native.Mathlib.Omega.{arith}
 use lib.ListN.{length, drop}
 use borrow.Author.Tests.{lt-ltb, le-ltb}
-use Rattle.base.proofs.Tests.{by-order}
+use Rattle.base.proofs.Tests.{by-order, clash}
 use Rattle.frames.specs.Frame.{frame, Field}
 use Rattle.frames.specs.Machine.{fieldAt}
 use Rattle.frames.specs.Fields.{Ending, refusedAt, endAt, Listing, listed, scan, listing, upTo, firstAbove}
@@ -29,7 +28,7 @@ module _ (last more p : ℕ) where
   scan-capped : (k at : ℕ) (seen : Bool) (prev : ℕ) (r : List ℕ) → scan k more at seen prev r .ending ≡ endAt p
       → Capped last (scan k more at seen prev r) (scan k last at seen prev r)
   unfolding scan upTo firstAbove
-  scan-capped zero at seen prev r h = let z : _≡_ {A = ℕ} 0 1 = cc in absurd (omega arith)
+  scan-capped zero at seen prev r h = clash cc
   scan-capped (suc k) at seen prev r h = go (frame more at seen prev r) refl h (scan-capped k)
     where
       go : (f : Frame) → frame more at seen prev r ≡ f → listed at r f (scan k more) .ending ≡ endAt p
@@ -37,8 +36,8 @@ module _ (last more p : ℕ) where
           → Capped last (scan k more a s q t) (scan k last a s q t))
           → Capped last (listed at r f (scan k more)) (listed at r (frame last at seen prev r) (scan k last))
       go End e h rec = rw (frame-bare last more at seen prev r (ap bare e) ∙ e) (record { fewer = refl; ends = refl })
-      go Cut e h rec = let z : _≡_ {A = ℕ} 0 1 = cc in absurd (omega arith)
-      go (Refused n) e h rec = let z : _≡_ {A = ℕ} 0 1 = cc in absurd (omega arith)
+      go Cut e h rec = clash cc
+      go (Refused n) e h rec = clash cc
       go Version e h rec = rw (frame-bare last more at seen prev r (ap bare e) ∙ e) (rec (at + 4) false 0 (drop 4 r) h)
       go (Whole i n d) e h rec =
           let w = whole-headed more at seen prev r i n d e in

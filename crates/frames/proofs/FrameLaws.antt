@@ -13,12 +13,11 @@ use borrow.Author.Tests.{leb-true, leb-false, le-leb, eqb-true, eqb-false}
 use Rattle.base.specs.Pick.{pick}
 use Rattle.base.specs.declared.Read.{Read}
 use Rattle.base.specs.declared.Read.the-variants.{Value, Refused as Unread}
-use Rattle.base.proofs.Tests.{never, pick-holds}
-use Rattle.counts.specs.Count.{readCount}
-use Rattle.counts.proofs.CountLaws.{count-same, count-past}
-use Rattle.frames.specs.Frame.{largest, order, zeros, version, sized, field, frame}
+use Rattle.base.proofs.Tests.{never, pick-holds, clash}
+use Rattle.frames.specs.Frame.{largest, order, zeros, version, readSize, sized, field, frame}
 use Rattle.frames.specs.declared.Frame.{Frame}
 use Rattle.frames.specs.declared.Frame.the-variants.{End, Cut, Refused, Version, Whole}
+use Rattle.frames.proofs.SizeLaws.{size-same, size-past}
 
 -- the bytes end before the frame does
 abbrev pub waiting : Frame → Bool
@@ -97,20 +96,20 @@ module _ (e : List ℕ) where
     abbrev SizeAdds : Frame → Frame → Type 0
     SizeAdds x y = Adds (suc (length r)) (suc (length r) + length e) x y
 
-    sized-adds : (x : Read) → readCount r ≡ x → SizeAdds (sized at i r x) (sized at i (r ++ e) (readCount (r ++ e)))
+    sized-adds : (x : Read) → readSize r ≡ x → SizeAdds (sized at i r x) (sized at i (r ++ e) (readSize (r ++ e)))
     unfolding sized
     sized-adds (Unread n) h = go (eqb n 9) refl
       where
-        go : (t : Bool) → eqb n 9 ≡ t → SizeAdds (pick t Cut (Refused 7)) (sized at i (r ++ e) (readCount (r ++ e)))
+        go : (t : Bool) → eqb n 9 ≡ t → SizeAdds (pick t Cut (Refused 7)) (sized at i (r ++ e) (readSize (r ++ e)))
         go true k =
-            let short : Unread 9 ≡ readCount r = rw h (rw (eqb-true n 9 k)) in
+            let short : Unread 9 ≡ readSize r = rw h (rw (eqb-true n 9 k)) in
             let all : suc (length (r ++ e)) ≡ suc (length r) + length e = simp length-append (omega arith) in
-            adds-cut _ _ _ (rw all at (sized-long at i (suc (length r)) (r ++ e) _ (λ v u j. count-past e r short (sym j))))
+            adds-cut _ _ _ (rw all at (sized-long at i (suc (length r)) (r ++ e) _ (λ v u j. size-past e r short (sym j))))
         go false k =
-            let s : readCount (r ++ e) ≡ Unread n = count-same e r (λ z. eqb-false n 9 k (cc)) ∙ h in
+            let s : readSize (r ++ e) ≡ Unread n = size-same e r (λ z. eqb-false n 9 k (cc)) ∙ h in
             rw (s, k) (adds-refused _ _ 7 (omega arith))
     sized-adds (Value v u) h =
-        let s : readCount (r ++ e) ≡ Value v u = count-same e r (λ z. let n : _≡_ {A = ℕ} 0 1 = cc in omega arith) ∙ h in
+        let s : readSize (r ++ e) ≡ Value v u = size-same e r (λ z. clash cc) ∙ h in
         rw s (adds-pick (ltb largest (at + (1 + u + v))) (adds-refused _ _ 4 (omega arith)) (go (leb (u + v) (length r)) refl))
       where
         go : (t : Bool) → leb (u + v) (length r) ≡ t
@@ -135,7 +134,7 @@ module _ (e : List ℕ) where
         pick-holds (Long _ _) (eqb (order seen prev i) 0)
         (λ k. pick-holds (Long _ _) (ltb last i)
         (λ j. record { by = (omega arith, λ z. refl) })
-        (λ j. sized-long at i 0 r (readCount r) (λ v u z. omega arith)))
+        (λ j. sized-long at i 0 r (readSize r) (λ v u z. omega arith)))
         (λ k. record { by = (omega arith, λ z. refl) })
 
     field-adds : (r : List ℕ) → Adds (length r) (length r + length e) (field last at seen prev r) (field last at seen prev (r ++ e))
@@ -144,7 +143,7 @@ module _ (e : List ℕ) where
         record { in-bytes = record { by = refl }; same = λ h. never refl h; later = λ h. rw (zero-add (length e)) (field-long e) }
     field-adds (i ∷ r) =
         adds-pick (eqb (order seen prev i) 0)
-        (adds-pick (ltb last i) (adds-refused _ _ 12 (omega arith)) (sized-adds at i r (readCount r) refl))
+        (adds-pick (ltb last i) (adds-refused _ _ 12 (omega arith)) (sized-adds at i r (readSize r) refl))
         (adds-refused _ _ _ (omega arith))
 
     pub frame-adds : (r : List ℕ) → Adds (length r) (length r + length e) (frame last at seen prev r) (frame last at seen prev (r ++ e))

@@ -8,7 +8,7 @@ use native.Mathlib.Omega.{arith}
 use lib.ListN.{length, take, drop, take-append-drop}
 use lib.Seq.{length-take-le}
 use Rattle.base.specs.Run.{Step, stop, next, follow}
-use Rattle.base.proofs.Tests.{never}
+use Rattle.base.proofs.Tests.{never, clash}
 use Rattle.frames.specs.Frame.{Field}
 use Rattle.frames.specs.Machine.{Out, found, refused, final, Content, Job, onward, walk}
 use Rattle.frames.specs.Fields.{Ending, refusedAt, cutAt, endAt, Listing, listing, pass, outcome, over}
@@ -38,9 +38,9 @@ module _ {M A : Type 0} (c : M → Field → Content M A) (m : M) where
   over-found Q l v p a = go (pass c m (l .fields)) refl
     where
       no : (x : Ending) (m′ : M) → outcome x m′ ≡ found v p → Q p
-      no (refusedAt n q) m′ h = let z : _≡_ {A = ℕ} 0 1 = cc in absurd (omega arith)
-      no (cutAt q) m′ h = let z : _≡_ {A = ℕ} 0 1 = cc in absurd (omega arith)
-      no (endAt q) m′ h = let z : _≡_ {A = ℕ} 0 1 = cc in absurd (omega arith)
+      no (refusedAt n q) m′ h = clash cc
+      no (cutAt q) m′ h = clash cc
+      no (endAt q) m′ h = clash cc
 
       go : (s : Step M (Out M A)) → pass c m (l .fields) ≡ s → follow s (outcome (l .ending)) ≡ found v p → Q p
       go (stop o) e h = pass-found c Q m (l .fields) v p a (e ∙ ap stop h)
@@ -51,8 +51,8 @@ module _ {M A : Type 0} (c : M → Field → Content M A) (m : M) where
     where
       no : (x : Ending) (m′ : M) → StopsTo 0 b x → outcome {A = A} x m′ ≡ refused n p → p < b
       no (refusedAt k q) m′ t h = let z : q ≡ p = cc in omega (arith, t .1)
-      no (cutAt q) m′ t h = let z : _≡_ {A = ℕ} 0 1 = cc in absurd (omega arith)
-      no (endAt q) m′ t h = let z : _≡_ {A = ℕ} 0 1 = cc in absurd (omega arith)
+      no (cutAt q) m′ t h = clash cc
+      no (endAt q) m′ t h = clash cc
 
       go : (x : Step M (Out M A)) → pass c m (l .fields) ≡ x → follow x (outcome (l .ending)) ≡ refused n p → p < b
       go (stop o) e h = pass-refused c (λ q. q < b) m (l .fields) n p (all-map (λ g k. omega arith) (s .inside)) (e ∙ ap stop h)

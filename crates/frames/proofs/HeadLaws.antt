@@ -10,9 +10,8 @@ use borrow.Author.Tests.{leb-true, le-leb, lt-ltb, le-ltb, ltb-false, eqb-true, 
 use Rattle.base.specs.Pick.{pick}
 use Rattle.base.specs.declared.Read.{Read}
 use Rattle.base.specs.declared.Read.the-variants.{Value, Refused as Unread}
-use Rattle.base.proofs.Tests.{by-order, never, pick-holds}
-use Rattle.counts.specs.Count.{readCount}
-use Rattle.frames.specs.Frame.{largest, once, order, zeros, version, sized, field, frame}
+use Rattle.base.proofs.Tests.{by-order, never, pick-holds, clash}
+use Rattle.frames.specs.Frame.{largest, once, order, zeros, version, readSize, sized, field, frame}
 use Rattle.frames.specs.declared.Frame.{Frame}
 use Rattle.frames.specs.declared.Frame.the-variants.{End, Cut, Refused, Version, Whole}
 
@@ -25,7 +24,7 @@ pub record Headed (last at : ℕ) (seen : Bool) (prev : ℕ) (r : List ℕ) (i h
   pub reached : i ≤ last
   pub used : ℕ
   pub head : h ≡ 1 + used
-  pub size : readCount tail ≡ Value n used
+  pub size : readSize tail ≡ Value n used
   pub limit : at + (h + n) ≤ largest
   pub whole : h + n ≤ length r
 
@@ -52,9 +51,9 @@ module _ (last at : ℕ) (seen : Bool) (prev : ℕ) where
           → Headed last at seen prev r i h n
       by-place true p r e = never (ap isWhole e) (version-whole r)
       by-place false p [] e = never (ap isWhole e) refl
-      by-place false p (j ∷ r) e = by-id (eqb (order seen prev j) 0) refl (ltb last j) refl (readCount r) refl e
+      by-place false p (j ∷ r) e = by-id (eqb (order seen prev j) 0) refl (ltb last j) refl (readSize r) refl e
         where
-          by-size : (v u : ℕ) → readCount r ≡ Value v u → order seen prev j ≡ 0 → j ≤ last → (s t : Bool)
+          by-size : (v u : ℕ) → readSize r ≡ Value v u → order seen prev j ≡ 0 → j ≤ last → (s t : Bool)
               → ltb largest (at + (1 + u + v)) ≡ s → leb (u + v) (length r) ≡ t
               → pick s (Refused 4) (pick t (Whole j (1 + u) v) Cut) ≡ Whole i h n → Headed last at seen prev (j ∷ r) i h n
           by-size v u c o k true t a b e = never (ap isWhole e) refl
@@ -76,7 +75,7 @@ module _ (last at : ℕ) (seen : Bool) (prev : ℕ) where
                 whole = omega (arith, leb-true (u + v) (length r) b);
               }
 
-          by-id : (s : Bool) → eqb (order seen prev j) 0 ≡ s → (t : Bool) → ltb last j ≡ t → (x : Read) → readCount r ≡ x
+          by-id : (s : Bool) → eqb (order seen prev j) 0 ≡ s → (t : Bool) → ltb last j ≡ t → (x : Read) → readSize r ≡ x
               → pick s (pick t (Refused 12) (sized at j r x)) (Refused (order seen prev j)) ≡ Whole i h n
               → Headed last at seen prev (j ∷ r) i h n
           by-id false o t l x c e = never (ap isWhole e) refl
@@ -139,7 +138,7 @@ field-bare : (last at : ℕ) (seen : Bool) (prev j : ℕ) (r : List ℕ) → bar
 unfolding field
 field-bare last at seen prev j r =
     pick-holds (λ f. bare f ≡ false) (eqb (order seen prev j) 0)
-    (λ k. pick-holds (λ f. bare f ≡ false) (ltb last j) (λ l. refl) (λ l. sized-bare at j r (readCount r)))
+    (λ k. pick-holds (λ f. bare f ≡ false) (ltb last j) (λ l. refl) (λ l. sized-bare at j r (readSize r)))
     (λ k. refl)
 
 -- the version, and the bytes' end, are the same for every job
@@ -161,7 +160,7 @@ version-place last at seen prev r = go (eqb at 0) refl r
   where
     go : (t : Bool) → eqb at 0 ≡ t → (r : List ℕ) → pick t (version r) (field last at seen prev r) ≡ Version → at ≡ 0
     go true e r h = eqb-true at 0 e
-    go false e [] h = let z : _≡_ {A = ℕ} 0 1 = cc in absurd (omega arith)
+    go false e [] h = clash cc
     go false e (j ∷ r) h = never (ap bare h) (field-bare last at seen prev j r)
 
 -- behind a field with the ID prev IDs do not fall, and 0 does not come back

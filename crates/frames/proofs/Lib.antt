@@ -1,3 +1,4 @@
+pub mod SizeLaws
 pub mod FrameLaws
 pub mod HeadLaws
 pub mod ReadLaws
@@ -10,3 +11,10 @@ pub mod ChainLaws
 pub mod PartLaws
 pub mod StepLaws
 pub mod Example
+pub mod CoverLaws
+pub mod NearLaws
+pub mod ThereLaws
+pub mod AtLaws
+pub mod MapLaws
+pub mod StopLaws
+pub mod RisingLaws

@@ -11,7 +11,7 @@ use lib.Dec.{ltb}
 use borrow.Author.Tests.{le-ltb}
 use Rattle.base.specs.Pick.{pick}
 use Rattle.base.specs.Run.{Step, stop, next, follow}
-use Rattle.base.proofs.Tests.{never}
+use Rattle.base.proofs.Tests.{never, clash}
 use Rattle.frames.specs.Frame.{Field}
 use Rattle.frames.specs.Machine.{Out, found, refused, ended, final, answer, keep, Job, walk}
 use Rattle.frames.specs.Fields.{Ending, refusedAt, cutAt, endAt, listing, fields, pass, outcome, upTo, firstAbove}
@@ -25,7 +25,7 @@ use Rattle.frames.proofs.CapLaws.{stopAt, listing-capped}
 use Rattle.frames.proofs.ChainLaws.{Chain, chain-split, listing-chain}
 
 -- the fields up to an ID, around one that it reaches
-upTo-split : (last : ℕ) (gs : List Field) (g : Field) (hs : List Field) → All (λ h. h .id ≤ last) gs → g .id ≤ last
+pub upTo-split : (last : ℕ) (gs : List Field) (g : Field) (hs : List Field) → All (λ h. h .id ≤ last) gs → g .id ≤ last
     → upTo last (gs ++ g ∷ hs) ≡ gs ++ g ∷ upTo last hs
 unfolding upTo
 upTo-split last [] g hs a l = rw (le-ltb last (g .id) l)
@@ -49,8 +49,8 @@ module _ {M A : Type 0} (J : Job M A) where
         where
           at-end : (x : Ending) → listing (J .last) bs .ending ≡ x → StopsTo 0 (length bs) x → outcome {A = A} x m″ ≡ ended m′ p
               → Through m m′ bs p
-          at-end (refusedAt n q) i s k = let z : _≡_ {A = ℕ} 0 1 = cc in absurd (omega arith)
-          at-end (cutAt q) i s k = let z : _≡_ {A = ℕ} 0 1 = cc in absurd (omega arith)
+          at-end (refusedAt n q) i s k = clash cc
+          at-end (cutAt q) i s k = clash cc
           at-end (endAt q) i s k =
               let n : m″ ≡ m′ = cc in
               let r : q ≡ p = cc in
@@ -114,7 +114,7 @@ module _ {M A : Type 0} (J : Job M A) where
           = rw (sym (g .ends) ∙ x) at (g .later (walk-waits J m (take k f) e) .capped) in
           absurd (omega (arith, len, late refl))
 
-upTo-first : (last : ℕ) (gs : List Field) → (hs : List Field) × (gs ≡ upTo last gs ++ hs)
+pub upTo-first : (last : ℕ) (gs : List Field) → (hs : List Field) × (gs ≡ upTo last gs ++ hs)
 unfolding upTo
 upTo-first last [] = ([], refl)
 upTo-first last (g ∷ gs) = go (ltb last (g .id)) (upTo-first last gs)

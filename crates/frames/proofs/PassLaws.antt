@@ -10,22 +10,23 @@ use Rattle.frames.specs.Machine.{Out, found, refused, final, Content, ba
 use Rattle.frames.specs.Fields.{pass}
 use Rattle.base.specs.All.{All}
 use Rattle.base.proofs.AllLaws.{all-head, all-tail, all-right}
+use Rattle.base.proofs.Tests.{clash}
 
 module _ {M A : Type 0} (g : Field) where
   verdict-found : (x : Content M A) (v : A) (p : ℕ) → verdict g x ≡ stop (found v p) → p ≡ g .past
-  verdict-found (bad n) v p h = let z : _≡_ {A = ℕ} 0 1 = cc in absurd (omega arith)
+  verdict-found (bad n) v p h = clash cc
   verdict-found (answer w) v p h = cc
-  verdict-found (keep m) v p h = let z : _≡_ {A = ℕ} 0 1 = cc in absurd (omega arith)
+  verdict-found (keep m) v p h = clash cc
 
   verdict-refused : (x : Content M A) (n p : ℕ) → verdict g x ≡ stop (refused n p) → p ≡ g .place
   verdict-refused (bad k) n p h = cc
-  verdict-refused (answer v) n p h = let z : _≡_ {A = ℕ} 0 1 = cc in absurd (omega arith)
-  verdict-refused (keep m) n p h = let z : _≡_ {A = ℕ} 0 1 = cc in absurd (omega arith)
+  verdict-refused (answer v) n p h = clash cc
+  verdict-refused (keep m) n p h = clash cc
 
   verdict-final : (x : Content M A) (o : Out M A) → verdict g x ≡ stop o → final o ≡ true
   verdict-final (bad n) o h = let z : refused n (g .place) ≡ o = cc in rw (← z)
   verdict-final (answer v) o h = let z : found v (g .past) ≡ o = cc in rw (← z)
-  verdict-final (keep m) o h = let z : _≡_ {A = ℕ} 0 1 = cc in absurd (omega arith)
+  verdict-final (keep m) o h = clash cc
 
 module _ {M A : Type 0} (c : M → Field → Content M A) where
   pub pass-append : (m : M) (gs hs : List Field) → pass c m (gs ++ hs) ≡ onward (pass c m gs) (λ m′. pass c m′ hs)
@@ -55,8 +56,8 @@ module _ {M A : Type 0} (c : M → Field → Content M A) where
   pass-head m m″ g gs = go (c m g) refl
     where
       go : (x : Content M A) → c m g ≡ x → onward (verdict g x) (λ m′. pass c m′ gs) ≡ next m″ → (m′ : M) × (c m g ≡ keep m′)
-      go (bad n) e h = let z : _≡_ {A = ℕ} 0 1 = cc in absurd (omega arith)
-      go (answer v) e h = let z : _≡_ {A = ℕ} 0 1 = cc in absurd (omega arith)
+      go (bad n) e h = clash cc
+      go (answer v) e h = clash cc
       go (keep m′) e h = (m′, e)
 
   -- where a pass stops: it keeps the fields before one, and stops with what that one says
@@ -71,7 +72,7 @@ module _ {M A : Type 0} (c : M → Field → Content M A) where
 
   pub pass-stopped : (m : M) (gs : List Field) (o : Out M A) → pass c m gs ≡ stop o → Stopped m gs o
   unfolding pass
-  pass-stopped m [] o h = let z : _≡_ {A = ℕ} 0 1 = cc in absurd (omega arith)
+  pass-stopped m [] o h = clash cc
   pass-stopped m (g ∷ gs) o h = go (verdict g (c m g)) refl h (λ m′. pass-stopped m′ gs o)
     where
       go : (x : Step M (Out M A)) → verdict g (c m g) ≡ x → onward x (λ m′. pass c m′ gs) ≡ stop o
@@ -126,8 +127,8 @@ module _ {C M A B : Type 0} (R : C → M → Type 0) (P : Field → Type 0) (c :
       go : (k : Content C A) → c x g ≡ k → onward (verdict g k) (λ m. pass c m gs) ≡ next x′
           → ((x″ : C) (y′ : M) → R x″ y′ → pass c x″ gs ≡ next x′ → (y″ : M) × (pass d y′ gs ≡ next y″) × R x′ y″)
           → (y″ : M) × (onward (verdict g (d y g)) (λ m. pass d m gs) ≡ next y″) × R x′ y″
-      go (bad n) e k rec = let z : _≡_ {A = ℕ} 0 1 = cc in absurd (omega arith)
-      go (answer v) e k rec = let z : _≡_ {A = ℕ} 0 1 = cc in absurd (omega arith)
+      go (bad n) e k rec = clash cc
+      go (answer v) e k rec = clash cc
       go (keep x″) e k rec =
           let s = keeps x x″ y g (all-head a) r e in
           let t = rec x″ (s .0) (s .2) k in

@@ -10,8 +10,7 @@ use lib.Dec.{ltb, eqb}
 use borrow.Author.Tests.{lt-ltb, le-ltb, le-leb, lt-leb, eq-eqb, ne-eqb}
 use Rattle.base.specs.declared.Read.the-variants.{Value, Refused as Unread}
 use Rattle.base.proofs.Tests.{by-order, pick-holds}
-use Rattle.counts.specs.Count.{readCount}
-use Rattle.frames.specs.Frame.{largest, order, zeros, version, sized, field}
+use Rattle.frames.specs.Frame.{largest, order, zeros, version, readSize, sized, field}
 use Rattle.frames.specs.declared.Frame.the-variants.{End, Cut, Refused, Version, Whole}
 
 -- the version, by one byte that is not 0, or by all four
@@ -49,25 +48,25 @@ near at n h =
 
 -- behind the ID byte
 module _ (at i : ℕ) (r : List ℕ) where
-  pub size-cut : (n : ℕ) → Unread n ≡ readCount r → n ≡ 9 → Cut ≡ sized at i r (readCount r)
+  pub size-cut : (n : ℕ) → Unread n ≡ readSize r → n ≡ 9 → Cut ≡ sized at i r (readSize r)
   unfolding sized
   size-cut n e h = rw (← e, eq-eqb n 9 h)
 
-  pub size-refused : (n : ℕ) → Unread n ≡ readCount r → (n ≡ 9 → ⊥) → Refused 7 ≡ sized at i r (readCount r)
+  pub size-refused : (n : ℕ) → Unread n ≡ readSize r → (n ≡ 9 → ⊥) → Refused 7 ≡ sized at i r (readSize r)
   unfolding sized
   size-refused n e h = rw (← e, ne-eqb n 9 h)
 
-  module _ (v u : ℕ) (e : Value v u ≡ readCount r) where
-    pub size-large : (t : Bool) → t ≡ ltb largest (at + (1 + u + v)) → t ≡ true → Refused 4 ≡ sized at i r (readCount r)
+  module _ (v u : ℕ) (e : Value v u ≡ readSize r) where
+    pub size-large : (t : Bool) → t ≡ ltb largest (at + (1 + u + v)) → t ≡ true → Refused 4 ≡ sized at i r (readSize r)
     unfolding sized
     size-large t h k = rw (← e, ← h, k)
 
     module _ (t : Bool) (h : t ≡ ltb largest (at + (1 + u + v))) (k : t ≡ false) where
-      pub size-whole : u + v ≤ length r → Whole i (1 + u) v ≡ sized at i r (readCount r)
+      pub size-whole : u + v ≤ length r → Whole i (1 + u) v ≡ sized at i r (readSize r)
       unfolding sized
       size-whole l = rw (← e, ← h, k, le-leb _ _ l)
 
-      pub size-part : length r < u + v → Cut ≡ sized at i r (readCount r)
+      pub size-part : length r < u + v → Cut ≡ sized at i r (readSize r)
       unfolding sized
       size-part l = rw (← e, ← h, k, lt-leb _ _ l)
 
@@ -91,7 +90,7 @@ module _ (last at : ℕ) (seen : Bool) (prev : ℕ) where
   field-above (i ∷ r) n h e k l = rw (← e, eq-eqb n 0 k, lt-ltb _ _ l)
 
   pub field-sized : (r : List ℕ) (n : ℕ) → 0 < length r → n ≡ order seen prev (getD r 0 0) → n ≡ 0 → getD r 0 0 ≤ last
-      → sized at (getD r 0 0) (drop 1 r) (readCount (drop 1 r)) ≡ field last at seen prev r
+      → sized at (getD r 0 0) (drop 1 r) (readSize (drop 1 r)) ≡ field last at seen prev r
   unfolding field
   field-sized [] n h e k l = absurd (omega arith)
   field-sized (i ∷ r) n h e k l = rw (← e, eq-eqb n 0 k, le-ltb _ _ l)

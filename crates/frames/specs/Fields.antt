@@ -1,4 +1,4 @@
--- The fields of a file as a list, apart from any job, and a job as a fold over it. Assumes nothing: these are definitions.
+-- The fields of a file as a list, apart from any job, and a job as a fold over it. To be believed; `walk-fields` (proofs/PartLaws.antt) ties the walk to it.
 use Prim.Native.Nat.{ℕ, zero, suc, _+_, _≤_}
 use mathlib.Core.Path.{_≡_}
 use mathlib.Core.Bool.{Bool, true, false}
@@ -9,8 +9,7 @@ use lib.Dec.{ltb}
 use Rattle.base.specs.Pick.{pick}
 use Rattle.base.specs.Run.{Step, next, follow}
 use Rattle.base.specs.declared.Read.the-variants.{Value}
-use Rattle.counts.specs.Count.{readCount}
-use Rattle.frames.specs.Frame.{largest, frame, Field}
+use Rattle.frames.specs.Frame.{largest, readSize, frame, Field}
 use Rattle.frames.specs.Machine.{Out, refused, cut, ended, Content, fieldAt, verdict, onward}
 use Rattle.frames.specs.declared.Frame.{Frame}
 use Rattle.frames.specs.declared.Frame.the-variants.{End, Cut, Refused, Version, Whole}
@@ -56,11 +55,21 @@ listing last bs = scan (suc (length bs)) last 0 false 0 bs
 abbrev pub fields : List ℕ → List Field
 fields bs = listing 255 bs .fields
 
+abbrev pub placeOf : Ending → ℕ
+placeOf (refusedAt n p) = p
+placeOf (cutAt p) = p
+placeOf (endAt p) = p
+
+-- "the place of the first unfinished field (0 in the version, or after 3; the held length if all are whole; where 4 to 7 at an ID or size
+-- stops the walk, that ID byte ..)"
+abbrev pub unfinished : List ℕ → ℕ
+unfinished bs = placeOf (listing 255 bs .ending)
+
 -- "ID byte, size as a count, data": g is a field of the file f
 pub record FieldOf (f : List ℕ) (g : Field) : Type 0 where
   pub id-byte : getD f (g .place) 0 ≡ g .id
   pub used : ℕ
-  pub size : readCount (drop (g .place + 1) f) ≡ Value (length (g .body)) used
+  pub size : readSize (drop (g .place + 1) f) ≡ Value (length (g .body)) used
   pub starts : g .start ≡ g .place + 1 + used
   pub bytes : g .body ≡ take (length (g .body)) (drop (g .start) f)
   pub ends : g .past ≡ g .start + length (g .body)

@@ -1,4 +1,4 @@
--- What stands at a place of a file, the version or a field, judged in the order of 01. Assumes nothing: these are definitions.
+-- What stands at a place of a file, the version or a field, judged in the order of 01. To be believed.
 use Prim.Native.Nat.{ℕ, _+_}
 use mathlib.Core.Bool.{Bool, true, false}
 use mathlib.Core.List.{List, [], _∷_}
@@ -33,6 +33,10 @@ zeros (b ∷ r) = pick (eqb b 0) (zeros r) false
 unfoldable pub version : List ℕ → Frame
 version r = pick (leb 4 (length r)) (pick (zeros (take 4 r)) Version (Refused 3)) Cut
 
+-- "Field: ID byte, size as a count, data": the size that stands at the front of some bytes, and how many bytes its code takes
+abbrev pub readSize : List ℕ → Read
+readSize r = readCount r
+
 -- "Then the size code (7), 4, then 1 or 2 if the field isn't whole": the field with the ID i at the place at, by what reading its size
 -- from r gives, the bytes behind the ID. A size that the bytes' end cuts, 9 for the code on its own, is a field that isn't whole.
 unfoldable pub sized : ℕ → ℕ → List ℕ → Read → Frame
@@ -43,7 +47,7 @@ sized at i r (Value v u) = pick (ltb largest (at + (1 + u + v))) (Refused 4) (pi
 unfoldable pub field : ℕ → ℕ → Bool → ℕ → List ℕ → Frame
 field last at seen prev [] = End
 field last at seen prev (i ∷ r) =
-    pick (eqb (order seen prev i) 0) (pick (ltb last i) (Refused 12) (sized at i r (readCount r))) (Refused (order seen prev i))
+    pick (eqb (order seen prev i) 0) (pick (ltb last i) (Refused 12) (sized at i r (readSize r))) (Refused (order seen prev i))
 
 -- r is what stands from the place at on: the version at 0, and a field everywhere else
 unfoldable pub frame : ℕ → ℕ → Bool → ℕ → List ℕ → Frame

@@ -1,3 +1,5 @@
 pub mod Frame
 pub mod Machine
 pub mod Fields
+pub mod Covers
+pub mod Mapped

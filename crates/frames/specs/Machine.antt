@@ -1,5 +1,5 @@
 -- The walk over the frames of a file, for any job: the whole-file check, the question, the version text, the rewriter.
--- Assumes nothing: these are definitions.
+-- To be believed; `walk-fields` (proofs/PartLaws.antt) says it of the list of fields.
 use Prim.Native.Nat.{ℕ, _+_}
 use mathlib.Core.Bool.{Bool, true, false}
 use mathlib.Core.List.{List}

@@ -1,12 +1,10 @@
 // The frames of a file: its version, and each field's ID, size and extent.
 use base::Read;
-use counts::read_count;
 ghost use mathlib.Core.Path.{_≡_};
 ghost use Prim.Native.Nat.{_+_};
 ghost use lib.Dec.{ltb};
-ghost use Rattle.counts.specs.Count.{readCount};
 ghost use Rattle.frames.specs.Frame.{largest, once as onceOf, order as orderOf, version as versionOf};
-ghost use Rattle.frames.specs.Frame.{sized as sizedOf, field as fieldOf, frame};
+ghost use Rattle.frames.specs.Frame.{readSize, sized as sizedOf, field as fieldOf, frame};
 
 // The largest place just past a field.
 const LARGEST: usize = 4194304;
@@ -90,11 +88,18 @@ fn beyond(at: usize, n: usize) -> bool
     LARGEST - at < n
 }
 
+// The size at the front of `r`.
+fn read_size(r: &[u8]) -> Read
+    ensures { λ x. ⌜ x ≡ readSize (now (r .entry)) ⌝ }
+{
+    counts::read_count(r)
+}
+
 // The field with the ID `i` at the place `at`, where `r` is what follows its ID byte.
 fn sized(r: &[u8], at: usize, i: u8) -> Frame
-    ensures { λ f. ⌜ f ≡ sizedOf at i (now (r .entry)) (readCount (now (r .entry))) ⌝ }
+    ensures { λ f. ⌜ f ≡ sizedOf at i (now (r .entry)) (readSize (now (r .entry))) ⌝ }
 {
-    match read_count(r) {
+    match read_size(r) {
         Read::Refused(n) => {
             if n == 9 {
                 return Frame::Cut;

@@ -1,4 +1,4 @@
--- How links by pool number and the last number for each hash stand for the IDs seen. Assumes nothing: these are definitions.
+-- How links by pool number and the last number for each hash stand for the IDs seen. The code's way: internal functions alone use it; what it stands for is the list of Ids.antt.
 use Prim.Native.Nat.{ℕ, zero, suc, _+_, _*_, _-_, _/_, _%_, _<_}
 use mathlib.Core.Path.{_≡_}
 use mathlib.Core.List.{List, [], _∷_}

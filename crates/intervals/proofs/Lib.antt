@@ -1,3 +1,4 @@
 pub mod ScanLaws
 pub mod SoundLaws
 pub mod ShortLaws
+pub mod InOrderLaws

@@ -1,11 +1,12 @@
 -- What intervals that were read say is in its ranges. Assumes nothing.
-use mathlib.Core.Path.{_≡_, refl, subst}
+use mathlib.Core.Path.{_≡_, refl, ap, subst}
 use mathlib.Core.Bool.{true}
 use mathlib.Core.List.{List, [], _∷_}
 use mathlib.Core.Logic.{inl, inr}
 use Prim.Native.Nat.{ℕ, zero, suc, _<_}
 use native.Mathlib.Omega.{arith}
 use lib.Dec.{ltb}
+use lib.ListN.{length}
 use borrow.Author.Tests.{ltb-true, eqb-true, eq-eqb, ne-eqb}
 use Rattle.base.specs.Pick.{both}
 use Rattle.base.specs.Parsed.{got, bind, parse, prepend, many}
@@ -19,7 +20,7 @@ use Rattle.places.specs.Name.{parseName}
 use Rattle.places.proofs.ValueLaws.{moment-is, name-ok, sum-high}
 use Rattle.intervals.specs.declared.Interval.{Interval}
 use Rattle.intervals.specs.Interval.{intervalOf, afterWall, afterName, parseDetails, rises, afterStart, parseInterval, startOf}
-use Rattle.intervals.specs.Sound.{Ranged, Later, ListOk}
+use Rattle.intervals.specs.Sound.{Ranged, Rising, ListOk}
 
 pub record IntervalOk (pool prev : ℕ) (i : Interval) : Type 0 where
   pub start-ok : rises prev (i .start) ≡ true
@@ -39,7 +40,7 @@ details-sound pool m s i q e =
       record { name-ok = name-ok pool _ _ _ (a .is); wall-high = sum-high _ _ _ (b .is); savings-high = sum-high _ _ _ (c .is) },
     )
 
-interval-sound : (pool prev : ℕ) (s : List ℕ) (i : Interval) (q : List ℕ) → parseInterval pool prev s ≡ got i q → IntervalOk pool prev i
+pub interval-sound : (pool prev : ℕ) (s : List ℕ) (i : Interval) (q : List ℕ) → parseInterval pool prev s ≡ got i q → IntervalOk pool prev i
 unfolding parseInterval afterStart
 interval-sound pool prev s i q e =
     let a = bind-good (parse (readMoment prev) s) (afterStart pool prev) i q e in
@@ -68,9 +69,9 @@ first-start : (prev m : ℕ) → prev ≡ endOfTime → rises prev m ≡ true �
 first-start prev m h e = eqb-true m startOfTime (rw (eq-eqb prev endOfTime h) at e)
 
 later-sound : (pool n prev : ℕ) (s : List ℕ) (is : List Interval) (q : List ℕ) → prev < endOfTime
-    → many (parseInterval pool) startOf n prev s ≡ got is q → Later pool prev is
+    → many (parseInterval pool) startOf n prev s ≡ got is q → Rising pool prev is
 unfolding many
-later-sound pool zero prev s is q h e = let x : [] ≡ is = cc in subst (Later pool prev) x tt
+later-sound pool zero prev s is q h e = let x : [] ≡ is = cc in subst (Rising pool prev) x tt
 later-sound pool (suc n) prev s is q h e =
     let a = bind-good (parseInterval pool prev s) (λ i r. bind (many (parseInterval pool) startOf n (startOf i) r) (prepend i)) is q e in
     let i : Interval = a .first in
@@ -79,7 +80,7 @@ later-sound pool (suc n) prev s is q h e =
     let p = later-start prev (i .start) h (o .start-ok) (o .moment) in
     let f : got (i ∷ b .first) (b .rest) ≡ got is q = b .on in
     let g : i ∷ b .first ≡ is = cc in
-    subst (Later pool prev) g (
+    subst (Rising pool prev) g (
       record { rises = p .0; finite = p .1; ranged = o .ranged },
       later-sound pool n (i .start) (a .rest) (b .first) (b .rest) (omega (arith, p .1 .high)) (b .is),
     )
@@ -98,3 +99,15 @@ list-sound pool (suc n) s is q h e =
     let f : got (i ∷ b .first) (b .rest) ≡ got is q = b .on in
     let g : i ∷ b .first ≡ is = cc in
     subst (ListOk pool) g (p, o .ranged, later-sound pool n (i .start) (a .rest) (b .first) (b .rest) (omega arith) (b .is))
+
+-- as many as were asked for
+pub list-length : (pool n prev : ℕ) (s : List ℕ) (is : List Interval) (q : List ℕ) → many (parseInterval pool) startOf n prev s ≡ got is q → length is ≡ n
+unfolding many
+list-length pool zero prev s is q e = let x : [] ≡ is = cc in subst (λ (js : List Interval). length js ≡ 0) x refl
+list-length pool (suc n) prev s is q e =
+    let a = bind-good (parseInterval pool prev s) (λ i r. bind (many (parseInterval pool) startOf n (startOf i) r) (prepend i)) is q e in
+    let i : Interval = a .first in
+    let b = bind-good (many (parseInterval pool) startOf n (startOf i) (a .rest)) (prepend i) is q (a .on) in
+    let f : got (i ∷ b .first) (b .rest) ≡ got is q = b .on in
+    let g : i ∷ b .first ≡ is = cc in
+    subst (λ (js : List Interval). length js ≡ suc n) g (ap suc (list-length pool n (i .start) (a .rest) (b .first) (b .rest) (b .is)))

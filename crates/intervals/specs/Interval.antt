@@ -1,5 +1,6 @@
--- The listed intervals of a zone, read left to right. Each thing that is read is a stage of its own, last stage first; "a value's
--- code (7) comes before its use (4, 8 to 11), and each use is judged at once". Assumes nothing: these are definitions.
+-- The listed intervals of a zone, read left to right, for the proofs: each thing that is read is a stage of its own, last stage first. In the
+-- paper's order an interval stands in InOrder.antt. `rises` is to be believed; the stages are the code's way, tied to that by
+-- `interval-stages` (proofs/InOrderLaws.antt).
 use Prim.Native.Nat.{ℕ}
 use mathlib.Core.Bool.{Bool}
 use mathlib.Core.List.{List}

@@ -2,3 +2,4 @@ pub mod Interval
 pub mod Sound
 pub mod Scan
 pub mod Short
+pub mod InOrder

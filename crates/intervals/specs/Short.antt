@@ -1,10 +1,10 @@
--- An interval whose name, wall offset and savings take a byte each, as is usual. Assumes nothing: these are definitions.
+-- An interval whose name, wall offset and savings take a byte each, as is usual: the short way to it. The code's way, tied to `parseInterval` by `start-means` (proofs/ShortLaws.antt).
 use Prim.Native.Nat.{ℕ, _+_, _*_}
-use mathlib.Core.Path.{_≡_}
 use mathlib.Core.List.{List}
-use lib.ListN.{drop, getD}
-use Rattle.places.specs.Placed.{at, Stands}
-use Rattle.intervals.specs.Interval.{parseInterval}
+use lib.Dec.{ltb}
+use lib.ListN.{getD}
+use Rattle.base.specs.Pick.{pick}
+use Rattle.places.specs.Short.{shortAt}
 use Rattle.intervals.specs.declared.Interval.{Interval}
 
 -- they stand at a place behind the start m, the offsets in half hours
@@ -16,6 +16,6 @@ shortInterval s place m = record {
   savings = getD s (place + 2) 0 * 1800000;
 }
 
--- m, where it is not 0, is the start of such an interval, in n bytes
-pub record ShortStart (s : List ℕ) (pool place n prev m : ℕ) : Type 0 where
-  pub means : (m ≡ 0 → ⊥) → Stands s (parseInterval pool prev (drop place s)) (at (shortInterval s (place + n) m) (place + (n + 3)))
+-- the start of such an interval, in n bytes, where its name is a number of the pool; else 0
+unfoldable pub shortStart : List ℕ → ℕ → ℕ → ℕ → ℕ → ℕ
+shortStart s pool place n prev = pick (ltb (getD s (place + n) 0) pool) (shortAt s place n prev) 0

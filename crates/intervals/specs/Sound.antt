@@ -1,4 +1,4 @@
--- What holds of the listed intervals of a well-formed zone. Assumes nothing: these are definitions.
+-- What holds of the listed intervals of a well-formed zone. To be believed; `list-sound` (proofs/SoundLaws.antt) shows it of what is read.
 use Prim.Native.Nat.{ℕ, _≤_, _<_}
 use mathlib.Core.Path.{_≡_}
 use mathlib.Core.List.{List, [], _∷_}
@@ -17,11 +17,11 @@ pub record LaterOk (pool prev : ℕ) (i : Interval) : Type 0 where
   pub finite : Finite (i .start)
   pub ranged : Ranged pool i
 
-abbrev pub Later : ℕ → ℕ → List Interval → Type 0
-Later pool prev [] = Unit {0}
-Later pool prev (i ∷ is) = LaterOk pool prev i × Later pool (i .start) is
+abbrev pub Rising : ℕ → ℕ → List Interval → Type 0
+Rising pool prev [] = Unit {0}
+Rising pool prev (i ∷ is) = LaterOk pool prev i × Rising pool (i .start) is
 
 -- "The first start is start of time"; there is one interval at least
 abbrev pub ListOk : ℕ → List Interval → Type 0
 ListOk pool [] = ⊥
-ListOk pool (i ∷ is) = (i .start ≡ startOfTime) × Ranged pool i × Later pool (i .start) is
+ListOk pool (i ∷ is) = (i .start ≡ startOfTime) × Ranged pool i × Rising pool (i .start) is

@@ -1,4 +1,5 @@
 // The listed intervals of a zone, read one after the other; what an instant needs of them is kept on the way.
+use base::END;
 use base::Read;
 ghost use mathlib.Core.Path.{_≡_};
 ghost use Prim.Native.Nat.{_+_, _≤_};
@@ -8,10 +9,7 @@ ghost use Rattle.base.specs.Moment.{endOfTime};
 ghost use Rattle.places.specs.Placed.{Stands};
 ghost use Rattle.intervals.specs.Interval.{rises as risesOf, parseDetails, parseInterval, startOf};
 ghost use Rattle.intervals.specs.Scan.{ofInterval, ofScan, advance as advanceOf, scanOf};
-ghost use Rattle.intervals.specs.Short.{shortInterval, ShortStart};
-
-// The mark end of time, as a moment.
-const END: u64 = 3281606784000000000;
+ghost use Rattle.intervals.specs.Short.{shortInterval, shortStart};
 
 pub struct Interval {
     pub start: u64,
@@ -92,10 +90,11 @@ fn read_any_interval(s: &[u8], at: usize, pool: u64, prev: u64) -> IntervalRead
     }
 }
 
-// The start of an interval whose start takes n bytes and whose other codes take one each, or 0 where other codes stand there.
+// The start of an interval whose start takes n bytes, two of hours or nine of ticks, and whose other codes take one each; 0 where other codes
+// stand there.
 fn short_start(s: &[u8], at: usize, n: usize, pool: u64, prev: u64) -> u64
     requires { ⌜ (at ≤ length (now s)) × (n ≤ 9) ⌝ }
-    ensures { λ r. ⌜ ShortStart (now (s .entry)) pool at n prev r ⌝ }
+    ensures { λ r. ⌜ r ≡ shortStart (now (s .entry)) pool at n prev ⌝ }
 {
     let m = places::short_at(s, at, n, prev);
     if m == 0 {
@@ -122,7 +121,7 @@ fn short_interval(s: &[u8], at: usize, m: u64) -> Interval
 
 // An interval, as read_any_interval has it. One of twelve bytes, with its start in ticks, takes no call; its first byte tells, so that no
 // other loses time on it.
-pub fn read_interval(s: &[u8], at: usize, pool: u64, prev: u64) -> IntervalRead
+fn read_interval(s: &[u8], at: usize, pool: u64, prev: u64) -> IntervalRead
     requires { ⌜ at ≤ length (now s) ⌝ }
     ensures { λ r. ⌜ Stands (now (s .entry)) (parseInterval pool prev (drop at (now (s .entry)))) (ofInterval r) ⌝ }
 {

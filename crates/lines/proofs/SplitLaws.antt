@@ -11,7 +11,7 @@ use borrow.Author.Tests.{lt-ltb, le-ltb, ltb-true}
 use borrow.Rule.Slice.PartMut.{putMid}
 use Rattle.bytes.specs.Bytes.{indexOf, indexAfter}
 use Rattle.base.specs.Pick.{pick}
-use Rattle.base.proofs.Tests.{by-order}
+use Rattle.base.proofs.Tests.{by-order, clash}
 use Rattle.base.proofs.Parts.{part-from, put-from}
 use Rattle.lines.specs.Question.{parseLine}
 use Rattle.lines.specs.Splitting.{lastLine, linesFrom, linesOf, kept, firstOf, Keeps, Gathers, blockLines, linesInBlocks}
@@ -58,14 +58,14 @@ module _ (d s e : List ℕ) (n m : ℕ) where
           let a : m ≡ length (kept (length d) (take n d) (firstOf s)) = cc in
           let b : u ≡ indexOf 10 s + 1 = cc in
           omega (arith, ltb-true (indexOf 10 s) (length s) h, kept-le d (firstOf s) n)
-      go false h q = let z : _≡_ {A = ℕ} 0 1 = cc in absurd (omega arith)
+      go false h q = clash cc
 
   pub begun-within : Gathers d n s (Begun m) e → m ≤ length d
   begun-within g = go (ltb (indexOf 10 s) (length s)) (g .0)
     where
       go : (t : Bool) → let k : ℕ = length (kept (length d) (take n d) (firstOf s)) in
           Begun m ≡ pick t (Whole k (indexOf 10 s + 1)) (Begun k) → m ≤ length d
-      go true q = let z : _≡_ {A = ℕ} 0 1 = cc in absurd (omega arith)
+      go true q = clash cc
       go false q = let a : m ≡ length (kept (length d) (take n d) (firstOf s)) = cc in omega (arith, kept-le d (firstOf s) n)
 
 -- ---- the first line of some bytes

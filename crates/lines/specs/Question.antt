@@ -1,6 +1,6 @@
 -- The question lines of the program: "ID (up to the first space), space, ticks (an optional minus and 1 to 19 digits, 14 if past 64
 -- bits), and optionally a space and `part` or `all`"; "a line above 2,048 bytes gives 16". A line stands without its line feed.
--- Assumes nothing: these are definitions.
+-- To be believed.
 use Prim.Native.Nat.{ℕ, zero, suc, _+_, _*_, _-_, _^_}
 use mathlib.Core.Bool.{Bool, true, false}
 use mathlib.Core.List.{List, [], _∷_}

@@ -1,4 +1,4 @@
--- The lines of the input, and the lines as a reader of blocks gathers them. Assumes nothing: these are definitions.
+-- The lines of the input, and the lines as a reader of blocks gathers them. `linesOf` is to be believed; the blocks are the code's way, tied to it by `lines-in-blocks` (proofs/SplitLaws.antt).
 use Prim.Native.Nat.{ℕ, zero, suc, _+_}
 use mathlib.Core.Path.{_≡_}
 use mathlib.Core.List.{List, [], _∷_, _++_}

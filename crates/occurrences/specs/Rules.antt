@@ -1,5 +1,5 @@
 -- Where a rule falls. A year and a day are counted from 1 January of year -399 (calendar's specs/Calendar.antt), an instant is a
--- count of ticks from there, and an offset is in milliseconds with 86,400,000 added. Assumes nothing: these are definitions.
+-- count of ticks from there, and an offset is in milliseconds with 86,400,000 added. To be believed.
 use mathlib.Core.Path.{_≡_}
 use mathlib.Core.Bool.{Bool}
 use Prim.Native.Nat.{ℕ, _+_, _-_, _*_, _%_, _≤_, min}

@@ -23,6 +23,7 @@ use Rattle.signed.specs.OffsetSum.{sumOf, millisecondsOf}
 use Rattle.signed.proofs.NumberLaws.{number-of}
 use Rattle.signed.proofs.IntegerLaws.{sum-milliseconds, milliseconds-sum, sum-range}
 use Rattle.offsets.specs.Offset.{inDay, offsetOf, inUnits, readSum, writeSum, readOffset}
+pub use Rattle.offsets.specs.Facts.{Fine, Level, SumRead, SumWritten, SumSize, OffsetRead}
 
 -- the widths of the forms
 three : (n : ℕ) → n ≤ 3 → 256 ^ n ≤ 16777216
@@ -69,21 +70,8 @@ offset-prefix [] h l = absurd (omega arith)
 offset-prefix (b ∷ s) h l =
     rw (le-ltb b 128 (omega arith), le-ltb b 160 (omega arith), le-ltb b 192 (omega arith), le-ltb b 224 l)
 
--- a sum in its range that no form in units of coarser carries
-pub record Fine (coarser sum : ℕ) : Type 0 where
-  pub least : 1 ≤ sum
-  pub most : sum ≤ 172799999
-  pub fine : sum % coarser ≡ 0 → ⊥
-
 pub fine-of : (n coarser sum : ℕ) → Fine coarser sum → offsetOf n coarser sum ≡ Value sum n
 fine-of n coarser sum h = rw (le-leb 1 sum (h .least), le-leb sum 172799999 (h .most), ne-eqb (sum % coarser) 0 (h .fine))
-
--- a form of n bytes behind the first one, of prefix p: what it reads, and what is written in it
-pub record Level (n p unit coarser : ℕ) : Type 0 where
-  pub most : n ≤ 3
-  pub aligned : p % 32 ≡ 0
-  pub reads : (b : ℕ) (s : List ℕ) → p ≤ b → b < p + 32 → readSum (b ∷ s) ≡ inUnits unit coarser (readFixed n (b % 32) s)
-  pub writes : (v : ℕ) → Fine coarser (v * unit) → writeSum (v * unit) ≡ (p + v / 256 ^ n) ∷ fixedBytes n v
 
 -- no multiple of a coarser unit where none of a finer one
 pub not-half-hours : (sum : ℕ) → (sum % 60000 ≡ 0 → ⊥) → sum % 1800000 ≡ 0 → ⊥
@@ -166,14 +154,6 @@ module _ (P : Read → Type 0) (refused : (k : ℕ) → P (Refused k)) where
       pick-holds P (ltb b 192) (λ w. units-holds 2 (b % 32) 1000 60000 s (g 2 160 1000 60000 seconds b s refl (ltb-false b 160 u) (ltb-true b 192 w))) (λ w.
       pick-holds P (ltb b 224) (λ x. units-holds 3 (b % 32) 1 1000 s (g 3 192 1 1000 milliseconds b s refl (ltb-false b 192 w) (ltb-true b 224 x))) (λ _. refused 7))))
 
--- a sum that s gives in n bytes
-pub record SumRead (s : List ℕ) (sum n : ℕ) : Type 0 where
-  pub least : 1 ≤ sum
-  pub most : sum ≤ 172799999
-  pub some : 1 ≤ n
-  pub size : n ≤ 4
-  pub within : n ≤ length s
-
 abbrev IsSum : List ℕ → Read → Type 0
 IsSum s (Value v n) = SumRead s v n
 IsSum s (Refused k) = Unit
@@ -192,11 +172,6 @@ is-sum s =
 
 pub sum-read : (s : List ℕ) {sum n : ℕ} → Value sum n ≡ readSum s → SumRead s sum n
 sum-read s e = subst⁻¹ (IsSum s) e (is-sum s)
-
--- s starts with the written form of the sum that it gives: so the form is unique
-pub record SumWritten (s : List ℕ) (sum n : ℕ) : Type 0 where
-  pub form : s ≡ writeSum sum ++ drop n s
-  pub size : n ≡ length (writeSum sum)
 
 abbrev IsSumWritten : List ℕ → Read → Type 0
 IsSumWritten s (Value v n) = SumWritten s v n
@@ -284,22 +259,10 @@ sum-written sum rest lo hi = half (eqb (sum % 1800000) 0) refl
         on (sum / 1800000) 1800000 d (half-back (sum / 1800000) rest (record { least = omega arith; most = omega arith; fine = rw d (not-days sum lo hi) }))
     half false e = minute (eqb (sum % 60000) 0) (eqb-false (sum % 1800000) 0 e) refl
 
--- the written form is 1 to 4 bytes
-pub record SumSize (sum : ℕ) : Type 0 where
-  pub some : 1 ≤ length (writeSum sum)
-  pub most : length (writeSum sum) ≤ 4
-
 pub sum-size : (sum : ℕ) → 1 ≤ sum → sum ≤ 172799999 → SumSize sum
 sum-size sum l h =
     let r = sum-read (writeSum sum ++ []) (sym (sum-written sum [] l h)) in
     record { some = r .some; most = r .size }
-
--- the same of the offset in milliseconds
-pub record OffsetRead (s : List ℕ) (z : ℤ) (n : ℕ) : Type 0 where
-  pub inside : 1 ≤ sumOf z
-  pub some : 1 ≤ n
-  pub size : n ≤ 4
-  pub within : n ≤ length s
 
 module _ (s : List ℕ) {z : ℤ} {n : ℕ} (e : Signed z n ≡ readOffset s) where
   sum-of : SumRead s (number-of millisecondsOf (readSum s) e .value) n

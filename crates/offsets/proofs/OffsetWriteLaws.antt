@@ -4,10 +4,10 @@ use mathlib.Core.List.{List, [], _∷_}
 use Prim.Native.Nat.{ℕ, _+_, _/_, _%_, _≤_, _<_}
 use lib.IntN.{ℤ}
 use borrow.Author.Tests.{le-leb, lt-leb, eq-eqb, ne-eqb}
-use Rattle.base.specs.Writing.{bytes}
+use Rattle.base.specs.Writing.{bytes, Writes}
 use Rattle.base.specs.declared.Wrote.{Wrote}
 use Rattle.base.specs.declared.Wrote.the-variants.{Refused}
-use Rattle.base.proofs.WriteLaws.{Writes, not-carried}
+use Rattle.base.proofs.WriteLaws.{not-carried}
 use Rattle.counts.specs.Fixed.{fixedBytes}
 use Rattle.signed.specs.OffsetSum.{sumOf}
 use Rattle.offsets.specs.Offset.{writeSum, sumForm, offsetForm}

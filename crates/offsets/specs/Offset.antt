@@ -1,4 +1,4 @@
--- The offset code. Assumes nothing: these are definitions.
+-- The offset code. To be believed.
 use Prim.Native.Nat.{ℕ, _+_, _*_, _/_, _%_}
 use mathlib.Core.List.{List, [], _∷_}
 use mathlib.Core.Bool.{Bool}

@@ -5,7 +5,7 @@ use signed::Number;
 ghost use mathlib.Core.Path.{_≡_};
 ghost use mathlib.Core.List.{[], _∷_};
 ghost use Prim.Native.Nat.{_+_, _*_, _/_, _≤_, _<_};
-ghost use Rattle.base.specs.Writing.{bytes, wrote, placed};
+ghost use Rattle.base.specs.Writing.{bytes, Writes};
 ghost use Rattle.counts.specs.Fixed.{readFixed, fixedBytes};
 ghost use Rattle.offsets.specs.Offset.{offsetOf, inUnits, readSum, sumForm, readOffset, offsetForm};
 
@@ -73,7 +73,7 @@ pub fn read_offset(s: &[u8]) -> Number
 // Half hours, in one byte.
 fn write_half_hours(v: u64, out: &mut [u8]) -> Wrote
     requires { ⌜ v < 96 ⌝ }
-    ensures { λ r. ⌜ (r ≡ wrote (bytes (v ∷ [])) (now (out .entry))) × (now (out .exit) ≡ placed (bytes (v ∷ [])) (now (out .entry))) ⌝ }
+    ensures { λ r. ⌜ Writes (bytes (v ∷ [])) (now (out .entry)) r (now (out .exit)) ⌝ }
 {
     if out.len() < 1 {
         return Wrote::Refused(15);
@@ -85,7 +85,7 @@ fn write_half_hours(v: u64, out: &mut [u8]) -> Wrote
 // 100 and 13 bits of minutes.
 fn write_minutes(v: u64, out: &mut [u8]) -> Wrote
     requires { ⌜ v < 2880 ⌝ }
-    ensures { λ r. ⌜ (r ≡ wrote (bytes ((128 + v / 256) ∷ fixedBytes 1 v)) (now (out .entry))) × (now (out .exit) ≡ placed (bytes ((128 + v / 256) ∷ fixedBytes 1 v)) (now (out .entry))) ⌝ }
+    ensures { λ r. ⌜ Writes (bytes ((128 + v / 256) ∷ fixedBytes 1 v)) (now (out .entry)) r (now (out .exit)) ⌝ }
 {
     if out.len() < 2 {
         return Wrote::Refused(15);
@@ -98,7 +98,7 @@ fn write_minutes(v: u64, out: &mut [u8]) -> Wrote
 // 101 and 21 bits of seconds.
 fn write_seconds(v: u64, out: &mut [u8]) -> Wrote
     requires { ⌜ v < 172800 ⌝ }
-    ensures { λ r. ⌜ (r ≡ wrote (bytes ((160 + v / 65536) ∷ fixedBytes 2 v)) (now (out .entry))) × (now (out .exit) ≡ placed (bytes ((160 + v / 65536) ∷ fixedBytes 2 v)) (now (out .entry))) ⌝ }
+    ensures { λ r. ⌜ Writes (bytes ((160 + v / 65536) ∷ fixedBytes 2 v)) (now (out .entry)) r (now (out .exit)) ⌝ }
 {
     if out.len() < 3 {
         return Wrote::Refused(15);
@@ -112,7 +112,7 @@ fn write_seconds(v: u64, out: &mut [u8]) -> Wrote
 // 110 and 29 bits of milliseconds.
 fn write_milliseconds(v: u64, out: &mut [u8]) -> Wrote
     requires { ⌜ v < 172800000 ⌝ }
-    ensures { λ r. ⌜ (r ≡ wrote (bytes ((192 + v / 16777216) ∷ fixedBytes 3 v)) (now (out .entry))) × (now (out .exit) ≡ placed (bytes ((192 + v / 16777216) ∷ fixedBytes 3 v)) (now (out .entry))) ⌝ }
+    ensures { λ r. ⌜ Writes (bytes ((192 + v / 16777216) ∷ fixedBytes 3 v)) (now (out .entry)) r (now (out .exit)) ⌝ }
 {
     if out.len() < 4 {
         return Wrote::Refused(15);
@@ -125,8 +125,8 @@ fn write_milliseconds(v: u64, out: &mut [u8]) -> Wrote
 }
 
 // Writes the offset of a sum to the front of `out`.
-pub fn write_sum(sum: u64, out: &mut [u8]) -> Wrote
-    ensures { λ r. ⌜ (r ≡ wrote (sumForm sum) (now (out .entry))) × (now (out .exit) ≡ placed (sumForm sum) (now (out .entry))) ⌝ }
+fn write_sum(sum: u64, out: &mut [u8]) -> Wrote
+    ensures { λ r. ⌜ Writes (sumForm sum) (now (out .entry)) r (now (out .exit)) ⌝ }
 {
     if sum < 1 {
         return Wrote::Refused(7);
@@ -148,7 +148,7 @@ pub fn write_sum(sum: u64, out: &mut [u8]) -> Wrote
 
 // Writes the offset of `ms` milliseconds to the front of `out`.
 pub fn write_offset(ms: i64, out: &mut [u8]) -> Wrote
-    ensures { λ r. ⌜ (r ≡ wrote (offsetForm ms) (now (out .entry))) × (now (out .exit) ≡ placed (offsetForm ms) (now (out .entry))) ⌝ }
+    ensures { λ r. ⌜ Writes (offsetForm ms) (now (out .entry)) r (now (out .exit)) ⌝ }
 {
     write_sum(signed::offset_sum(ms), out)
 }

@@ -8,14 +8,14 @@ use native.Mathlib.Omega.{arith}
 use lib.ListN.{length}
 use borrow.Author.Tests.{le-leb, ne-eqb}
 use Rattle.base.specs.Moment.{endOfTime}
-use Rattle.base.specs.Writing.{Form, bytes, wrote, placed}
+use Rattle.base.specs.Writing.{Form, bytes, wrote, placed, Writes}
 use Rattle.base.specs.declared.Wrote.{Wrote}
 use Rattle.base.specs.declared.Wrote.the-variants.{Length, Refused}
 use Rattle.base.proofs.MomentLaws.{Moment, finite-yes}
-use Rattle.base.proofs.WriteLaws.{Writes}
 use Rattle.counts.specs.Count.{writeCount, countForm}
 use Rattle.transitions.specs.Transition.{writeMoment, isMoment, momentForm}
 use Rattle.pieces.specs.View.{Put}
+use Rattle.base.proofs.Tests.{clash}
 
 module _ (x : Form) (xs d e : List ℕ) (r : Wrote) (i : x ≡ bytes xs) (l : length xs ≤ length d) (w : Writes x d r e) where
   given : r ≡ Length (length xs)
@@ -29,7 +29,7 @@ module _ (x : Form) (xs d e : List ℕ) (r : Wrote) (i : x ≡ bytes xs) (l : le
       record { size = cc; left = w .1 ∙ rw (i, le-leb (length xs) (length d) l) }
 
   pub form-refused : (n : ℕ) → r ≡ Refused n → ⊥
-  form-refused n k = let z : Refused n ≡ Length (length xs) = sym k ∙ given in let y : _≡_ {A = ℕ} 0 1 = cc in omega arith
+  form-refused n k = let z : Refused n ≡ Length (length xs) = sym k ∙ given in clash cc
 
 is-moment : (m : ℕ) → Moment m → isMoment m ≡ true
 is-moment m (inl e) = rw e

@@ -18,7 +18,7 @@ use Rattle.base.proofs.ParseLaws.{bad-got, got-value, got-rest, bind-good}
 use Rattle.counts.specs.Count.{readCount, writeCount}
 use Rattle.counts.proofs.CountLaws.{count-mono}
 use Rattle.places.specs.Placed.{at, no, Stands}
-use Rattle.pieces.specs.Content.{Piece, Content, upTo, contentWith, afterHead, afterId, afterFlag, afterCount, parseHead, parsePieces, parseContent, contentOf, printPieces, print}
+use Rattle.pieces.specs.Content.{Piece, Content, bytesUpTo, contentWith, afterHead, afterId, afterFlag, afterCount, parseHead, parsePieces, parseContent, contentOf, printPieces, print}
 use Rattle.pieces.specs.View.{HasContent, HasPieces, piecesAt}
 use Rattle.pieces.proofs.PieceLaws.{count-small}
 use Rattle.pieces.proofs.PutLaws.{InTwo}
@@ -43,7 +43,7 @@ module _ (d : List ℕ) (h : HasContent d) where
   head-good k s = let e : parseContent d ≡ bad k = rw (s .means) in bad-got (sym e ∙ h .is)
 
   module _ (n a : ℕ) (s : Stands d (parseHead d) (at n a)) where
-    front : upTo d (drop a d) ≡ take a d
+    front : bytesUpTo d (drop a d) ≡ take a d
     front =
         let l : a ≤ length d = s .within in
         let k : length d - length (drop a d) ≡ a = rw length-drop (omega arith) in

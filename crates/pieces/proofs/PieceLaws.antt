@@ -12,13 +12,14 @@ use Rattle.base.proofs.Parts.{Bytes}
 use Rattle.base.proofs.ByteLaws.{no-bytes, drop-bytes}
 use Rattle.base.proofs.ParseLaws.{bad-got, bind-good}
 use Rattle.places.specs.Placed.{Placed, at, no, Stands}
-use Rattle.places.specs.Short.{ShortDetails, ShortAt}
+use Rattle.places.specs.Short.{ShortDetails, shortAt}
 use Rattle.places.proofs.PlaceLaws.{code-holds, on, off, here}
+use Rattle.places.proofs.ShortLaws.{short-means}
 use Rattle.counts.specs.Count.{readCount}
 use Rattle.counts.proofs.CountLaws.{counted}
 use Rattle.transitions.specs.Transition.{readMoment}
 use Rattle.offsets.specs.Offset.{readSum}
-use Rattle.pieces.specs.Content.{upTo, parseWall, pieceEnd, afterMoment, parsePiece, afterFlag, afterCount}
+use Rattle.pieces.specs.Content.{bytesUpTo, parseWall, pieceEnd, afterMoment, parsePiece, afterFlag, afterCount}
 use Rattle.pieces.specs.View.{PieceAt, EndAt, ShortPiece}
 
 -- behind the end transition stands all the rest
@@ -65,7 +66,7 @@ pub end-no : (s : List ℕ) (n place k : ℕ) → Stands s (pieceEnd n (drop pla
 end-no s n place k h = record { within = omega arith; means = λ w q j. bad-got (sym (h .means) ∙ j) }
 
 -- the bytes between two places
-up-to-places : (s : List ℕ) (a e : ℕ) → a ≤ length s → e ≤ length s → upTo (drop a s) (drop e s) ≡ take (e - a) (drop a s)
+up-to-places : (s : List ℕ) (a e : ℕ) → a ≤ length s → e ≤ length s → bytesUpTo (drop a s) (drop e s) ≡ take (e - a) (drop a s)
 up-to-places s a e h k =
     let n : length (drop a s) - length (drop e s) ≡ e - a = rw (length-drop, length-drop) (omega arith) in
     rw n
@@ -92,12 +93,12 @@ short-end s n place h d =
     end-details s place n _ h (on (d .name) parseWall _ _ _ refl (on (d .wall) (λ w q. parse readSum q) _ _ _ refl (d .savings)))
 
 module _ (s : List ℕ) (prev place m : ℕ) where
-  pub short-some : (n : ℕ) → (n ≡ 0 → ⊥) → ShortAt s place 2 prev m → ShortPiece s n prev place m
+  pub short-some : (n : ℕ) → (n ≡ 0 → ⊥) → m ≡ shortAt s place 2 prev → ShortPiece s n prev place m
   short-some n h x =
       let five : place + 2 + 3 ≡ place + 5 = omega arith in
       record {
         means = λ z.
-            let y = x .means z in
+            let y = short-means s place 2 prev m x z in
             let d = short-end s n (place + 2) h (y .details) in
             rw five at (piece-got s n prev place m (place + 2) _ (place + 2 + 3) (y .moment) (d .means) (d .within));
       }

@@ -13,7 +13,7 @@ use Rattle.base.proofs.Parts.{Bytes}
 use Rattle.base.proofs.ParseLaws.{bad-got, bind-good}
 use Rattle.transitions.specs.Transition.{readMoment, writeMoment}
 use Rattle.transitions.proofs.MomentLaws.{moment-read, moment-size, never-longer}
-use Rattle.pieces.specs.Content.{Piece, upTo, pieceEnd, pieceOf, afterMoment, parsePiece, parsePieces, printPieces}
+use Rattle.pieces.specs.Content.{Piece, bytesUpTo, pieceEnd, pieceOf, afterMoment, parsePiece, parsePieces, printPieces}
 use Rattle.pieces.proofs.PieceLaws.{parse-rest, end-rest}
 
 -- xs are no longer than s, and at most k bytes shorter
@@ -51,13 +51,13 @@ made n prev s p r b e =
     let m : ℕ = a .first in
     let q : List ℕ = a .rest in
     let c = bind-good (pieceEnd n q) (pieceOf m q) p r (a .on) in
-    let x : Piece = record { moment = m; copied = upTo q (c .rest) } in
+    let x : Piece = record { moment = m; copied = bytesUpTo q (c .rest) } in
     let o : got x (c .rest) ≡ got p r = c .on in
     let i : x ≡ p = cc in
     let j : c .rest ≡ r = cc in
     let y = end-rest n q (c .first) (c .rest) (c .is) in
     let z = code-between prev s m q b (a .is) in
-    let u : length (upTo q (c .rest)) ≡ length q - length (c .rest) = length-take-le (length q - length (c .rest)) q (omega arith) in
+    let u : length (bytesUpTo q (c .rest)) ≡ length q - length (c .rest) = length-take-le (length q - length (c .rest)) q (omega arith) in
     subst (λ (l : List ℕ). Made n prev s p l) j
     (subst (λ (w : Piece). Made n prev s w (c .rest)) i
     (record {

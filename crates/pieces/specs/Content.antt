@@ -1,6 +1,6 @@
 -- What a field says, apart from the forms of its transitions, and the preferred data that say it. "Two files have the same content when
 -- they hold the same fields in the same order with the same data, transitions compared by the instant or mark they name."
--- Assumes nothing: these are definitions.
+-- To be believed.
 use Prim.Native.Nat.{ℕ, zero, suc, _-_}
 use mathlib.Core.List.{List, [], _∷_, _++_}
 use lib.ListN.{length, take}
@@ -26,8 +26,8 @@ abbrev pub plain : List ℕ → Content
 plain d = record { head = d; pieces = [] }
 
 -- what stands in s before its last part r
-abbrev pub upTo : List ℕ → List ℕ → List ℕ
-upTo s r = take (length s - length r) s
+abbrev pub bytesUpTo : List ℕ → List ℕ → List ℕ
+bytesUpTo s r = take (length s - length r) s
 
 -- Behind an interval's transition stand "name, wall offset, savings"; behind the end transition, with no interval left, all the rest.
 unfoldable pub parseWall : ℕ → List ℕ → Parsed ℕ
@@ -38,7 +38,7 @@ pieceEnd zero s = got 0 []
 pieceEnd (suc n) s = bind (parse readCount s) parseWall
 
 abbrev pub pieceOf : ℕ → List ℕ → ℕ → List ℕ → Parsed Piece
-pieceOf m s v r = got (record { moment = m; copied = upTo s r }) r
+pieceOf m s v r = got (record { moment = m; copied = bytesUpTo s r }) r
 
 unfoldable pub afterMoment : ℕ → ℕ → List ℕ → Parsed Piece
 afterMoment n m s = bind (pieceEnd n s) (pieceOf m s)
@@ -66,7 +66,7 @@ unfoldable pub parseHead : List ℕ → Parsed ℕ
 parseHead s = bind (parse readCount s) afterId
 
 abbrev pub contentWith : List ℕ → List ℕ → List Piece → List ℕ → Parsed Content
-contentWith d s ps r = got (record { head = upTo d s; pieces = ps }) r
+contentWith d s ps r = got (record { head = bytesUpTo d s; pieces = ps }) r
 
 unfoldable pub afterHead : List ℕ → ℕ → List ℕ → Parsed Content
 afterHead d n s = bind (parsePieces n endOfTime s) (contentWith d s)

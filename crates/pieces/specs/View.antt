@@ -1,4 +1,4 @@
--- What the readers of pieces rely on and give, and what writers leave. Assumes nothing: these are definitions.
+-- What the readers of pieces rely on and give, and what writers leave. The code's way: internal functions alone use it; what the rewriter gives is said by Content.antt.
 use Prim.Native.Nat.{ℕ, _+_, _-_, _≤_}
 use mathlib.Core.Path.{_≡_}
 use mathlib.Core.List.{List, [], _++_}

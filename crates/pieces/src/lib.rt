@@ -8,8 +8,6 @@ ghost use Rattle.places.specs.Placed.{Stands, ofRead};
 ghost use Rattle.pieces.specs.Content.{pieceEnd, afterFlag, parseHead};
 ghost use Rattle.pieces.specs.View.{EndAt, ShortPiece};
 
-const END: u64 = 3281606784000000000;
-
 // The place behind an interval's name, wall offset and savings.
 fn behind_details(s: &[u8], at: usize) -> Read
     requires { ⌜ at ≤ length (now s) ⌝ }

@@ -1,3 +1,4 @@
 pub mod PlaceLaws
 pub mod ValueLaws
 pub mod ShortLaws
+pub mod OneLaws

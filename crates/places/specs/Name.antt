@@ -1,16 +1,12 @@
--- The codes of a zone that no code of its own reads. Assumes nothing: these are definitions.
+-- The codes of a zone that no code of its own reads. To be believed.
 use Prim.Native.Nat.{ℕ}
 use mathlib.Core.List.{List}
 use lib.Dec.{ltb}
 use Rattle.base.specs.Pick.{pick}
 use Rattle.base.specs.Parsed.{Parsed, got, bad, bind, parse}
-use Rattle.base.specs.declared.Read.{Read}
-use Rattle.counts.specs.Groups.{readGroups}
 use Rattle.counts.specs.Count.{readCount}
-
 -- a signed count as the number that stands in the file: 0, -1, 1, -2 are 0, 1, 2, 3
-abbrev pub readZigzag : List ℕ → Read
-readZigzag s = readGroups 4 15 s
+pub use Rattle.counts.specs.SignedCount.{readZigzag}
 
 -- "in a zone it is a pool number"; "pool number not below the pool's count" is 8
 unfoldable pub judgeName : ℕ → ℕ → List ℕ → Parsed ℕ

@@ -1,5 +1,5 @@
 -- What a reader at a place of a field's data gives, against the definitions, which read from the front of a list.
--- Assumes nothing: these are definitions.
+-- The code's way, places in the data, tied to the definitions over lists by `Stands` itself.
 use Prim.Native.Nat.{ℕ, _≤_}
 use mathlib.Core.Path.{_≡_}
 use mathlib.Core.List.{List}

@@ -1,24 +1,18 @@
 // Small codes at a place of a field's data: a value and the place behind it, or a refusal's number.
+use base::FIRST;
+use base::LAST;
 use base::Read;
+use transitions::HOUR;
 ghost use Prim.Native.Nat.{_+_, _≤_};
 ghost use mathlib.Core.Path.{_≡_};
-ghost use mathlib.Core.Bool.{true};
 ghost use lib.ListN.{length, drop};
 ghost use Rattle.base.specs.Parsed.{parse, parseByte};
-ghost use Rattle.base.specs.declared.Read.the-variants.{Value};
 ghost use Rattle.counts.specs.Count.{readCount};
 ghost use Rattle.offsets.specs.Offset.{readSum};
 ghost use Rattle.transitions.specs.Transition.{readMoment};
-ghost use Rattle.transitions.specs.Later.{Later};
 ghost use Rattle.places.specs.Placed.{Stands, ofRead};
 ghost use Rattle.places.specs.Name.{readZigzag, parseName};
-ghost use Rattle.places.specs.Short.{HoursAfter, HalfHours, ShortDetails, ShortAt};
-
-const FIRST: u64 = 126227808000000000;
-
-const LAST: u64 = 3281606783999999999;
-
-const HOUR: u64 = 36000000000;
+ghost use Rattle.places.specs.Short.{twoBytes, hoursIn, halfHours, shortDetails, instantAfter, shortAt};
 
 pub fn byte_at(s: &[u8], at: usize) -> Read
     requires { ⌜ at ≤ length (now s) ⌝ }
@@ -104,14 +98,11 @@ pub fn moment_at(s: &[u8], at: usize, prev: u64) -> Read
     }
 }
 
-// The count of two bytes at a place, 0 where there is none.
+// The number of two bytes at a place, the top bit set on the first alone; 0 where other bytes stand there. From 128 on it is the count there.
 fn two_bytes_at(s: &[u8], at: usize) -> u64
-    requires { ⌜ at ≤ length (now s) ⌝ }
-    ensures { λ r. ⌜ (128 ≤ r → readCount (drop at (now (s .entry))) ≡ Value r 2) ⌝ }
+    requires { ⌜ at + 2 ≤ length (now s) ⌝ }
+    ensures { λ r. ⌜ r ≡ twoBytes (now (s .entry)) at ⌝ }
 {
-    if s.len() - at < 2 {
-        return 0;
-    }
     let b = s[at] as u64;
     let d = s[at + 1] as u64;
     if b < 128 {
@@ -123,9 +114,9 @@ fn two_bytes_at(s: &[u8], at: usize) -> u64
     0
 }
 
-// The instant v hours after prev, 0 where v is no count of hours in two bytes or either is no instant.
+// The instant v hours after prev, 0 where v is no count of two bytes or either is no instant.
 fn hours_after(prev: u64, v: u64) -> u64
-    ensures { λ r. ⌜ HoursAfter prev v r ⌝ }
+    ensures { λ r. ⌜ r ≡ hoursIn prev v ⌝ }
 {
     if v < 128 {
         return 0;
@@ -148,7 +139,7 @@ fn hours_after(prev: u64, v: u64) -> u64
 
 // Whether a byte is an offset of half hours.
 fn half_hours(b: u8) -> bool
-    ensures { λ r. ⌜ (r ≡ true → HalfHours b) ⌝ }
+    ensures { λ r. ⌜ r ≡ halfHours b ⌝ }
 {
     if b == 0 {
         return false;
@@ -159,7 +150,7 @@ fn half_hours(b: u8) -> bool
 // Whether a name, a wall offset and savings stand at a place, in a byte each.
 pub fn short_details(s: &[u8], at: usize) -> bool
     requires { ⌜ at + 3 ≤ length (now s) ⌝ }
-    ensures { λ r. ⌜ (r ≡ true → ShortDetails (now (s .entry)) at) ⌝ }
+    ensures { λ r. ⌜ r ≡ shortDetails (now (s .entry)) at ⌝ }
 {
     if 127 < s[at] {
         return false;
@@ -173,7 +164,7 @@ pub fn short_details(s: &[u8], at: usize) -> bool
 // The instant after prev at a place, in two bytes of hours or in nine of ticks; 0 where no such stands there.
 fn instant_after(s: &[u8], at: usize, n: usize, prev: u64) -> u64
     requires { ⌜ at + n ≤ length (now s) ⌝ }
-    ensures { λ r. ⌜ Later prev (drop at (now (s .entry))) n r ⌝ }
+    ensures { λ r. ⌜ r ≡ instantAfter (now (s .entry)) at n prev ⌝ }
 {
     if n == 2 {
         let v = two_bytes_at(s, at);
@@ -189,7 +180,7 @@ fn instant_after(s: &[u8], at: usize, n: usize, prev: u64) -> u64
 // usual. 0 where other codes stand there.
 pub fn short_at(s: &[u8], at: usize, n: usize, prev: u64) -> u64
     requires { ⌜ (at ≤ length (now s)) × (n ≤ 9) ⌝ }
-    ensures { λ r. ⌜ ShortAt (now (s .entry)) at n prev r ⌝ }
+    ensures { λ r. ⌜ r ≡ shortAt (now (s .entry)) at n prev ⌝ }
 {
     if s.len() - at < n + 3 {
         return 0;

@@ -1,13 +1,16 @@
 -- The loop over a pool's strings: i of k are passed, up to a place. Assumes nothing.
 use mathlib.Core.Path.{_≡_, refl, sym, _∙_, ap}
 use mathlib.Core.List.{List, [], _∷_}
-use mathlib.Core.Bool.{true}
+use mathlib.Core.Bool.{Bool, true, false}
 use Prim.Native.Nat.{ℕ, suc, _+_, _-_, _*_, _≤_, _<_}
 use native.Mathlib.Omega.{arith}
 use native.Mathlib.Numerals.{add-one}
 use lib.ListN.{length, getD, take, drop, set, length-drop, length-set, drop-of-length-le}
 use lib.Seq.{sets, drop-drop, drop-cons}
-use Rattle.base.proofs.Tests.{by-order}
+use lib.Dec.{ltb}
+use borrow.Author.Tests.{lt-ltb, le-ltb, ltb-true}
+use Rattle.base.specs.Pick.{pick, both}
+use Rattle.base.proofs.Tests.{by-order, both-left, both-right}
 use Rattle.base.proofs.Parts.{part-from}
 use Rattle.base.specs.declared.Read.the-variants.{Value}
 use Rattle.counts.specs.Count.{readCount}
@@ -22,7 +25,7 @@ use Rattle.pool.specs.declared.Checked.{Checked}
 use Rattle.pool.specs.declared.Checked.the-variants.{Strings, Refused}
 use Rattle.base.specs.Parsed.{got, bad, bind, ended, many, prepend}
 use Rattle.pool.specs.Pool.{Pool, readStrings, allStrings, checked}
-use Rattle.pool.specs.Index.{start, readStarts}
+use Rattle.pool.specs.Index.{start, readStarts, shortLength}
 
 -- i strings more
 abbrev raise : ℕ → Checked → Checked
@@ -58,9 +61,48 @@ filling-start d from k ix h l =
     record { inside = h; small = omega arith; most = omega arith; size = refl; said = rw z (raise-zero _); kept = rw z }
 
 -- a string before the place `plain`, up to which the bytes are ASCII, with a length code of one byte
+-- the length that the short way gives, where it gives one
+short-means : (d : List ℕ) (at plain n : ℕ) → n ≡ shortLength d at plain → n < 128 → (at < length d) × (n ≡ getD d at 0) × (at + n < plain)
+unfolding shortLength
+short-means d at plain n e h = go (both (ltb at (length d)) (both (ltb b 128) (ltb (at + b) plain))) refl e
+  where
+    b : ℕ
+    b = getD d at 0
+
+    go : (t : Bool) → both (ltb at (length d)) (both (ltb b 128) (ltb (at + b) plain)) ≡ t → n ≡ pick t b 128
+        → (at < length d) × (n ≡ b) × (at + n < plain)
+    go true q k =
+        let r = both-right (ltb at (length d)) _ q in
+        (ltb-true at (length d) (both-left (ltb at (length d)) _ q), k, rw k (ltb-true (at + b) plain (both-right (ltb b 128) _ r)))
+    go false q k = absurd (omega arith)
+
+module _ (d : List ℕ) (at plain : ℕ) where
+  -- ways out of the short way
+  pub short-end : length d ≤ at → 128 ≡ shortLength d at plain
+  unfolding shortLength
+  short-end h = rw (le-ltb at (length d) h)
+
+  module _ (h : at < length d) where
+    pub short-long : 127 < getD d at 0 → 128 ≡ shortLength d at plain
+    unfolding shortLength
+    short-long l = rw (lt-ltb at (length d) h, le-ltb (getD d at 0) 128 (omega arith))
+
+    module _ (l : getD d at 0 ≤ 127) where
+      pub short-past : plain ≤ at + getD d at 0 → 128 ≡ shortLength d at plain
+      unfolding shortLength
+      short-past p = rw (lt-ltb at (length d) h, lt-ltb (getD d at 0) 128 (omega arith), le-ltb (at + getD d at 0) plain p)
+
+      pub short-is : at + getD d at 0 < plain → getD d at 0 ≡ shortLength d at plain
+      unfolding shortLength
+      short-is p = rw (lt-ltb at (length d) h, lt-ltb (getD d at 0) 128 (omega arith), lt-ltb (at + getD d at 0) plain p)
+
 pub plain-here : (d : List ℕ) (at plain n : ℕ) → plain ≤ length d → ascii (take (plain - at) (drop at d)) ≡ true
-    → (at < length d) × (n ≡ getD d at 0) × (at + n < plain) → n < 128 → Part 1 n ≡ readText (take (length d - at) (drop at d))
-plain-here d at plain n l e (p, q, r) h =
+    → n ≡ shortLength d at plain → n < 128 → Part 1 n ≡ readText (take (length d - at) (drop at d))
+plain-here d at plain n l e f h =
+    let m = short-means d at plain n f h in
+    let p : at < length d = m .0 in
+    let q : n ≡ getD d at 0 = m .1 in
+    let r : at + n < plain = m .2 in
     let s : List ℕ = drop at d in
     let w : length s ≡ length d - at = length-drop at d in
     let c : readCount s ≡ Value n 1 = rw q (byte-count d at p (omega arith)) in

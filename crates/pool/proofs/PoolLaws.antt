@@ -24,6 +24,8 @@ use Rattle.base.proofs.ParseLaws.{bad-got}
 use Rattle.pool.specs.Pool.{Pool, readStrings, allStrings, counted, parsePool, checked, stringsIn, stringsOf}
 use Rattle.pool.specs.Index.{start, readStarts, startsIn, startsOf, roomIn, roomOf, Ready}
 use Rattle.pool.proofs.StringLaws.{opened, string-found, below}
+use Rattle.base.proofs.Tests.{clash}
+pub use Rattle.pool.specs.Facts.{Taken, Failed}
 
 -- "8,192 pool strings"
 pub few : (d : List ℕ) → length (stringsOf d) ≤ 8192
@@ -32,12 +34,6 @@ few d = go (length (stringsOf d)) refl
     go : (m : ℕ) → length (stringsOf d) ≡ m → length (stringsOf d) ≤ 8192
     go zero e = omega arith
     go (suc m) e = omega (arith, below d m (omega arith))
-
--- a pool that the check takes, with n strings
-pub record Taken (d : List ℕ) (n : ℕ) : Type 0 where
-  pub all : parsePool d ≡ got (stringsOf d) []
-  pub many : n ≡ length (stringsOf d)
-  pub most : n ≤ 8192
 
 pub taken : (d : List ℕ) (n : ℕ) → Strings n ≡ checked (parsePool d) → Taken d n
 taken d n e = go (parsePool d) refl e
@@ -48,7 +44,7 @@ taken d n e = go (parsePool d) refl e
         let t : ts ≡ stringsOf d = sym (ap stringsIn h) in
         let z : n ≡ length ts = cc in
         record { all = h ∙ ap₂ got t (o .end); many = z ∙ ap length t; most = omega (arith, few d, ap length t) }
-    go (bad m) h r = let z : _≡_ {A = ℕ} 0 1 = cc in absurd (omega arith)
+    go (bad m) h r = clash cc
 
 -- every string is at most 1,024 bytes of UTF-8
 pub string-fit : (d : List ℕ) (k : ℕ) → k < length (stringsOf d) → Fit (getD (stringsOf d) k [])
@@ -81,25 +77,19 @@ pool-faulty d m e = go (readCount d) refl e
     end (got ts (b ∷ q)) h f = let z : _≡_ {A = ℕ} 9 m = cc in inr (omega arith, omega arith)
     end (bad j) h f = f h
 
-    sized : (k a : ℕ) (b : Bool) → pick b (bad 4) (bind (readStrings k (drop a d)) ended) ≡ bad m → Faulty m
-    sized k a true h = let z : _≡_ {A = ℕ} 4 m = cc in inl (sym z)
-    sized k a false h = end (readStrings k (drop a d)) h (strings-faulty k (drop a d) m)
+    textSized : (k a : ℕ) (b : Bool) → pick b (bad 4) (bind (readStrings k (drop a d)) ended) ≡ bad m → Faulty m
+    textSized k a true h = let z : _≡_ {A = ℕ} 4 m = cc in inl (sym z)
+    textSized k a false h = end (readStrings k (drop a d)) h (strings-faulty k (drop a d) m)
 
     go : (g : Read) → readCount d ≡ g → bind (behindCode d g) counted ≡ bad m → Faulty m
     go (Unread j) q h = let z : j ≡ m = cc in count-faulty d m (q ∙ ap Unread z)
-    go (Value k a) q h = sized k a (ltb 8192 k) h
-
--- a pool that the check refuses
-pub record Failed (d : List ℕ) (m : ℕ) : Type 0 where
-  pub fault : parsePool d ≡ bad m
-  pub none : stringsOf d ≡ []
-  pub number : Faulty m
+    go (Value k a) q h = textSized k a (ltb 8192 k) h
 
 pub failed : (d : List ℕ) (m : ℕ) → Refused m ≡ checked (parsePool d) → Failed d m
 failed d m e = go (parsePool d) refl e
   where
     go : (p : Pool) → parsePool d ≡ p → Refused m ≡ checked p → Failed d m
-    go (got ts r) q h = let z : _≡_ {A = ℕ} 0 1 = cc in absurd (omega arith)
+    go (got ts r) q h = clash cc
     go (bad j) q h =
         let z : j ≡ m = cc in
         let r : parsePool d ≡ bad m = q ∙ ap bad z in
@@ -119,26 +109,26 @@ pub room-enough : (d : List ℕ) → length (startsOf d) ≤ roomOf d
 unfolding startsIn roomIn
 room-enough d = go (readCount d)
   where
-    sized : (k a : ℕ) (b : Bool) → length (pick b [] (readStarts k a (drop a d))) ≤ pick b 0 k
-    sized k a true = omega arith
-    sized k a false = few-starts k a (drop a d)
+    textSized : (k a : ℕ) (b : Bool) → length (pick b [] (readStarts k a (drop a d))) ≤ pick b 0 k
+    textSized k a true = omega arith
+    textSized k a false = few-starts k a (drop a d)
 
     go : (g : Read) → length (startsIn d g) ≤ roomIn g
     go (Unread m) = omega arith
-    go (Value k a) = sized k a (ltb 8192 k)
+    go (Value k a) = textSized k a (ltb 8192 k)
 
 -- 8,192 places are enough for every pool
 pub room-most : (d : List ℕ) → roomOf d ≤ 8192
 unfolding roomIn
 room-most d = go (readCount d)
   where
-    sized : (k : ℕ) (b : Bool) → ltb 8192 k ≡ b → pick b 0 k ≤ 8192
-    sized k true q = omega arith
-    sized k false q = ltb-false 8192 k q
+    textSized : (k : ℕ) (b : Bool) → ltb 8192 k ≡ b → pick b 0 k ≤ 8192
+    textSized k true q = omega arith
+    textSized k false q = ltb-false 8192 k q
 
     go : (g : Read) → roomIn g ≤ 8192
     go (Unread m) = omega arith
-    go (Value k a) = sized k (ltb 8192 k) refl
+    go (Value k a) = textSized k (ltb 8192 k) refl
 
 -- what the check leaves in the index is ready for every lookup
 pub ready : (d ix₀ ix : List ℕ) → roomOf d ≤ length ix₀ → ix ≡ sets ix₀ 0 (startsOf d) → Ready d ix

@@ -1,11 +1,11 @@
 -- The index of a pool: the places at which its strings start, so that a string is found by its number at once.
--- Assumes nothing: these are definitions.
+-- The code's way, tied to the pool's strings by `ready` (proofs/PoolLaws.antt) and `span-string` (proofs/StringLaws.antt).
 use Prim.Native.Nat.{ℕ, zero, suc, _+_}
 use mathlib.Core.Path.{_≡_}
 use mathlib.Core.List.{List, [], _∷_}
 use lib.ListN.{length, take, drop, getD}
 use lib.Dec.{ltb}
-use Rattle.base.specs.Pick.{pick}
+use Rattle.base.specs.Pick.{pick, both}
 use Rattle.base.specs.declared.Read.{Read}
 use Rattle.base.specs.declared.Read.the-variants.{Value, Refused as Unread}
 use Rattle.counts.specs.Count.{readCount}
@@ -39,6 +39,11 @@ roomIn (Value k a) = pick (ltb 8192 k) 0 k
 -- how many places the index of d needs: the count of its strings; none where the count is refused or above 8,192
 abbrev pub roomOf : List ℕ → ℕ
 roomOf d = roomIn (readCount d)
+
+-- the length of the string at a place of d, where its code has one byte and all of it lies before the place plain; else 128
+unfoldable pub shortLength : List ℕ → ℕ → ℕ → ℕ
+shortLength d at plain =
+    pick (both (ltb at (length d)) (both (ltb (getD d at 0) 128) (ltb (at + getD d at 0) plain))) (getD d at 0) 128
 
 -- the list ix begins with the places of d's strings
 pub record Ready (d ix : List ℕ) : Type 0 where

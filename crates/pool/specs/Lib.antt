@@ -1,2 +1,3 @@
 pub mod Pool
 pub mod Index
+pub mod Facts

@@ -1,4 +1,4 @@
--- "Field 0 is a count and that many length-and-bytes strings." Assumes nothing: these are definitions.
+-- "Field 0 is a count and that many length-and-bytes strings." To be believed.
 use Prim.Native.Nat.{ℕ}
 use mathlib.Core.List.{List, []}
 use lib.ListN.{length}

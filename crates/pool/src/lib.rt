@@ -3,12 +3,12 @@ use base::Read;
 use texts::Text;
 ghost use mathlib.Core.Path.{_≡_};
 ghost use mathlib.Core.Bool.{true};
-ghost use Prim.Native.Nat.{_+_, _-_, _≤_, _<_};
-ghost use lib.ListN.{length, take, drop, getD};
+ghost use Prim.Native.Nat.{_-_, _≤_, _<_};
+ghost use lib.ListN.{length, take, drop};
 ghost use lib.Seq.{sets};
 ghost use Rattle.utf8.specs.Ascii.{ascii};
 ghost use Rattle.pool.specs.Pool.{allStrings, parsePool, checked};
-ghost use Rattle.pool.specs.Index.{readStarts, startsOf, roomOf};
+ghost use Rattle.pool.specs.Index.{readStarts, startsOf, roomOf, shortLength};
 
 // What checking a pool gives.
 pub enum Checked {
@@ -32,16 +32,17 @@ fn behind(n: usize, at: usize) -> usize
 // string is read by this alone.
 fn short(d: &[u8], at: usize, plain: usize) -> usize
     requires { ⌜ at < 4294967296 ⌝ }
-    ensures { λ r. ⌜ (r < 128 → (at < length (now (d .entry))) × (r ≡ getD (now (d .entry)) at 0) × (at + r < plain)) ⌝ }
+    ensures { λ r. ⌜ r ≡ shortLength (now (d .entry)) at plain ⌝ }
 {
     if d.len() <= at {
         return 128;
     }
     let n = d[at] as usize;
-    if n < 128 {
-        if at + n < plain {
-            return n;
-        }
+    if 127 < n {
+        return 128;
+    }
+    if at + n < plain {
+        return n;
     }
     128
 }

@@ -2,7 +2,7 @@
 // A line is six words in hexadecimal, `-` for none: front, unit, times (two bytes), end, ID, field. The pool's data is the front, the unit so many times, and the end.
 // For each it writes the result, each string with its place and length (of a long pool the first four and the last), `*` behind one that is
 // the ID, the field's bytes behind its first, and the first four places and the last of the index, `-` for one that is as it was.
-// The stored output comes from tests/pool_cases/make.py.
+// The stored output comes from tests/make/pool_cases.py.
 use libc::STDIN_FILENO;
 use pool::Checked;
 use strings::Holder;
@@ -21,7 +21,7 @@ fn show_string<'a>(d: &'a [u8], field: &'a [u8], starts: &[u32], k: usize, id: &
     cases::say(b":");
     cases::say_number(s.len as u64);
     cases::say(b":");
-    hex::print(strings::text_of(d, field, starts, Holder::InPool(k)));
+    hex::print(strings::text_of(d, field, Holder::InPool(s.at, s.len)));
     if strings::has_id(d, starts, k, id) {
         cases::say(b"*");
     }
@@ -48,14 +48,12 @@ fn show_strings<'a>(d: &'a [u8], field: &'a [u8], starts: &[u32], n: usize, id: 
 }
 
 // The field's bytes behind its first.
-fn show_field<'a>(d: &'a [u8], field: &'a [u8], starts: &[u32])
-    requires { ⌜ Ready (now d) (now starts) ⌝ }
-{
+fn show_field<'a>(d: &'a [u8], field: &'a [u8]) {
     if field.len() == 0 {
         return;
     }
     cases::say(b" ");
-    hex::print(strings::text_of(d, field, starts, Holder::InField(1, field.len() - 1)));
+    hex::print(strings::text_of(d, field, Holder::InField(1, field.len() - 1)));
 }
 
 fn show_place(p: u32) {
@@ -89,7 +87,7 @@ fn run_pool<'a>(d: &'a [u8], field: &'a [u8], id: &[u8]) {
             cases::say(b"strings ");
             cases::say_number(n as u64);
             show_strings(d, field, &starts, n, id);
-            show_field(d, field, &starts);
+            show_field(d, field);
             show_index(&starts);
         }
     }

@@ -1,4 +1,4 @@
--- What the program writes: 01, "One whole file". Assumes nothing: these are definitions.
+-- What the program writes: 01, "One whole file". To be believed.
 use Prim.Native.Nat.{ℕ}
 use mathlib.Core.List.{List, map, flatten}
 use lib.Dec.{leb}

@@ -6,17 +6,16 @@ use lib.IntN.{ℤ}
 use borrow.Author.Tests.{eq-eqb, ne-eqb}
 use Rattle.signed.specs.Instant.{instantOf}
 use Rattle.frames.specs.Machine.{Out, found, refused, cut, ended, walk}
-use Rattle.answers.specs.Answers.{Pool, noPool}
-use Rattle.walks.specs.Walk.{question}
-use Rattle.questions.specs.Question.{finish, ask}
-use Rattle.walks.specs.View.{outcomeOf}
+use Rattle.answers.specs.Answers.{noPool}
+use Rattle.questions.specs.Question.{question, finish, ask}
+use Rattle.questions.specs.View.{outcomeOf}
 use Rattle.answers.specs.Answers.{answerOf}
 use Rattle.answers.specs.declared.Mark.{Mark}
 use Rattle.answers.specs.declared.Found.{Found}
 use Rattle.answers.specs.declared.Answer.the-variants.{Refused}
 use Rattle.answers.specs.declared.Outcome.{Outcome}
 
-finish-is : (mark : Mark) (o : Out Pool Found) → answerOf mark (outcomeOf o) ≡ finish mark o
+finish-is : {M : Type 0} (mark : Mark) (o : Out M Found) → answerOf mark (outcomeOf o) ≡ finish mark o
 finish-is mark (found x p) = refl
 finish-is mark (refused n p) = refl
 finish-is mark (cut p) = refl

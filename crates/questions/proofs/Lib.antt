@@ -1,1 +1,4 @@
+pub mod OutcomeLaws
 pub mod AskLaws
+pub mod NameLaws
+pub mod HeldLaws

@@ -1,20 +1,29 @@
--- Asking one zone at one instant. Assumes nothing: these are definitions.
+-- Asking one zone at one instant. To be believed.
 use Prim.Native.Nat.{ℕ}
 use mathlib.Core.List.{List}
 use lib.IntN.{ℤ}
 use lib.Dec.{eqb}
 use Rattle.base.specs.Pick.{pick}
 use Rattle.signed.specs.Instant.{instantOf}
-use Rattle.frames.specs.Machine.{Out, found, refused, cut, ended, walk}
-use Rattle.answers.specs.Answers.{Pool, noPool, waiting}
-use Rattle.walks.specs.Walk.{question}
+use Rattle.zones.specs.Content.{Zone}
+use Rattle.zones.specs.Lookup.{inZone}
+use Rattle.frames.specs.Machine.{Out, found, refused, cut, ended, Job, walk}
+use Rattle.answers.specs.Answers.{Pool, noPool, answered, waiting}
+use Rattle.locate.specs.Asked.{asking}
 use Rattle.answers.specs.declared.Mark.{Mark}
 use Rattle.answers.specs.declared.Mark.the-variants.{All}
 use Rattle.answers.specs.declared.Found.{Found}
 use Rattle.answers.specs.declared.Answer.{Answer}
 use Rattle.answers.specs.declared.Answer.the-variants.{In, Refused}
 
-abbrev pub finish : Mark → Out Pool Found → Answer
+-- what a question makes of the asked zone: the interval that holds the instant t
+abbrev pub answerAt : ℕ → Pool → Zone → Found
+answerAt t p z = answered p (inZone t z)
+
+abbrev pub question : List ℕ → ℕ → Job Pool Found
+question id t = asking (answerAt t) id
+
+abbrev pub finish : {M : Type 0} → Mark → Out M Found → Answer
 finish mark (found x p) = In x
 finish mark (refused n p) = Refused n p
 finish mark (cut p) = Refused (waiting mark 2) p
@@ -25,5 +34,8 @@ unfoldable pub ask : List ℕ → List ℕ → ℤ → Mark → Answer
 ask bs id z mark = pick (eqb (instantOf z) 0) (Refused 14 0) (finish mark (walk (question id (instantOf z)) noPool bs))
 
 -- "The plain question carries no mark and means 'this is all'."
+abbrev pub plainMark : Mark
+plainMark = All
+
 abbrev pub askPlain : List ℕ → List ℕ → ℤ → Answer
-askPlain bs id z = ask bs id z All
+askPlain bs id z = ask bs id z plainMark

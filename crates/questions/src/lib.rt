@@ -1,8 +1,77 @@
-// Asking one zone at one instant, on any bytes.
+// Asking one zone at one instant, on any bytes: the walk to the asked zone, the lookup there and the answer.
 use answers::Answer;
 use answers::Mark;
+use answers::Outcome;
+use locate::First;
+use locate::Located;
+use zones::Answer as ZoneAnswer;
 ghost use mathlib.Core.Path.{_≡_};
-ghost use Rattle.questions.specs.Question.{ask as askOf, askPlain};
+ghost use Prim.Native.Nat.{_≤_};
+ghost use lib.ListN.{length};
+ghost use Rattle.base.specs.Moment.{Finite};
+ghost use Rattle.pool.specs.Pool.{parsePool};
+ghost use Rattle.pool.specs.Index.{roomOf};
+ghost use Rattle.frames.specs.Machine.{walk};
+ghost use Rattle.answers.specs.Answers.{noPool};
+ghost use Rattle.locate.specs.View.{part, Lies, byPool};
+ghost use Rattle.questions.specs.Question.{question, ask as askOf, askPlain};
+ghost use Rattle.questions.specs.View.{outcomeOf, outcomeAt};
+
+// The question on a file whose field 0 has the data s[d..e]. starts gets the index of its strings.
+fn ask_with(s: &[u8], d: usize, e: usize, id: &[u8], t: u64, starts: &mut [u32]) -> Outcome
+    requires { ⌜ Lies (now s) d e × (roomOf (part d e (now s)) ≤ length (now starts)) × Finite t ⌝ }
+    ensures { λ r. ⌜ r ≡ outcomeAt t (byPool (now (id .entry)) (now (s .entry)) d e (parsePool (part d e (now (s .entry))))) ⌝ }
+{
+    match locate::walk(s, d, e, id, starts) {
+        Located::Refused(n, p) => Outcome::Refused(n, p),
+        Located::Cut(p) => Outcome::Cut(p),
+        Located::End(p) => Outcome::End(p),
+        Located::Found(v) => {
+            let from = v.start;
+            let to = v.past;
+            match zones::find(&s[from..to], v.count as u64, t) {
+                ZoneAnswer::Refused(n) => Outcome::Refused(n, v.place),
+                ZoneAnswer::In(x) => Outcome::Answered(answers::answered(&s[d..e], &*starts, d, x)),
+            }
+        }
+    }
+}
+
+// The same with an index of its own, for a pool of few strings: a short index is cleared at once.
+fn ask_short(s: &[u8], d: usize, e: usize, id: &[u8], t: u64) -> Outcome
+    requires { ⌜ Lies (now s) d e × (roomOf (part d e (now s)) ≤ 256) × Finite t ⌝ }
+    ensures { λ r. ⌜ r ≡ outcomeAt t (byPool (now (id .entry)) (now (s .entry)) d e (parsePool (part d e (now (s .entry))))) ⌝ }
+{
+    let mut starts = [0u32; 256];
+    ask_with(s, d, e, id, t, &mut starts)
+}
+
+// The same for every pool.
+fn ask_long(s: &[u8], d: usize, e: usize, id: &[u8], t: u64) -> Outcome
+    requires { ⌜ Lies (now s) d e × Finite t ⌝ }
+    ensures { λ r. ⌜ r ≡ outcomeAt t (byPool (now (id .entry)) (now (s .entry)) d e (parsePool (part d e (now (s .entry))))) ⌝ }
+{
+    let mut starts = [0u32; 8192];
+    ask_with(s, d, e, id, t, &mut starts)
+}
+
+// The question without its mark, at an instant in range.
+fn ask_at(s: &[u8], id: &[u8], t: u64) -> Outcome
+    requires { ⌜ Finite t ⌝ }
+    ensures { λ r. ⌜ r ≡ outcomeOf (walk (question (now (id .entry)) t) noPool (now (s .entry))) ⌝ }
+{
+    match locate::read_first(s) {
+        First::Refused(n, p) => Outcome::Refused(n, p),
+        First::Cut(p) => Outcome::Cut(p),
+        First::End(p) => Outcome::End(p),
+        First::Pool(d, e) => {
+            if pool::room(&s[d..e]) <= 256 {
+                return ask_short(s, d, e, id, t);
+            }
+            ask_long(s, d, e, id, t)
+        }
+    }
+}
 
 // The marked question: the zone with the bytes id, at a tick since 1970.
 pub fn ask(s: &[u8], id: &[u8], ticks: i64, mark: Mark) -> Answer
@@ -12,7 +81,7 @@ pub fn ask(s: &[u8], id: &[u8], ticks: i64, mark: Mark) -> Answer
     if t == 0 {
         return Answer::Refused(14, 0);
     }
-    let o = walks::walk(s, id, t);
+    let o = ask_at(s, id, t);
     answers::finish(o, mark)
 }
 

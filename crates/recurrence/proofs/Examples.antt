@@ -44,6 +44,21 @@ pub sunday-from-8-day : fallsOn sundayFrom8March (2024 + 399) ≡ dayNumber (202
 unfolding fallsOn moved onOrAfter onOrBefore monthDay dayNumber daysBefore monthLength leapDay yearStart
 sunday-from-8-day = refl
 
+-- A rule that spills into the year before: 1 January, 00:00 standard time, ten hours ahead of UTC. At that instant of 31 December 2024
+-- the latest occurrence is the one of 2025.
+abbrev pub newYear : Rule
+newYear = ruleOf 0x40 1 2 86400000
+
+pub new-year-ok : FieldsOk 0x40 1 2 86400000
+unfolding byteOk monthOk dayOk timeOk mostDay monthLength leapDay
+new-year-ok = record { byte-ok = refl; month-ok = refl; day-ok = refl; time-ok = refl }
+
+pub new-year-spills :
+    lastAt (occurrence newYear (subtracted 2 0 122400000)) (dayNumber (2025 + 399) 1 1 * 864000000000 - 36000000 * 10000)
+    ≡ dayNumber (2025 + 399) 1 1 * 864000000000 - 36000000 * 10000
+unfolding lastAt yearBefore searchFrom yearOf estimate occurrence subtracted fallsOn moved onOrAfter onOrBefore monthDay dayNumber daysBefore monthLength leapDay yearStart
+new-year-spills = refl
+
 -- A tail in its ranges: London from 1970 on, and its lookup just before and at the change of 2024-03-31: the instant of a change
 -- belongs to the new interval
 abbrev pub london : Tail

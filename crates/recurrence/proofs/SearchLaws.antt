@@ -19,13 +19,7 @@ use Rattle.occurrences.specs.Rules.{occurrence}
 use Rattle.recurrence.specs.Search.{cycle, IsNext, IsLast, searchFrom, yearBefore, nextAfter, lastAt, around}
 use Rattle.occurrences.proofs.RuleLaws.{occurrence-low, occurrence-high, occurrence-rises}
 use Rattle.recurrence.proofs.CycleLaws.{occurrence-400}
-
--- a function of years that rises, is near its year (from 7 days before its start to 8 days after its end), and repeats after 400 years
-pub record Yearly (f : ℕ → ℕ) : Type 0 where
-  pub rises : (k : ℕ) → f k < f (k + 1)
-  pub low : (k : ℕ) → yearStart k * 864000000000 ≤ f k + 7 * 864000000000
-  pub high : (k : ℕ) → f k < (yearStart (k + 1) + 8) * 864000000000
-  pub repeats : (k : ℕ) → 1 ≤ k → f (k + 400) ≡ f k + cycle
+pub use Rattle.recurrence.specs.Facts.{Yearly}
 
 pub occurrence-yearly : (r : Rule) (offset : ℕ) → RuleOk r → offset ≤ 172800000 → Yearly (occurrence r offset)
 occurrence-yearly r offset ok h =

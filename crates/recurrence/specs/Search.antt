@@ -1,4 +1,5 @@
--- The occurrences before and after an instant, for a function f that gives the occurrence of each year. Assumes nothing: these are definitions.
+-- The occurrences before and after an instant, for a function f that gives the occurrence of each year. The properties `IsNext` and `IsLast` are to be believed; the search is the code's way, tied to them by `next-after` and `last-at`
+-- (proofs/SearchLaws.antt).
 use mathlib.Core.Path.{_≡_}
 use Prim.Native.Nat.{ℕ, zero, suc, _+_, _-_, _*_, _/_, _≤_, _<_}
 use lib.Dec.{ltb}

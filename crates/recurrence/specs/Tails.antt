@@ -1,4 +1,4 @@
--- The tail: its intervals, and which of them holds an instant. Assumes nothing: these are definitions.
+-- The tail: its intervals, and which of them holds an instant. The properties are to be believed; `lookup` is the code's way, tied to them by `lookup-is` (proofs/LookupLaws.antt).
 use mathlib.Core.Path.{_≡_}
 use mathlib.Core.Bool.{true}
 use Prim.Native.Nat.{ℕ, _+_, _-_, _≤_, _<_, min, max}

@@ -1,6 +1,6 @@
--- What the inner functions ask: that each number fits where it goes. The C functions ask nothing. Assumes nothing: these are
--- definitions.
-use Prim.Native.Nat.{ℕ, _≤_, _<_, _^_}
+-- What the inner functions ask: that each number fits where it goes. The C functions ask nothing. To be believed by none:
+-- each is proved where it is asked.
+use Prim.Native.Nat.{_≤_, _<_, _^_}
 use Rattle.base.specs.declared.Read.{Read}
 use Rattle.base.specs.declared.Read.the-variants.{Value, Refused as Unread}
 use Rattle.base.specs.declared.Wrote.{Wrote}
@@ -9,18 +9,6 @@ use Rattle.signed.specs.declared.Number.{Number}
 use Rattle.signed.specs.declared.Number.the-variants.{Value as Signed, Refused as NoNumber}
 use Rattle.texts.specs.declared.Text.{Text}
 use Rattle.texts.specs.declared.Text.the-variants.{Part, Refused as Untext}
-use Rattle.replies.specs.declared.Reply.{Reply}
-use Rattle.replies.specs.declared.Reply.the-variants.{Two, Three, Six, Refused}
-
-abbrev pub ReplyTo : ℕ → Reply → Type 0
-ReplyTo k (Two a b) = 2 ≤ k
-ReplyTo k (Three a b c) = 3 ≤ k
-ReplyTo k (Six a b c d e f) = 6 ≤ k
-ReplyTo k (Refused n p) = p ≤ 4194304
-
--- room for the numbers of a reply, or a place that no file passes
-pub record SmallReply (k : ℕ) (x : Reply) : Type 0 where
-  pub to : ReplyTo k x
 
 abbrev pub ReadTo : Read → Type 0
 ReadTo (Value v n) = (v < 2 ^ 63) × (n < 2 ^ 63)

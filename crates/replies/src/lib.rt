@@ -1,4 +1,4 @@
-// What the C functions say, as numbers in one result and an output: thin over the codes.
+// What the C functions share: number and place in one result, and the numbers of a small code in an output of fixed size.
 use base::Read;
 use base::Wrote;
 use signed::Number;
@@ -7,15 +7,7 @@ ghost use mathlib.Core.Path.{_≡_};
 ghost use Prim.Native.Nat.{_≤_};
 ghost use Rattle.replies.specs.Reply.{refusal as refusalOf, writtenOf, Gives};
 ghost use Rattle.replies.specs.Functions.{readReply, numberReply, textReply, momentReply, previousOf, momentOf};
-ghost use Rattle.replies.specs.Small.{SmallReply, SmallRead, SmallNumber, SmallText, SmallWrote};
-
-// What a function says: its numbers, or the number and the place of a refusal.
-pub enum Reply {
-    Two(i64, i64),
-    Three(i64, i64, i64),
-    Six(i64, i64, i64, i64, i64, i64),
-    Refused(u8, usize),
-}
+ghost use Rattle.replies.specs.Small.{SmallRead, SmallNumber, SmallText, SmallWrote};
 
 // Number and place in one result.
 pub fn refusal(n: u8, place: usize) -> u64
@@ -23,39 +15,6 @@ pub fn refusal(n: u8, place: usize) -> u64
     ensures { λ r. ⌜ r ≡ refusalOf n place ⌝ }
 {
     (n as u64) + 256 * (place as u64)
-}
-
-// Writes the numbers of a reply to out, which needs room for `room` of them whatever the reply.
-pub fn give(x: Reply, room: usize, out: &mut [i64]) -> u64
-    requires { ⌜ SmallReply room x ⌝ }
-    ensures { λ r. ⌜ Gives room x (now (out .entry)) r (now (out .exit)) ⌝ }
-{
-    if out.len() < room {
-        return 15;
-    }
-    match x {
-        Reply::Two(a, b) => {
-            out[0] = a;
-            out[1] = b;
-            0
-        }
-        Reply::Three(a, b, c) => {
-            out[0] = a;
-            out[1] = b;
-            out[2] = c;
-            0
-        }
-        Reply::Six(a, b, c, d, e, f) => {
-            out[0] = a;
-            out[1] = b;
-            out[2] = c;
-            out[3] = d;
-            out[4] = e;
-            out[5] = f;
-            0
-        }
-        Reply::Refused(n, p) => refusal(n, p),
-    }
 }
 
 // The result of a writer.
@@ -69,33 +28,45 @@ pub fn written(w: Wrote) -> u64
     }
 }
 
-pub fn read_reply(c: Read) -> Reply
+// Value and length of a code without a sign.
+pub fn give_read(c: Read, out: &mut [i64; 2]) -> u64
     requires { ⌜ SmallRead c ⌝ }
-    ensures { λ r. ⌜ r ≡ readReply c ⌝ }
+    ensures { λ r. ⌜ Gives (readReply c) (now (out .entry)) r (now (out .exit)) ⌝ }
 {
     match c {
-        Read::Value(v, n) => Reply::Two(v as i64, n as i64),
-        Read::Refused(k) => Reply::Refused(k, 0),
+        Read::Value(v, n) => {
+            *out = [v as i64, n as i64];
+            0
+        }
+        Read::Refused(k) => k as u64,
     }
 }
 
-pub fn number_reply(c: Number) -> Reply
+// Value and length of a code with a sign.
+pub fn give_number(c: Number, out: &mut [i64; 2]) -> u64
     requires { ⌜ SmallNumber c ⌝ }
-    ensures { λ r. ⌜ r ≡ numberReply c ⌝ }
+    ensures { λ r. ⌜ Gives (numberReply c) (now (out .entry)) r (now (out .exit)) ⌝ }
 {
     match c {
-        Number::Value(v, n) => Reply::Two(v, n as i64),
-        Number::Refused(k) => Reply::Refused(k, 0),
+        Number::Value(v, n) => {
+            *out = [v, n as i64];
+            0
+        }
+        Number::Refused(k) => k as u64,
     }
 }
 
-pub fn text_reply(t: Text) -> Reply
+// Place and length of a text.
+pub fn give_text(t: Text, out: &mut [i64; 2]) -> u64
     requires { ⌜ SmallText t ⌝ }
-    ensures { λ r. ⌜ r ≡ textReply t ⌝ }
+    ensures { λ r. ⌜ Gives (textReply t) (now (out .entry)) r (now (out .exit)) ⌝ }
 {
     match t {
-        Text::Part(a, n) => Reply::Two(a as i64, n as i64),
-        Text::Refused(k) => Reply::Refused(k, 0),
+        Text::Part(a, n) => {
+            *out = [a as i64, n as i64];
+            0
+        }
+        Text::Refused(k) => k as u64,
     }
 }
 
@@ -108,21 +79,25 @@ pub fn previous_of(finite: bool, previous: i64) -> u64
     0
 }
 
-pub fn moment_reply(c: Read) -> Reply
+// Kind, ticks and length of a transition.
+pub fn give_moment(c: Read, out: &mut [i64; 3]) -> u64
     requires { ⌜ SmallRead c ⌝ }
-    ensures { λ r. ⌜ r ≡ momentReply c ⌝ }
+    ensures { λ r. ⌜ Gives (momentReply c) (now (out .entry)) r (now (out .exit)) ⌝ }
 {
     match c {
         Read::Value(m, n) => {
             if m == 0 {
-                return Reply::Three(0, 0, n as i64);
+                *out = [0, 0, n as i64];
+                return 0;
             }
             if m == 3281606784000000000 {
-                return Reply::Three(1, 0, n as i64);
+                *out = [1, 0, n as i64];
+                return 0;
             }
-            Reply::Three(2, signed::ticks(m), n as i64)
+            *out = [2, signed::ticks(m), n as i64];
+            0
         }
-        Read::Refused(k) => Reply::Refused(k, 0),
+        Read::Refused(k) => k as u64,
     }
 }
 

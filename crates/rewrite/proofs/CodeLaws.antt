@@ -18,7 +18,7 @@ use Rattle.offsets.specs.Offset.{readSum, writeSum}
 use Rattle.offsets.proofs.OffsetLaws.{sum-read, sum-form, sum-written}
 use Rattle.transitions.specs.Transition.{readMoment, writeMoment}
 use Rattle.transitions.proofs.MomentLaws.{moment-read, moment-written, Preferred, Longer, renewed, never-longer}
-use Rattle.pieces.specs.Content.{upTo}
+use Rattle.pieces.specs.Content.{bytesUpTo}
 
 -- what p read from the front of s before r, as a, and that it reads the same in front of any bytes
 pub record Front {A : Type 0} (p : List ℕ → Parsed A) (s : List ℕ) (a : A) (r : List ℕ) : Type 0 where
@@ -100,7 +100,7 @@ moment-renewed prev s m r b e = go (readMoment prev s) refl e
     go (Refused n) h k = bad-got k
 
 -- what stands before the last part
-pub up-to-front : (xs ys : List ℕ) → upTo (xs ++ ys) ys ≡ xs
+pub up-to-front : (xs ys : List ℕ) → bytesUpTo (xs ++ ys) ys ≡ xs
 up-to-front xs ys =
     let n : length (xs ++ ys) - length ys ≡ length xs = rw length-append (omega arith) in
     rw n (take-append-seam xs ys)

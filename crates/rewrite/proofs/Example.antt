@@ -16,7 +16,7 @@ use Rattle.signed.specs.Instant.{biasedOf}
 use Rattle.counts.specs.Groups.{readGroups, writeGroups}
 use Rattle.counts.specs.Fixed.{fixedFrom, fixedBytes}
 use Rattle.utf8.specs.Utf8.{chars}
-use Rattle.texts.specs.Text.{sized as textSized}
+use Rattle.texts.specs.Text.{textSized}
 use Rattle.offsets.specs.Offset.{readSum}
 use Rattle.transitions.specs.Transition.{readMoment, fromCount, unitsTo, writeMoment}
 use Rattle.places.specs.Name.{judgeName, parseName}
@@ -30,7 +30,7 @@ use Rattle.frames.specs.Fields.{scan, listing}
 use Rattle.frames.specs.Machine.{act, step, walk}
 use Rattle.pieces.specs.Content.{parseWall, pieceEnd, afterMoment, parsePiece, parsePieces, afterCount as pastCount, afterFlag as pastFlag}
 use Rattle.pieces.specs.Content.{afterId as pastId, parseHead, afterHead, parseContent, contentOf, printPieces, print}
-use Rattle.field_checks.specs.Check.{poolKept, newId, zoneKept, textKept, contentOf as judged, concluded, conclusion, WellFormed}
+use Rattle.field_checks.specs.Check.{poolKept, newId, zoneKept, textKept, judged, concluded, conclusion, WellFormed}
 use Rattle.field_checks.proofs.WellFormedLaws.{good-well-formed}
 use Rattle.rewrite.specs.Preferred.{contents, content, printField, printFields, printFile, preferred}
 

@@ -21,6 +21,7 @@ use Rattle.pieces.proofs.PutLaws.{InTwo}
 use Rattle.rewrite.specs.Preferred.{printField}
 use Rattle.rewrite.specs.View.{IsField, fieldWith}
 use Rattle.rewrite.specs.declared.Extent.{Extent}
+use Rattle.base.proofs.Tests.{clash}
 
 -- the size of the field at a place
 module _ (f : List ℕ) (at : ℕ) (r : Read) (e : r ≡ readCount (take (length f - (at + 1)) (drop (at + 1) f))) where
@@ -33,7 +34,7 @@ module _ (f : List ℕ) (at : ℕ) (r : Read) (e : r ≡ readCount (take (length
   pub field-none : (k : ℕ) (x : Extent) → r ≡ Refused k → IsField f at x
   field-none k x h =
       record {
-        means = λ g o p. let z : Refused k ≡ Value (length (g .body)) (o .used) = sym h ∙ size-of g o p in let y : _≡_ {A = ℕ} 0 1 = cc in absurd (omega arith);
+        means = λ g o p. let z : Refused k ≡ Value (length (g .body)) (o .used) = sym h ∙ size-of g o p in clash cc;
       }
 
   pub field-some : (n u : ℕ) → r ≡ Value n u → IsField f at (record { id = getD f at 0; start = at + 1 + u; end = at + 1 + u + n })

@@ -15,7 +15,7 @@ use Rattle.transitions.specs.Transition.{readMoment, writeMoment}
 use Rattle.places.specs.Name.{judgeName, parseName}
 use Rattle.intervals.specs.Interval.{intervalOf, afterWall, afterName, parseDetails, rises, afterStart, parseInterval, startOf}
 use Rattle.intervals.specs.declared.Interval.{Interval}
-use Rattle.pieces.specs.Content.{Piece, upTo, parseWall, pieceEnd, afterMoment, parsePiece, parsePieces, printPieces}
+use Rattle.pieces.specs.Content.{Piece, bytesUpTo, parseWall, pieceEnd, afterMoment, parsePiece, parsePieces, printPieces}
 use Rattle.rewrite.proofs.CodeLaws.{Front, count-front, sum-front, Renewed, moment-renewed, up-to-front}
 
 -- a pool number that was read
@@ -88,7 +88,7 @@ end-kept : (pool prev : ℕ) (s : List ℕ) (end : ℕ) (r : List ℕ) → Bytes
 unfolding many behind parsePieces parsePiece afterMoment pieceEnd printPieces
 end-kept pool prev s end r b e =
     let t = moment-renewed prev s end r b e in
-    let u : upTo r [] ≡ r = ap (λ (y : List ℕ). upTo y []) (sym (append-nil r)) ∙ up-to-front r [] in
+    let u : bytesUpTo r [] ≡ r = ap (λ (y : List ℕ). bytesUpTo y []) (sym (append-nil r)) ∙ up-to-front r [] in
     let p : Piece = record { moment = end; copied = r } in
     let one : (x : List ℕ) → parse (readMoment prev) x ≡ got end r → parsePieces 1 prev x ≡ got (p ∷ []) [] =
     λ x h. rw h (ap (λ (y : List ℕ). got (record { moment = end; copied = y } ∷ []) []) u) in

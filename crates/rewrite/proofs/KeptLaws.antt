@@ -26,6 +26,7 @@ preferredData i d = print (contentOf i d)
 pub record FieldKept (g : Field) : Type 0 where
   pub same : contentOf (g .id) (preferredData (g .id) (g .body)) ≡ contentOf (g .id) (g .body)
   pub shorter : length (preferredData (g .id) (g .body)) ≤ length (g .body)
+  pub exact : length (preferredData (g .id) (g .body)) ≡ length (g .body) → preferredData (g .id) (g .body) ≡ g .body
   pub copied : (g .id ≡ 1 → ⊥) → preferredData (g .id) (g .body) ≡ g .body
   pub zone : g .id ≡ 1 → (pool : ℕ) (z : Zone) (r : List ℕ) → parseZone pool (g .body) ≡ got z r
       → parseZone pool (preferredData (g .id) (g .body)) ≡ got z []
@@ -44,7 +45,7 @@ field-kept g b z = go (eqb (g .id) 1) refl
     go false e =
         let n : g .id ≡ 1 → ⊥ = eqb-false (g .id) 1 e in
         let c : preferredData (g .id) (g .body) ≡ g .body = print-other (g .id) (g .body) n in
-        record { same = ap (contentOf (g .id)) c; shorter = rw c (omega arith); copied = λ m. c; zone = λ i. absurd (n i) }
+        record { same = ap (contentOf (g .id)) c; shorter = rw c (omega arith); exact = λ m. c; copied = λ m. c; zone = λ i. absurd (n i) }
     go true e =
         let i : g .id ≡ 1 = eqb-true (g .id) 1 e in
         let w : IsZone (g .body) = z i in
@@ -52,6 +53,7 @@ field-kept g b z = go (eqb (g .id) 1) refl
         record {
           same = subst⁻¹ (λ (j : ℕ). contentOf j (preferredData j (g .body)) ≡ contentOf j (g .body)) i (k .same);
           shorter = subst⁻¹ (λ (j : ℕ). length (preferredData j (g .body)) ≤ length (g .body)) i (k .shorter);
+          exact = subst⁻¹ (λ (j : ℕ). length (preferredData j (g .body)) ≡ length (g .body) → preferredData j (g .body) ≡ g .body) i (k .exact);
           copied = λ n. absurd (n i);
           zone = λ i pool y r p. subst⁻¹ (λ (j : ℕ). parseZone pool (preferredData j (g .body)) ≡ got y []) i (zone-kept pool (g .body) y r b p .parses);
         }

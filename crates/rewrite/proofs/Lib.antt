@@ -8,4 +8,5 @@ pub mod ZoneMovedLaws
 pub mod Rewriting
 pub mod ReadyLaws
 pub mod FieldLaws
+pub mod ShortestLaws
 pub mod Example

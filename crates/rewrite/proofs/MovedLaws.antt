@@ -47,7 +47,7 @@ module _ (i : ℕ) (d more : List ℕ) where
   abbrev bytesOf : List ℕ
   bytesOf = i ∷ ((writeCount (length d) ++ d) ++ more)
 
-  printed-size : length bytesOf ≡ headFor (length d) + length d + length more
+  pub printed-size : length bytesOf ≡ headFor (length d) + length d + length more
   printed-size = simp (length-append) (omega arith)
 
   printed-rest : drop (headFor (length d) + length d) bytesOf ≡ more

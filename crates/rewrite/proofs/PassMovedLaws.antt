@@ -2,11 +2,10 @@
 use mathlib.Core.Path.{_≡_, refl, ap, _∙_, subst⁻¹}
 use mathlib.Core.Bool.{Bool, true, false}
 use mathlib.Core.List.{List, [], _∷_}
-use Prim.Native.Nat.{ℕ, _+_, _<_}
+use Prim.Native.Nat.{ℕ, _+_}
 use native.Mathlib.Omega.{arith}
 use lib.ListN.{length, getD}
 use lib.Dec.{eqb}
-use borrow.Author.Tests.{eq-eqb, ne-eqb, eqb-true, eqb-false}
 use Rattle.base.specs.Pick.{pick}
 use Rattle.base.specs.Parsed.{Parsed, got, bad as faulty}
 use Rattle.base.specs.Run.{next}
@@ -14,70 +13,35 @@ use Rattle.base.proofs.Parts.{Bytes}
 use Rattle.texts.specs.Text.{readText}
 use Rattle.texts.specs.declared.Text.{Text}
 use Rattle.texts.specs.declared.Text.the-variants.{Part, Refused as Untext}
-use Rattle.pool.specs.Pool.{Pool, parsePool, stringsOf}
+use Rattle.pool.specs.Pool.{Pool, parsePool}
 use Rattle.zones.specs.Content.{Zone}
 use Rattle.zones.specs.Parse.{parseZone}
-use Rattle.zones.proofs.SoundLaws.{zone-sound}
 use Rattle.ids.specs.Ids.{among}
 use Rattle.frames.specs.Frame.{Field}
 use Rattle.frames.specs.Machine.{Content, bad, keep}
 use Rattle.frames.specs.Fields.{FieldOf, fields, pass}
 use Rattle.base.specs.All.{All, all-none, all-also}
 use Rattle.base.proofs.AllLaws.{all-head, all-tail}
-use Rattle.frames.proofs.ChainLaws.{Chain, listing-chain, chain-first, chain-fields}
+use Rattle.frames.proofs.ChainLaws.{listing-chain, chain-fields}
 use Rattle.frames.proofs.PassLaws.{pass-head}
-use Rattle.frames.proofs.PartLaws.{walk-ended}
 use Rattle.field_checks.specs.Check.{placed, Memory, start, withPool, withId, withText, poolIn, poolKept, newId, zoneIn, zoneKept}
-use Rattle.field_checks.specs.Check.{textIn, textKept, contentOf as judged, job, WellFormed, filePool}
-use Rattle.field_checks.proofs.ZoneIdLaws.{field-grows, first-pool}
+use Rattle.field_checks.specs.Check.{textIn, textKept, judged, job, WellFormed, filePool}
+use Rattle.field_checks.specs.Check.{Kind, poolField, zoneField, textField, otherField, kindOf, contentBy}
+use Rattle.field_checks.proofs.KindLaws.{KindId, kind-id}
+use Rattle.field_checks.specs.File.{AsZone}
+use Rattle.field_checks.proofs.ZoneIdLaws.{zones-read}
 use Rattle.rewrite.proofs.KeptLaws.{preferredData, FieldKept, IsZone, field-kept, field-bytes}
 use Rattle.rewrite.proofs.MovedLaws.{movedTo, moved}
+use Rattle.base.proofs.Tests.{clash}
 
 no-keep : {G : Type 0} {n : ℕ} {m : Memory} → _≡_ {A = Content Memory ⊥} (bad n) (keep m) → G
-no-keep e = let z : _≡_ {A = ℕ} 0 1 = cc in absurd (omega arith)
+no-keep e = clash cc
 
--- EVERY ZONE OF A WELL-FORMED FILE IS READ
-pub record ZoneIn (ts : List (List ℕ)) (d : List ℕ) : Type 0 where
-  pub zone : Zone
-  pub parsed : parseZone (length ts) d ≡ got zone []
-
-abbrev pub Read : List (List ℕ) → Field → Type 0
-Read ts g = g .id ≡ 1 → ZoneIn ts (g .body)
-
-zone-read : (m m′ : Memory) (g : Field) → job .content m g ≡ keep m′ → Read (m .pool) g
-unfolding judged zoneKept
-zone-read m m′ g e i = go (parseZone (length (m .pool)) (g .body)) refl (rw (ne-eqb (g .id) 0 (λ z. omega arith), eq-eqb (g .id) 1 i) at e)
-  where
-    go : (p : Parsed Zone) → parseZone (length (m .pool)) (g .body) ≡ p → zoneIn m p ≡ keep m′ → ZoneIn (m .pool) (g .body)
-    go (faulty n) h k = no-keep k
-    go (got z r) h k = record { zone = z; parsed = h ∙ ap (got z) (zone-sound (length (m .pool)) (g .body) z r h .1) }
-
-pass-read : (ts : List (List ℕ)) (gs : List Field) (m m′ : Memory) → m .pool ≡ ts → All (λ g. 0 < g .id) gs
-    → pass (job .content) m gs ≡ next m′ → All (Read ts) gs
-unfolding pass
-pass-read ts [] m m′ q a h = all-none
-pass-read ts (g ∷ gs) m m′ q a h =
-    let s = pass-head (job .content) m m′ g gs h in
-    let w = field-grows m g (all-head a) (s .0) (s .1) in
-    all-also (rw q at (zone-read m (s .0) g (s .1))) (pass-read ts gs (s .0) m′ (w .pool ∙ q) (all-tail a) (rw (s .1) at h))
-
-pub bodies-known : (f : List ℕ) → WellFormed f → All (Read (filePool (fields f))) (fields f)
-unfolding filePool pass
-bodies-known f w = go (fields f) (walk-ended job start (w .memory) f (length f) (w .ends) .kept) (listing-chain f 255)
-  where
-    go : (gs : List Field) → pass (job .content) start gs ≡ next (w .memory) → Chain f false 0 4 gs → All (Read (filePool gs)) gs
-    go [] e c = all-none
-    go (g ∷ gs) e c =
-        let z = chain-first f 4 g gs c in
-        let s = pass-head (job .content) start (w .memory) g gs e in
-        all-also (λ (i : g .id ≡ 1). absurd (omega (arith, z .0)))
-        (pass-read (stringsOf (g .body)) gs (s .0) (w .memory) (first-pool g (s .0) (z .0) (s .1)) (z .1) (rw (s .1) at e))
-
--- so the preferred data of every field of a well-formed file keep all that the zone's law says
+-- the preferred data of every field of a well-formed file keep all that the zone's law says
 pub fields-kept : (f : List ℕ) → WellFormed f → Bytes f → All FieldKept (fields f)
-fields-kept f w b = go (filePool (fields f)) (fields f) (bodies-known f w) (chain-fields f false 0 4 (fields f) (listing-chain f 255))
+fields-kept f w b = go (filePool (fields f)) (fields f) (zones-read f w) (chain-fields f false 0 4 (fields f) (listing-chain f 255))
   where
-    go : (ts : List (List ℕ)) (gs : List Field) → All (Read ts) gs → All (FieldOf f) gs → All FieldKept gs
+    go : (ts : List (List ℕ)) (gs : List Field) → All (AsZone ts) gs → All (FieldOf f) gs → All FieldKept gs
     go ts [] r o = all-none
     go ts (g ∷ gs) r o =
         let z : g .id ≡ 1 → IsZone (g .body) = λ i. record {
@@ -139,20 +103,18 @@ module _ (x x′ y : Memory) (s : SameMemory x y) where
 
   field-moved : (g : Field) (at : ℕ) → FieldKept g → job .content x g ≡ keep x′ → Beside x′ (job .content y (movedTo at g))
   unfolding judged poolKept
-  field-moved g at k e = go (eqb (g .id) 0) refl (eqb (g .id) 1) refl (eqb (g .id) 2) refl e
+  field-moved g at k e = go (kindOf (g .id)) (kind-id (g .id)) e
     where
-      go : (p : Bool) → eqb (g .id) 0 ≡ p → (q : Bool) → eqb (g .id) 1 ≡ q → (r : Bool) → eqb (g .id) 2 ≡ r
-          → pick p (poolKept x (g .body)) (pick q (zoneKept x (g .body)) (pick r (textKept x (g .start) (g .body)) (keep x))) ≡ keep x′
-          → Beside x′ (judged y (g .id) (movedTo at g .start) (preferredData (g .id) (g .body)))
-      go true z q u r v h =
-          let c : preferredData (g .id) (g .body) ≡ g .body = k .copied (λ i. omega (arith, eqb-true (g .id) 0 z)) in
-          rw (z, c) (pool-moved (parsePool (g .body)) h)
-      go false z true u r v h =
-          rw (z, u) (zone-moved (g .body) (preferredData (g .id) (g .body)) (k .zone (eqb-true (g .id) 1 u)) h)
-      go false z false u true v h =
-          let c : preferredData (g .id) (g .body) ≡ g .body = k .copied (eqb-false (g .id) 1 u) in
-          rw (z, u, v, c) (text-moved (g .start) _ (g .body) h)
-      go false z false u false v h = let w : x ≡ x′ = cc in rw (z, u, v) (y, refl, rw w at s)
+      go : (t : Kind) → KindId (g .id) t → contentBy t x (g .start) (g .body) ≡ keep x′
+          → Beside x′ (contentBy t y (movedTo at g .start) (preferredData (g .id) (g .body)))
+      go poolField i h =
+          let c : preferredData (g .id) (g .body) ≡ g .body = k .copied (λ j. omega arith) in
+          rw c (pool-moved (parsePool (g .body)) h)
+      go zoneField i h = zone-moved (g .body) (preferredData (g .id) (g .body)) (k .zone i) h
+      go textField i h =
+          let c : preferredData (g .id) (g .body) ≡ g .body = k .copied (λ j. omega arith) in
+          rw c (text-moved (g .start) _ (g .body) h)
+      go otherField i h = let w : x ≡ x′ = cc in (y, refl, rw w at s)
 
 -- THE CHECK KEEPS THE MOVED FIELDS
 pub pass-moved : (gs : List Field) (at : ℕ) (x x′ y : Memory) → All FieldKept gs → SameMemory x y → pass (job .content) x gs ≡ next x′

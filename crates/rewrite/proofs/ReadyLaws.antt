@@ -2,19 +2,16 @@
 use mathlib.Core.Path.{_≡_, refl, sym, ap, _∙_, subst⁻¹}
 use mathlib.Core.Bool.{Bool, true, false}
 use mathlib.Core.List.{List, [], _∷_, _++_, append-nil, append-assoc}
-use Prim.Native.Nat.{ℕ, zero, suc, _+_, _-_, _≤_, _<_}
+use Prim.Native.Nat.{ℕ, _+_, _-_, _≤_, _<_}
 use native.Mathlib.Omega.{arith}
-use lib.ListN.{length, drop, length-append}
+use lib.ListN.{length, length-append}
 use lib.Dec.{leb}
 use Rattle.base.proofs.Parts.{Bytes}
-use Rattle.frames.specs.Frame.{frame, Field}
-use Rattle.frames.specs.Fields.{FieldOf, endAt, listed, scan, listing, fields}
-use Rattle.frames.specs.declared.Frame.{Frame}
-use Rattle.frames.specs.declared.Frame.the-variants.{End, Cut, Refused, Version, Whole}
+use Rattle.frames.specs.Frame.{Field}
+use Rattle.frames.specs.Fields.{FieldOf, fields}
 use Rattle.base.specs.All.{All, all-none, all-also}
 use Rattle.base.proofs.AllLaws.{all-head, all-tail}
-use Rattle.frames.proofs.HeadLaws.{version-place}
-use Rattle.frames.proofs.ChainLaws.{Chain, listing-chain, chain-fields}
+use Rattle.frames.proofs.ChainLaws.{listing-chain, chain-fields}
 use Rattle.frames.proofs.PartLaws.{walk-ended}
 use Rattle.field_checks.specs.Check.{start, job, WellFormed, filePool, checkOf}
 use Rattle.field_checks.specs.declared.Verdict.{Verdict}
@@ -24,47 +21,18 @@ use Rattle.pieces.specs.View.{HasContent, Put}
 use Rattle.pieces.proofs.PutLaws.{InTwo}
 use Rattle.rewrite.specs.Preferred.{contents, content, printField, printFields, printFile, preferred, rewriteOf, outputOf}
 use Rattle.rewrite.specs.declared.Rewritten.the-variants.{Length, Refused as Unwritten}
-use Rattle.rewrite.specs.View.{Covers, Readable, Ready, IsField, fieldWith, partOf}
+use Rattle.frames.specs.Covers.{Covers}
+use Rattle.frames.proofs.CoverLaws.{listing-covers}
+use Rattle.field_checks.specs.File.{AsZone}
+use Rattle.field_checks.proofs.ZoneIdLaws.{zones-read}
+use Rattle.rewrite.specs.View.{Readable, Rewritable, IsField, fieldWith, partOf}
 use Rattle.rewrite.specs.declared.Extent.{Extent}
 use Rattle.rewrite.proofs.ZoneLaws.{zone-kept}
 use Rattle.rewrite.proofs.KeptLaws.{field-bytes}
-use Rattle.rewrite.proofs.PassMovedLaws.{Read, bodies-known}
 use Rattle.rewrite.proofs.Rewriting.{never-longer, preferred-limit}
 
--- fields up to the bytes' end cover them
-module _ (f : List ℕ) where
-  scan-covers : (k at : ℕ) (seen : Bool) (prev : ℕ) (r : List ℕ) → 0 < at → scan k 255 at seen prev r .ending ≡ endAt (length f)
-      → Chain f seen prev at (scan k 255 at seen prev r .fields) → Covers f at (scan k 255 at seen prev r .fields)
-  unfolding scan
-  scan-covers zero at seen prev r a e c = let z : _≡_ {A = ℕ} 0 1 = cc in absurd (omega arith)
-  scan-covers (suc k) at seen prev r a e c = go (frame 255 at seen prev r) refl e c (scan-covers k)
-    where
-      go : (x : Frame) → frame 255 at seen prev r ≡ x → listed at r x (scan k 255) .ending ≡ endAt (length f)
-          → Chain f seen prev at (listed at r x (scan k 255) .fields)
-          → ((p : ℕ) (s : Bool) (v : ℕ) (q : List ℕ) → 0 < p → scan k 255 p s v q .ending ≡ endAt (length f)
-          → Chain f s v p (scan k 255 p s v q .fields) → Covers f p (scan k 255 p s v q .fields))
-          → Covers f at (listed at r x (scan k 255) .fields)
-      go End h e c rec = cc
-      go Cut h e c rec = let z : _≡_ {A = ℕ} 0 1 = cc in absurd (omega arith)
-      go (Refused n) h e c rec = let z : _≡_ {A = ℕ} 0 1 = cc in absurd (omega arith)
-      go Version h e c rec = absurd (omega (arith, version-place 255 at seen prev r h))
-      go (Whole i u n) h e c rec = (c .0, c .1, rec (at + (u + n)) true i (drop (u + n) r) (omega arith) e (c .3))
-
-  listing-covers : listing 255 f .ending ≡ endAt (length f) → (fields f ≡ [] → ⊥) → Covers f 4 (fields f)
-  unfolding listing scan
-  listing-covers e n = go (frame 255 0 false 0 f) refl e n (listing-chain f 255)
-    where
-      go : (x : Frame) → frame 255 0 false 0 f ≡ x → listed 0 f x (scan (length f) 255) .ending ≡ endAt (length f)
-          → (listed 0 f x (scan (length f) 255) .fields ≡ [] → ⊥)
-          → Chain f false 0 4 (listed 0 f x (scan (length f) 255) .fields) → Covers f 4 (listed 0 f x (scan (length f) 255) .fields)
-      go End h e n c = absurd (n refl)
-      go Cut h e n c = absurd (n refl)
-      go (Refused m) h e n c = absurd (n refl)
-      go Version h e n c = scan-covers (length f) 4 false 0 (drop 4 f) (omega arith) e c
-      go (Whole i u m) h e n c = absurd (omega arith)
-
 -- every zone of a well-formed file has a content that can be printed
-zones-readable : (f : List ℕ) (gs : List Field) → Bytes f → All (Read (filePool (fields f))) gs → All (FieldOf f) gs → All Readable gs
+zones-readable : (f : List ℕ) (gs : List Field) → Bytes f → All (AsZone (filePool (fields f))) gs → All (FieldOf f) gs → All Readable gs
 zones-readable f [] b r o = all-none
 zones-readable f (g ∷ gs) b r o = all-also first (zones-readable f gs b (all-tail r) (all-tail o))
   where
@@ -75,11 +43,11 @@ zones-readable f (g ∷ gs) b r o = all-also first (zones-readable f gs b (all-t
         record { content = contentOf 1 (g .body); is = k .read; shorter = k .shorter; exact = k .exact }
 
 -- A WELL-FORMED FILE IS READY to be rewritten
-pub file-ready : (f : List ℕ) → WellFormed f → Bytes f → Ready f
+pub file-ready : (f : List ℕ) → WellFormed f → Bytes f → Rewritable f
 file-ready f w b =
     record {
       covers = listing-covers f (walk-ended job start (w .memory) f (length f) (w .ends) .whole) (w .some-field);
-      readable = zones-readable f (fields f) b (bodies-known f w) (chain-fields f false 0 4 (fields f) (listing-chain f 255));
+      readable = zones-readable f (fields f) b (zones-read f w) (chain-fields f false 0 4 (fields f) (listing-chain f 255));
       shorter = never-longer f w b;
       limit = preferred-limit f w b;
     }
@@ -91,7 +59,7 @@ pub record Walking (f : List ℕ) (at : ℕ) (done : List ℕ) : Type 0 where
   pub readable : All Readable rest
   pub all : printFields (content f) ≡ done ++ printFields (contents rest)
 
-pub walking-start : (f : List ℕ) → Ready f → Walking f 4 []
+pub walking-start : (f : List ℕ) → Rewritable f → Walking f 4 []
 walking-start f r = record { rest = fields f; covers = r .covers; readable = r .readable; all = refl }
 
 pub walking-done : (f : List ℕ) (at : ℕ) (done : List ℕ) → Walking f at done → length f ≤ at → printFields (content f) ≡ done

@@ -16,23 +16,20 @@ use Rattle.field_checks.specs.Check.{start, job, WellFormed}
 use Rattle.rewrite.specs.Preferred.{contents, content, preferred, printFile}
 use Rattle.rewrite.proofs.MovedLaws.{moved, preferred-listing, moved-contents, preferred-within}
 use Rattle.rewrite.proofs.PassMovedLaws.{fields-kept, pass-moved}
+use Rattle.base.proofs.Tests.{clash}
 
 -- SAME CONTENT, SAME FILE: files of the same content have the same preferred file
 pub same-preferred : (f h : List ℕ) → content f ≡ content h → preferred f ≡ preferred h
 same-preferred f h e = ap printFile e
 
--- THE ONE PREFERRED FILE: a file of the content of f that is preferred itself is the preferred file of f
-pub only-preferred : (f h : List ℕ) → content h ≡ content f → preferred h ≡ h → h ≡ preferred f
-only-preferred f h e p = sym p ∙ same-preferred h f e
-
 -- no field is lost
 none-moved : (at : ℕ) (gs : List Field) → moved at gs ≡ [] → gs ≡ []
 unfolding moved
 none-moved at [] e = refl
-none-moved at (g ∷ gs) e = let z : _≡_ {A = ℕ} 0 1 = cc in absurd (omega arith)
+none-moved at (g ∷ gs) e = clash cc
 
 -- a well-formed file has the version
-version-there : (f : List ℕ) (gs : List Field) → Chain f false 0 4 gs → (gs ≡ [] → ⊥) → 4 ≤ length f
+pub version-there : (f : List ℕ) (gs : List Field) → Chain f false 0 4 gs → (gs ≡ [] → ⊥) → 4 ≤ length f
 version-there f [] c n = absurd (n refl)
 version-there f (g ∷ gs) c n = omega (arith, c .0, c .1 .starts, c .1 .ends, c .1 .within)
 

@@ -20,18 +20,11 @@ use Rattle.intervals.specs.declared.Interval.{Interval}
 use Rattle.zones.specs.Content.{Zone}
 use Rattle.zones.specs.Parse.{parseZone, afterId, afterFlag, afterCount, parseFixed, parseListed, afterIntervals, afterEnd}
 use Rattle.zones.proofs.SoundLaws.{zone-sound}
-use Rattle.pieces.specs.Content.{Piece, Content, plain, upTo, parseHead, afterHead, parseContent, contentOf, parsePieces, printPieces, print}
+use Rattle.pieces.specs.Content.{Piece, Content, plain, bytesUpTo, parseHead, afterHead, parseContent, contentOf, parsePieces, printPieces, print}
 use Rattle.pieces.specs.Content.{afterId as afterName, afterFlag as behindFlag, afterCount as behindCount}
+use Rattle.rewrite.specs.Kept.{ZoneKept}
 use Rattle.rewrite.proofs.CodeLaws.{Front, count-front, byte-front, up-to-front}
 use Rattle.rewrite.proofs.IntervalsLaws.{NameFront, name-front, list-kept}
-
--- what the preferred data of the zone z, read from d, keep
-pub record ZoneKept (pool : ℕ) (d : List ℕ) (z : Zone) : Type 0 where
-  pub read : parseContent d ≡ got (contentOf 1 d) []
-  pub same : contentOf 1 (print (contentOf 1 d)) ≡ contentOf 1 d
-  pub shorter : length (print (contentOf 1 d)) ≤ length d
-  pub exact : length (print (contentOf 1 d)) ≡ length d → print (contentOf 1 d) ≡ d
-  pub parses : parseZone pool (print (contentOf 1 d)) ≡ got z []
 
 content-is : (d : List ℕ) (c : Content) → parseContent d ≡ got c [] → contentOf 1 d ≡ c
 unfolding contentOf
@@ -55,7 +48,7 @@ fixed-kept : (pool : ℕ) (d : List ℕ) (z : Zone) (id : ℕ) (r s : List ℕ) 
     → parseZone pool d ≡ got z [] → ZoneKept pool d z
 unfolding parseContent parseHead afterName behindFlag afterHead parsePieces print printPieces
 fixed-kept pool d z id r s e f p =
-    let u : upTo d [] ≡ d = ap (λ (y : List ℕ). upTo y []) (sym (append-nil d)) ∙ up-to-front d [] in
+    let u : bytesUpTo d [] ≡ d = ap (λ (y : List ℕ). bytesUpTo y []) (sym (append-nil d)) ∙ up-to-front d [] in
     let c : parseContent d ≡ got (plain d) [] = rw (e, f) (ap (λ (y : List ℕ). got (plain y) []) u) in
     let k : print (plain d) ≡ d = append-nil d in
     of-content pool d z (plain d) c (ap parseContent k ∙ c) (rw k (omega arith)) (λ l. k) (ap (parseZone pool) k ∙ p)

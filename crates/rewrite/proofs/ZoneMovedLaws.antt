@@ -14,9 +14,9 @@ use Rattle.base.specs.All.{All, all-none, all-also}
 use Rattle.base.proofs.AllLaws.{all-head, all-tail}
 use Rattle.frames.proofs.ChainLaws.{Chain, chain-first}
 use Rattle.field_checks.specs.Check.{filePool, HasId}
+use Rattle.field_checks.specs.File.{AsZone}
 use Rattle.rewrite.proofs.KeptLaws.{preferredData, FieldKept}
 use Rattle.rewrite.proofs.MovedLaws.{movedTo, moved}
-use Rattle.rewrite.proofs.PassMovedLaws.{Read}
 
 -- field 0 is copied
 pub moved-pool : (f : List ℕ) (at : ℕ) (gs : List Field) → Chain f false 0 4 gs → All FieldKept gs → filePool (moved at gs) ≡ filePool gs
@@ -38,7 +38,7 @@ moved-around at (k ∷ gs) g hs =
 
 module _ (ts : List (List ℕ)) (x : List ℕ) where
   -- a zone with an ID in the preferred file is one with that ID in the file
-  pub moved-has : (at : ℕ) (g : Field) → FieldKept g → Read ts g → HasId ts x (movedTo at g) → HasId ts x g
+  pub moved-has : (at : ℕ) (g : Field) → FieldKept g → AsZone ts g → HasId ts x (movedTo at g) → HasId ts x g
   moved-has at g k r h =
       let d = r (h .is-zone) in
       let p : parseZone (length ts) (preferredData (g .id) (g .body)) ≡ got (d .zone) [] = k .zone (h .is-zone) (length ts) (d .zone) [] (d .parsed) in
@@ -52,7 +52,7 @@ module _ (ts : List (List ℕ)) (x : List ℕ) where
         bytes = subst⁻¹ (λ (u : Zone). getD ts (u .id) [] ≡ x) z (h .bytes);
       }
 
-  pub moved-lacks : (at : ℕ) (gs : List Field) → All FieldKept gs → All (Read ts) gs → All (λ g. HasId ts x g → ⊥) gs
+  pub moved-lacks : (at : ℕ) (gs : List Field) → All FieldKept gs → All (AsZone ts) gs → All (λ g. HasId ts x g → ⊥) gs
       → All (λ g. HasId ts x g → ⊥) (moved at gs)
   unfolding moved
   moved-lacks at [] k r n = all-none

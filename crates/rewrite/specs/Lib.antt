@@ -1,2 +1,4 @@
 pub mod Preferred
 pub mod View
+pub mod Numbers
+pub mod Kept

@@ -1,4 +1,4 @@
--- The content of a file, and its preferred file. Assumes nothing: these are definitions.
+-- The content of a file, and its preferred file. To be believed.
 use Prim.Native.Nat.{ℕ}
 use mathlib.Core.List.{List, [], _∷_, _++_}
 use lib.ListN.{length, drop}

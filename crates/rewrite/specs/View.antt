@@ -1,27 +1,23 @@
--- What the walk over a well-formed file relies on, and what it reads. Assumes nothing: these are definitions.
+-- What the walk over a well-formed file relies on, and what it reads. The code's way: internal functions alone use it; what the rewriter gives is said by Preferred.antt.
 use Prim.Native.Nat.{ℕ, _-_, _≤_}
 use mathlib.Core.Path.{_≡_}
-use mathlib.Core.List.{List, [], _∷_}
+use mathlib.Core.List.{List}
 use lib.ListN.{length, take, drop}
 use Rattle.frames.specs.Frame.{Field}
 use Rattle.frames.specs.Fields.{FieldOf, fields}
+use Rattle.frames.specs.Covers.{Covers}
 use Rattle.base.specs.All.{All}
 use Rattle.pieces.specs.Content.{contentOf}
 use Rattle.pieces.specs.View.{HasContent}
 use Rattle.rewrite.specs.Preferred.{FieldContent, preferred}
 use Rattle.rewrite.specs.declared.Extent.{Extent}
 
--- the fields gs stand in f one behind the other, from the place at to its end
-abbrev pub Covers : List ℕ → ℕ → List Field → Type 0
-Covers f at [] = at ≡ length f
-Covers f at (g ∷ gs) = (g .place ≡ at) × FieldOf f g × Covers f (g .past) gs
-
 -- the data of every zone have a content
 abbrev pub Readable : Field → Type 0
 Readable g = g .id ≡ 1 → HasContent (g .body)
 
 -- what the check of f has shown
-pub record Ready (f : List ℕ) : Type 0 where
+pub record Rewritable (f : List ℕ) : Type 0 where
   pub covers : Covers f 4 (fields f)
   pub readable : All Readable (fields f)
   pub shorter : length (preferred f) ≤ length f

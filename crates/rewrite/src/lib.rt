@@ -11,7 +11,7 @@ ghost use lib.Dec.{leb};
 ghost use Rattle.counts.specs.Count.{writeCount};
 ghost use Rattle.pieces.specs.View.{HasContent, Put};
 ghost use Rattle.rewrite.specs.Preferred.{content, printField, printFields, preferred, rewriteOf, outputOf};
-ghost use Rattle.rewrite.specs.View.{Ready, IsField, fieldWith};
+ghost use Rattle.rewrite.specs.View.{Rewritable, IsField, fieldWith};
 
 // What a rewrite gives.
 pub enum Rewritten {
@@ -105,7 +105,7 @@ fn write_field(i: u8, d: &[u8], out: &mut [u8]) -> usize
 
 // The length of the preferred file.
 fn total(s: &[u8]) -> usize
-    requires { ⌜ Ready (now s) ⌝ }
+    requires { ⌜ Rewritable (now s) ⌝ }
     ensures { λ r. ⌜ r ≡ length (preferred (now (s .entry))) ⌝ }
 {
     let mut n = 0;
@@ -122,7 +122,7 @@ fn total(s: &[u8]) -> usize
 
 // Whether an output has room for the preferred file, which is never longer than its source.
 fn has_room(s: &[u8], room: usize) -> bool
-    requires { ⌜ Ready (now s) ⌝ }
+    requires { ⌜ Rewritable (now s) ⌝ }
     ensures { λ r. ⌜ r ≡ leb (length (preferred (now (s .entry)))) room ⌝ }
 {
     if s.len() <= room {
@@ -145,7 +145,7 @@ fn write_version(out: &mut [u8]) -> usize
 
 // Writes the fields of the preferred file.
 fn write_fields(s: &[u8], out: &mut [u8]) -> usize
-    requires { ⌜ Ready (now s) × (length (printFields (content (now s))) ≤ length (now out)) ⌝ }
+    requires { ⌜ Rewritable (now s) × (length (printFields (content (now s))) ≤ length (now out)) ⌝ }
     ensures { λ r. ⌜ Put (printFields (content (now (s .entry)))) (now (out .entry)) r (now (out .exit)) ⌝ }
 {
     let mut w = 0;
@@ -162,7 +162,7 @@ fn write_fields(s: &[u8], out: &mut [u8]) -> usize
 
 // Writes the preferred file.
 fn write_file(s: &[u8], out: &mut [u8]) -> usize
-    requires { ⌜ Ready (now s) × (length (preferred (now s)) ≤ length (now out)) ⌝ }
+    requires { ⌜ Rewritable (now s) × (length (preferred (now s)) ≤ length (now out)) ⌝ }
     ensures { λ r. ⌜ Put (preferred (now (s .entry))) (now (out .entry)) r (now (out .exit)) ⌝ }
 {
     let w = write_version(out);

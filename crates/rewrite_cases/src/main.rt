@@ -2,7 +2,7 @@
 // the front, the unit so many times, and the end. All is in hexadecimal, `-` for no bytes; the room and the times have three bytes.
 // The output has so many bytes as the room says, all AA before. For each line it writes `0` and the preferred file's length, or the
 // number and the place of a refusal; then the whole output as it is found after. An output of more than 512 bytes is written as its first
-// 256 bytes, its Adler-32 checksum and its last 32 bytes. The stored output comes from tests/rewrite_cases/make.py.
+// 256 bytes, its Adler-32 checksum and its last 32 bytes. The stored output comes from tests/make/rewrite_cases.py.
 use libc::STDIN_FILENO;
 use libc::STDOUT_FILENO;
 use rewrite::Rewritten;

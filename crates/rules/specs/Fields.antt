@@ -1,4 +1,4 @@
--- A rule from its fields in the file, each judged as soon as it is read. Assumes nothing: these are definitions.
+-- A rule from its fields in the file, each judged as soon as it is read. To be believed.
 use mathlib.Core.Path.{_≡_}
 use mathlib.Core.Bool.{Bool, true}
 use Prim.Native.Nat.{ℕ, _+_, _-_, _/_, _%_}
@@ -15,7 +15,8 @@ byteOk b = both (leb b 127) (ltb (b / 32 % 4) 3)
 unfoldable pub monthOk : ℕ → Bool
 monthOk month = both (leb 1 month) (leb month 12)
 
--- "day as signed count", as the number that stands in the file: 0, -1, 1, -2 map to 0, 1, 2, 3
+-- "day as signed count", as the number that stands in the file: 0, -1, 1, -2 map to 0, 1, 2, 3. Sign and size of the signed count
+-- (signed-day in proofs/DayLaws.antt)
 abbrev pub fromEnd : ℕ → Bool
 fromEnd z = eqb (z % 2) 1
 

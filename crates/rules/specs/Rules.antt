@@ -1,4 +1,4 @@
--- A rule and its ranges. Assumes nothing: these are definitions.
+-- A rule and its ranges. To be believed.
 use mathlib.Core.Bool.{Bool}
 use Prim.Native.Nat.{ℕ, _+_, _≤_, _<_}
 use Rattle.base.specs.Pick.{pick}

@@ -82,20 +82,20 @@ module _ (bias low high : ℕ) where
       go false e k = absurd (omega arith)
 
   -- in range, or 0
-  pub record InRange (b : ℕ) : Type 0 where
+  pub record BiasedIn (b : ℕ) : Type 0 where
     pub least : bias ≤ b + suc low
     pub most : b ≤ high + bias
 
-  pub biased-range : low < bias → (t : ℤ) → (biasedOf bias low high t ≡ 0) ⊎ InRange (biasedOf bias low high t)
+  pub biased-range : low < bias → (t : ℤ) → (biasedOf bias low high t ≡ 0) ⊎ BiasedIn (biasedOf bias low high t)
   unfolding biasedOf
   biased-range h (pos n) = go (leb n high) refl
     where
-      go : (t : Bool) → leb n high ≡ t → (pick t (n + bias) 0 ≡ 0) ⊎ InRange (pick t (n + bias) 0)
+      go : (t : Bool) → leb n high ≡ t → (pick t (n + bias) 0 ≡ 0) ⊎ BiasedIn (pick t (n + bias) 0)
       go true e = inr (record { least = omega arith; most = omega (arith, leb-true n high e) })
       go false e = inl refl
   biased-range h (negsuc n) = go (leb n low) refl
     where
-      go : (t : Bool) → leb n low ≡ t → (pick t (bias - suc n) 0 ≡ 0) ⊎ InRange (pick t (bias - suc n) 0)
+      go : (t : Bool) → leb n low ≡ t → (pick t (bias - suc n) 0 ≡ 0) ⊎ BiasedIn (pick t (bias - suc n) 0)
       go true e = let l : n ≤ low = leb-true n low e in inr (record { least = omega arith; most = omega arith })
       go false e = inl refl
 
@@ -120,7 +120,7 @@ instant-ticks b h =
 finite-or-none : (t : ℤ) → (instantOf t ≡ 0) ⊎ Finite (instantOf t)
 finite-or-none t = go (biased-range epoch 621355967999999999 2534023007999999999 (omega arith) t)
   where
-    go : (instantOf t ≡ 0) ⊎ InRange epoch 621355967999999999 2534023007999999999 (instantOf t) → (instantOf t ≡ 0) ⊎ Finite (instantOf t)
+    go : (instantOf t ≡ 0) ⊎ BiasedIn epoch 621355967999999999 2534023007999999999 (instantOf t) → (instantOf t ≡ 0) ⊎ Finite (instantOf t)
     go (inl e) = inl e
     go (inr r) = inr (record { low = omega arith; high = omega arith })
 
@@ -226,7 +226,7 @@ milliseconds-sum z h = back-biased 86400000 86399998 86399999 (omega arith) z h
 pub sum-range : (z : ℤ) → sumOf z ≤ 172799999
 sum-range z = go (biased-range 86400000 86399998 86399999 (omega arith) z)
   where
-    go : (sumOf z ≡ 0) ⊎ InRange 86400000 86399998 86399999 (sumOf z) → sumOf z ≤ 172799999
+    go : (sumOf z ≡ 0) ⊎ BiasedIn 86400000 86399998 86399999 (sumOf z) → sumOf z ≤ 172799999
     go (inl e) = omega arith
     go (inr r) = omega arith
 

@@ -1,5 +1,6 @@
--- Signed ticks since 1970 and moments. Assumes nothing: these are definitions.
+-- Signed ticks since 1970 and moments. To be believed.
 use Prim.Native.Nat.{ℕ, suc, _+_, _-_}
+use mathlib.Core.Path.{_≡_}
 use lib.Dec.{ltb, leb, eqb}
 use lib.IntN.{ℤ, pos, negsuc, subℕ}
 use mir.Syntax.{w64}
@@ -16,6 +17,10 @@ biasedOf bias low high (negsuc n) = pick (leb n low) (bias - suc n) 0
 -- start of time for any other
 abbrev pub instantOf : ℤ → ℕ
 instantOf z = biasedOf epoch 621355967999999999 2534023007999999999 z
+
+-- an instant from year 1 to year 9999: a signed tick in that range
+abbrev pub InRange : ℤ → Type 0
+InRange z = instantOf z ≡ 0 → ⊥
 
 -- a moment as a signed tick: the marks are the least and the largest 64-bit number
 abbrev pub ticksOf : ℕ → ℤ

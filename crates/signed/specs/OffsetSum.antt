@@ -1,4 +1,4 @@
--- Signed milliseconds and the offset code's sum. Assumes nothing: these are definitions.
+-- Signed milliseconds and the offset code's sum. To be believed.
 use Prim.Native.Nat.{ℕ}
 use lib.IntN.{ℤ, subℕ}
 use Rattle.signed.specs.Instant.{biasedOf}

@@ -1,4 +1,4 @@
--- The map of the signed count. Assumes nothing: these are definitions.
+-- The map of the signed count. To be believed.
 use Prim.Native.Nat.{ℕ, _+_, _*_, _/_, _%_}
 use lib.Dec.{leb, eqb}
 use lib.IntN.{ℤ, pos, negsuc}

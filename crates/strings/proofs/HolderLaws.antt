@@ -4,20 +4,29 @@ use mathlib.Core.List.{List, []}
 use Prim.Native.Nat.{ℕ, _+_, _-_, _≤_, _<_}
 use native.Mathlib.Omega.{arith}
 use lib.ListN.{length, take, drop, getD}
+use borrow.Author.Tests.{le-leb, lt-leb}
 use Rattle.pool.specs.Pool.{stringsOf}
-use Rattle.strings.specs.Holder.{textOf, Held}
+use Rattle.pool.specs.Index.{spanOf}
+use Rattle.pool.proofs.StringLaws.{span-inside, span-string}
+use Rattle.strings.specs.Holder.{partAt, textOf}
 use Rattle.strings.specs.declared.Holder.{Holder}
 use Rattle.strings.specs.declared.Holder.the-variants.{InPool, InField}
 
-module _ (d f : List ℕ) (h : Holder) where
-  pub in-pool : (k : ℕ) → Held d f h → h ≡ InPool k → k < length (stringsOf d)
-  in-pool k p e = rw e at (p .there)
+-- ways out of the part
+module _ (s : List ℕ) (a n : ℕ) where
+  pub part-out : length s < a + n → [] ≡ partAt s a n
+  part-out h = rw (lt-leb (a + n) (length s) h)
 
-  pub in-field : (a n : ℕ) → Held d f h → h ≡ InField a n → a + n ≤ length f
-  in-field a n p e = rw e at (p .there)
+  pub part-in : a + n ≤ length s → take (a + n - a) (drop a s) ≡ partAt s a n
+  part-in h = let z : a + n - a ≡ n = omega arith in rw (le-leb (a + n) (length s) h, z)
 
-  pub text-pool : (k : ℕ) (t : List ℕ) → h ≡ InPool k → t ≡ getD (stringsOf d) k [] → t ≡ textOf d f h
-  text-pool k t e q = rw e q
+module _ (d f : List ℕ) (h : Holder) (a n : ℕ) (t : List ℕ) where
+  pub text-pool : h ≡ InPool a n → t ≡ partAt d a n → t ≡ textOf d f h
+  text-pool e q = rw e q
 
-  pub text-field : (a n : ℕ) → h ≡ InField a n → take (a + n - a) (drop a f) ≡ textOf d f h
-  text-field a n e = let z : a + n - a ≡ n = omega arith in rw (e, z)
+  pub text-field : h ≡ InField a n → t ≡ partAt f a n → t ≡ textOf d f h
+  text-field e q = rw e q
+
+-- the text of a pool number is that string of the pool
+pub text-number : (d f : List ℕ) (k : ℕ) → k < length (stringsOf d) → textOf d f (InPool (spanOf d k .at) (spanOf d k .len)) ≡ getD (stringsOf d) k []
+text-number d f k l = rw (le-leb _ _ (span-inside d k l)) (span-string d k l)

@@ -3,14 +3,14 @@ use base::Read;
 use pool::Span;
 ghost use mathlib.Core.Path.{_≡_};
 ghost use mathlib.Core.List.{[]};
-ghost use Prim.Native.Nat.{_+_, _-_, _<_};
+ghost use Prim.Native.Nat.{_<_};
 ghost use lib.ListN.{length, getD};
 ghost use lib.Dec.{eqb};
 ghost use Rattle.base.specs.Pick.{pick};
 ghost use Rattle.pool.specs.Pool.{stringsOf};
 ghost use Rattle.pool.specs.Index.{Ready, spanOf};
 ghost use Rattle.base.specs.Equal.{equal};
-ghost use Rattle.strings.specs.Holder.{textOf, Held};
+ghost use Rattle.strings.specs.Holder.{partAt, textOf};
 
 // Where the k-th string lies, by the index.
 pub fn span_by(d: &[u8], starts: &[u32], k: usize) -> Span
@@ -39,23 +39,33 @@ pub fn text_by<'a>(d: &'a [u8], starts: &[u32], k: usize) -> &'a [u8]
     &d[a..e]
 }
 
-// Which slice holds a text: the pool, under a number; or the field, from a place on and of a length.
+// Which slice holds a text, the pool's or the field's: the place of its first byte there, and how many bytes it has.
 pub enum Holder {
-    InPool(usize),
+    InPool(usize, usize),
     InField(usize, usize),
 }
 
-// A text, as a part of whichever slice holds it.
-pub fn text_of<'a>(pool: &'a [u8], field: &'a [u8], starts: &[u32], h: Holder) -> &'a [u8]
-    requires { ⌜ Ready (now pool) (now starts) × Held (now pool) (now field) h ⌝ }
+// n bytes of s from the place a on; none where they are not all there.
+fn part_at<'a>(s: &'a [u8], a: usize, n: usize) -> &'a [u8]
+    ensures { λ r. ⌜ now r ≡ partAt (now (s .entry)) a n ⌝ }
+{
+    if s.len() < a {
+        return &s[0..0];
+    }
+    if s.len() - a < n {
+        return &s[0..0];
+    }
+    let e = a + n;
+    &s[a..e]
+}
+
+// A text, as a part of whichever slice holds it; the empty part where it is not there.
+pub fn text_of<'a>(pool: &'a [u8], field: &'a [u8], h: Holder) -> &'a [u8]
     ensures { λ r. ⌜ now r ≡ textOf (now (pool .entry)) (now (field .entry)) h ⌝ }
 {
     match h {
-        Holder::InPool(k) => text_by(pool, starts, k),
-        Holder::InField(a, n) => {
-            let e = a + n;
-            &field[a..e]
-        }
+        Holder::InPool(a, n) => part_at(pool, a, n),
+        Holder::InField(a, n) => part_at(field, a, n),
     }
 }
 
@@ -67,7 +77,7 @@ fn differ(a: u8, b: u8) -> u8
 }
 
 // Whether two strings have the same bytes. The loop has no early exit, so that it compiles to wide operations.
-pub fn same(a: &[u8], b: &[u8]) -> bool
+fn same(a: &[u8], b: &[u8]) -> bool
     ensures { λ r. ⌜ r ≡ equal (now (a .entry)) (now (b .entry)) ⌝ }
 {
     if a.len() != b.len() {

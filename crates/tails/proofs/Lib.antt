@@ -1,1 +1,2 @@
 pub mod TailLaws
+pub mod InOrderLaws

@@ -1,3 +1,4 @@
 pub mod Tail
 pub mod Sound
 pub mod View
+pub mod InOrder

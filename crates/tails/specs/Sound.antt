@@ -1,4 +1,4 @@
--- The ranges of what a tail says. Assumes nothing: these are definitions.
+-- The ranges of what a tail says. To be believed; `tail-sound` (proofs/TailLaws.antt) shows it of what is read.
 use Prim.Native.Nat.{ℕ, _≤_, _<_}
 use mathlib.Core.Path.{_≡_}
 use Rattle.rules.specs.Rules.{RuleOk}

@@ -1,4 +1,5 @@
--- The tail of a zone, read left to right; each thing that is read is judged at once. Assumes nothing: these are definitions.
+-- The tail of a zone, read left to right, for the proofs: each thing that is read is a stage of its own, last stage first. In the paper's order
+-- a rule and a tail stand in InOrder.antt. The code's way, tied to that by `rule-stages` and `tail-stages` (proofs/InOrderLaws.antt).
 use Prim.Native.Nat.{ℕ}
 use mathlib.Core.List.{List}
 use Rattle.base.specs.Pick.{pick}

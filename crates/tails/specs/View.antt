@@ -1,4 +1,4 @@
--- The results of the tail's readers. Assumes nothing: these are definitions.
+-- The results of the tail's readers. The code's way: places in the data, as places' `Stands` has them.
 use Rattle.places.specs.Placed.{Placed, at, no}
 use Rattle.rules.specs.declared.Rule.{Rule}
 use Rattle.tails.specs.declared.Standard.{Standard}

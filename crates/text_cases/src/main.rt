@@ -1,6 +1,6 @@
 // Runs the functions of texts on the lines of its input, bytes in hexadecimal:
 // `u BYTES` whether they are UTF-8, `r BYTES` reading a text, `w TEXT OUTPUT` writing one over an output.
-// The stored output comes from tests/text_cases/make.py.
+// The stored output comes from tests/make/text_cases.py.
 use base::Wrote;
 use libc::STDIN_FILENO;
 use texts::Text;

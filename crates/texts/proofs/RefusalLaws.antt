@@ -3,7 +3,7 @@ use mathlib.Core.Path.{_≡_, refl, sym, _∙_, ap}
 use mathlib.Core.List.{List}
 use mathlib.Core.Bool.{Bool, true, false}
 use mathlib.Core.Logic.{_⊎_, inl, inr}
-use Prim.Native.Nat.{ℕ, _-_, _≤_}
+use Prim.Native.Nat.{ℕ, _-_}
 use native.Mathlib.Omega.{arith}
 use lib.Dec.{ltb}
 use lib.ListN.{length, take, drop}
@@ -13,12 +13,10 @@ use Rattle.base.specs.declared.Read.the-variants.{Value, Refused as Unread}
 use Rattle.counts.specs.Count.{readCount}
 use Rattle.counts.proofs.CountLaws.{count-refused}
 use Rattle.utf8.specs.Utf8.{utf8}
-use Rattle.texts.specs.Text.{sized, readText}
+use Rattle.texts.specs.Text.{textSized, readText}
 use Rattle.texts.specs.declared.Text.the-variants.{Part, Refused}
-
--- 4, or 7 to 9
-abbrev pub Faulty : ℕ → Type 0
-Faulty m = (m ≡ 4) ⊎ ((7 ≤ m) × (m ≤ 9))
+use Rattle.base.proofs.Tests.{clash}
+pub use Rattle.texts.specs.Facts.{Faulty}
 
 -- a count is refused with 7 or 9
 pub count-faulty : (s : List ℕ) (m : ℕ) → readCount s ≡ Unread m → Faulty m
@@ -29,11 +27,11 @@ count-faulty s m e = go (count-refused s (sym e))
     go (inr h) = inr (omega arith, omega arith)
 
 pub text-faulty : (s : List ℕ) (m : ℕ) → readText s ≡ Refused m → Faulty m
-unfolding sized
+unfolding textSized
 text-faulty s m e = go (readCount s) refl e
   where
     three : (n a : ℕ) (t : Bool) → pick t (Part a n) (Refused 8) ≡ Refused m → Faulty m
-    three n a true q = let z : _≡_ {A = ℕ} 0 1 = cc in absurd (omega arith)
+    three n a true q = clash cc
     three n a false q = let z : _≡_ {A = ℕ} 8 m = cc in inr (omega arith, omega arith)
 
     two : (n a : ℕ) (t : Bool) → pick t (Refused 9) (pick (utf8 (take n (drop a s))) (Part a n) (Refused 8)) ≡ Refused m → Faulty m
@@ -44,6 +42,6 @@ text-faulty s m e = go (readCount s) refl e
     one n a true q = let z : _≡_ {A = ℕ} 4 m = cc in inl (sym z)
     one n a false q = two n a (ltb (length s - a) n) q
 
-    go : (g : Read) → readCount s ≡ g → sized s g ≡ Refused m → Faulty m
+    go : (g : Read) → readCount s ≡ g → textSized s g ≡ Refused m → Faulty m
     go (Unread j) h q = let z : j ≡ m = cc in count-faulty s m (h ∙ ap Unread z)
     go (Value n a) h q = one n a (ltb 1024 n) q

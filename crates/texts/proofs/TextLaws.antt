@@ -16,45 +16,38 @@ use Rattle.base.proofs.Parts.{Bytes}
 use Rattle.counts.specs.Count.{readCount, writeCount}
 use Rattle.counts.proofs.CountLaws.{counted, count-written, count-form}
 use Rattle.utf8.specs.Utf8.{utf8}
-use Rattle.texts.specs.Text.{sized, readText, partOf, textBytes, writeText}
+use Rattle.texts.specs.Text.{textSized, readText, partOf, textBytes, writeText}
 use Rattle.texts.specs.declared.Text.{Text}
 use Rattle.texts.specs.declared.Text.the-variants.{Part, Refused}
+use Rattle.base.proofs.Tests.{clash}
+pub use Rattle.texts.specs.Facts.{Held, Fit, Written}
 
 -- what the tests of the reader say
-pub text-is : (s : List ℕ) (g x : Read) → g ≡ readCount s → g ≡ x → sized s x ≡ readText s
-text-is s g x h e = ap (sized s) (sym e ∙ h)
+pub text-is : (s : List ℕ) (g x : Read) → g ≡ readCount s → g ≡ x → textSized s x ≡ readText s
+text-is s g x h e = ap (textSized s) (sym e ∙ h)
 
 pub text-unread : (s : List ℕ) (g : Read) (k : ℕ) → g ≡ readCount s → g ≡ Unread k → Refused k ≡ readText s
-unfolding sized
+unfolding textSized
 text-unread s g k h e = text-is s g (Unread k) h e
 
 module _ (s : List ℕ) (g : Read) (h : g ≡ readCount s) (n a : ℕ) (e : g ≡ Value n a) where
   pub text-long : 1024 < n → Refused 4 ≡ readText s
-  unfolding sized
+  unfolding textSized
   text-long l = rw (lt-ltb 1024 n l) at (text-is s g (Value n a) h e)
 
   module _ (l : n ≤ 1024) where
     pub text-cut : length s - a < n → Refused 9 ≡ readText s
-    unfolding sized
+    unfolding textSized
     text-cut k = rw (le-ltb 1024 n l, lt-ltb (length s - a) n k) at (text-is s g (Value n a) h e)
 
     pub text-tested : (b : Bool) → n ≤ length s - a → b ≡ utf8 (take (a + n - a) (drop a s)) → pick b (Part a n) (Refused 8) ≡ readText s
-    unfolding sized
+    unfolding textSized
     text-tested b k q =
         let z : a + n - a ≡ n = omega arith in
         rw (rw z at q) (rw (le-ltb 1024 n l, le-ltb (length s - a) n k) at (text-is s g (Value n a) h e))
 
--- where the bytes of a text that reads lie, and what they are
-pub record Held (s : List ℕ) (a n : ℕ) : Type 0 where
-  pub count : readCount s ≡ Value n a
-  pub small : n ≤ 1024
-  pub some : 1 ≤ a
-  pub short : a ≤ 5
-  pub inside : a + n ≤ length s
-  pub valid : utf8 (take n (drop a s)) ≡ true
-
 pub held : (s : List ℕ) (a n : ℕ) → readText s ≡ Part a n → Held s a n
-unfolding sized
+unfolding textSized
 held s a n e = go (readCount s) refl e
   where
     three : (m b : ℕ) (t : Bool) → utf8 (take m (drop b s)) ≡ t → Value m b ≡ readCount s → m ≤ 1024 → m ≤ length s - b → pick t (Part b m) (Refused 8) ≡ Part a n → Held s a n
@@ -63,28 +56,23 @@ held s a n e = go (readCount s) refl e
         let j : b ≡ a = cc in
         let c = counted s h in
         record { count = cc; small = omega arith; some = omega (arith, c .some); short = omega (arith, c .size); inside = omega (arith, c .within); valid = rw (i, j) at q }
-    three m b false q h l k p = let z : _≡_ {A = ℕ} 0 1 = cc in absurd (omega arith)
+    three m b false q h l k p = clash cc
 
     two : (m b : ℕ) (t : Bool) → ltb (length s - b) m ≡ t → Value m b ≡ readCount s → m ≤ 1024 → pick t (Refused 9) (pick (utf8 (take m (drop b s))) (Part b m) (Refused 8)) ≡ Part a n → Held s a n
-    two m b true q h l p = let z : _≡_ {A = ℕ} 0 1 = cc in absurd (omega arith)
+    two m b true q h l p = clash cc
     two m b false q h l p = three m b (utf8 (take m (drop b s))) refl h l (ltb-false _ _ q) p
 
     one : (m b : ℕ) (t : Bool) → ltb 1024 m ≡ t → Value m b ≡ readCount s → pick t (Refused 4) (pick (ltb (length s - b) m) (Refused 9) (pick (utf8 (take m (drop b s))) (Part b m) (Refused 8))) ≡ Part a n → Held s a n
-    one m b true q h p = let z : _≡_ {A = ℕ} 0 1 = cc in absurd (omega arith)
+    one m b true q h p = clash cc
     one m b false q h p = two m b (ltb (length s - b) m) refl h (ltb-false _ _ q) p
 
-    go : (g : Read) → g ≡ readCount s → sized s g ≡ Part a n → Held s a n
-    go (Unread k) h p = let z : _≡_ {A = ℕ} 0 1 = cc in absurd (omega arith)
+    go : (g : Read) → g ≡ readCount s → textSized s g ≡ Part a n → Held s a n
+    go (Unread k) h p = clash cc
     go (Value m b) h p = one m b (ltb 1024 m) refl h p
-
--- a text that the writer takes
-pub record Fit (t : List ℕ) : Type 0 where
-  pub small : length t ≤ 1024
-  pub valid : utf8 t ≡ true
 
 -- a text that was written is read back, whatever follows
 pub text-written : (t rest : List ℕ) → Fit t → readText (writeText t ++ rest) ≡ Part (length (writeCount (length t))) (length t)
-unfolding sized
+unfolding textSized
 text-written t rest f =
     let w : List ℕ = writeCount (length t) in
     let s : List ℕ = writeText t ++ rest in
@@ -102,12 +90,6 @@ text-back t rest f =
     ∙ ap (λ (x : List ℕ). take (length t) (drop (length w) x)) (append-assoc w t rest)
     ∙ ap (take (length t)) (drop-append-seam w (t ++ rest))
     ∙ take-append-seam t rest
-
--- a text that reads is the written form of its bytes t: so the form is unique
-pub record Written (s t : List ℕ) (a n : ℕ) : Type 0 where
-  pub fit : Fit t
-  pub size : a + n ≡ length (writeText t)
-  pub form : s ≡ writeText t ++ drop (a + n) s
 
 pub text-form : (s : List ℕ) (a n : ℕ) → Bytes s → readText s ≡ Part a n → Written s (textBytes s) a n
 text-form s a n b e =

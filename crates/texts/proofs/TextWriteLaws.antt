@@ -8,11 +8,11 @@ use lib.ListN.{length, take, drop, length-drop, length-append}
 use lib.Seq.{take-length, take-append-seam, drop-append-seam, drop-drop}
 use borrow.Author.Tests.{lt-ltb, le-ltb, le-leb}
 use borrow.Rule.Slice.PartMut.{putMid}
-use Rattle.base.specs.Writing.{bytes, wrote, placed}
+use Rattle.base.specs.Writing.{bytes, wrote, placed, Writes}
 use Rattle.base.specs.declared.Wrote.{Wrote}
 use Rattle.base.specs.declared.Wrote.the-variants.{Length, Refused}
 use Rattle.base.proofs.Parts.{part-from, put-from}
-use Rattle.base.proofs.WriteLaws.{Writes, no-room, not-carried}
+use Rattle.base.proofs.WriteLaws.{no-room, not-carried}
 use Rattle.counts.specs.Count.{writeCount, countForm}
 use Rattle.utf8.specs.Utf8.{utf8}
 use Rattle.texts.specs.Text.{writeText, textForm}

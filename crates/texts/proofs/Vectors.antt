@@ -6,7 +6,7 @@ use Rattle.base.specs.Writing.{bytes}
 use Rattle.counts.specs.Groups.{readGroups, writeGroups}
 use Rattle.utf8.specs.Utf8.{chars, utf8}
 use Rattle.utf8.specs.CodePoints.{encode}
-use Rattle.texts.specs.Text.{sized, readText, textBytes, textForm}
+use Rattle.texts.specs.Text.{textSized, readText, textBytes, textForm}
 use Rattle.texts.specs.declared.Text.the-variants.{Part, Refused}
 
 -- U+20AC; an overlong slash; a surrogate; U+10FFFF; one past it; a lone tail byte; a cut character
@@ -27,11 +27,11 @@ encodes = refl
 pub reads :
     map readText ((3 ∷ 85 ∷ 84 ∷ 67 ∷ 9 ∷ []) ∷ (3 ∷ 85 ∷ 84 ∷ []) ∷ (1 ∷ 0xff ∷ []) ∷ (0x81 ∷ 8 ∷ []) ∷ (0x80 ∷ 0 ∷ []) ∷ [] ∷ [])
     ≡ Part 1 3 ∷ Refused 9 ∷ Refused 8 ∷ Refused 4 ∷ Refused 7 ∷ Refused 9 ∷ []
-unfolding chars sized readGroups
+unfolding chars textSized readGroups
 reads = refl
 
 pub part : textBytes (3 ∷ 85 ∷ 84 ∷ 67 ∷ 9 ∷ []) ≡ 85 ∷ 84 ∷ 67 ∷ []
-unfolding chars sized readGroups
+unfolding chars textSized readGroups
 part = refl
 
 pub writes : textForm (85 ∷ 84 ∷ 67 ∷ []) ≡ bytes (3 ∷ 85 ∷ 84 ∷ 67 ∷ [])

@@ -1,10 +1,12 @@
 -- "Text: in field 2 (tzdb version) length and bytes stand in place": a count and that many bytes of UTF-8. Assumes nothing: these
 -- are definitions.
 use Prim.Native.Nat.{ℕ, _+_, _-_}
-use mathlib.Core.List.{List, [], _++_}
+use mathlib.Core.List.{List, [], _∷_, _++_}
+use lib.IntN.{pos}
 use lib.ListN.{length, take, drop}
 use lib.Dec.{ltb}
 use Rattle.base.specs.Pick.{pick}
+use Rattle.base.specs.Numbers.{GivenBack, answering, refusing}
 use Rattle.base.specs.Parsed.{Parsed, got, bad}
 use Rattle.base.specs.Writing.{Form, bytes, unfit}
 use Rattle.base.specs.declared.Read.{Read}
@@ -15,13 +17,13 @@ use Rattle.texts.specs.declared.Text.{Text}
 use Rattle.texts.specs.declared.Text.the-variants.{Part, Refused}
 
 -- behind a length n of a bytes: "a length-and-bytes text gives 4, then 9 if cut, then 8"; "1,024 bytes a string"
-unfoldable pub sized : List ℕ → Read → Text
-sized s (Unread k) = Refused k
-sized s (Value n a) = pick (ltb 1024 n) (Refused 4) (pick (ltb (length s - a) n) (Refused 9) (pick (utf8 (take n (drop a s))) (Part a n) (Refused 8)))
+unfoldable pub textSized : List ℕ → Read → Text
+textSized s (Unread k) = Refused k
+textSized s (Value n a) = pick (ltb 1024 n) (Refused 4) (pick (ltb (length s - a) n) (Refused 9) (pick (utf8 (take n (drop a s))) (Part a n) (Refused 8)))
 
 -- "a value's code (7) comes before its use": the length's own refusals come first
 abbrev pub readText : List ℕ → Text
-readText s = sized s (readCount s)
+readText s = textSized s (readCount s)
 
 abbrev pub partOf : List ℕ → Text → List ℕ
 partOf s (Part a n) = take n (drop a s)
@@ -46,3 +48,8 @@ writeText t = writeCount (length t) ++ t
 -- "writing, .. (for a text 4, then 8)"
 abbrev pub textForm : List ℕ → Form
 textForm t = pick (ltb 1024 (length t)) (unfit 4) (pick (utf8 t) (bytes (writeText t)) (unfit 8))
+
+-- document 01's number, place and values of a text that is read: the place of its bytes and how many they are
+abbrev pub givenByText : Text → GivenBack
+givenByText (Part a n) = answering (pos a ∷ pos n ∷ [])
+givenByText (Refused k) = refusing k 0

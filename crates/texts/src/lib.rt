@@ -5,7 +5,7 @@ ghost use mathlib.Core.Path.{_≡_};
 ghost use Prim.Native.Nat.{_+_, _≤_, _<_};
 ghost use lib.ListN.{length, take};
 ghost use mathlib.Core.Bool.{true};
-ghost use Rattle.base.specs.Writing.{bytes, wrote, placed};
+ghost use Rattle.base.specs.Writing.{bytes, Writes};
 ghost use Rattle.utf8.specs.Utf8.{utf8};
 ghost use Rattle.utf8.specs.Ascii.{ascii};
 ghost use Rattle.texts.specs.Text.{readText, textBytes, writeText, textForm};
@@ -70,7 +70,7 @@ pub fn text_bytes<'a>(s: &'a [u8]) -> &'a [u8]
 // Writes a length and the bytes of t, once all of them are known to have room.
 fn write_sized(t: &[u8], out: &mut [u8]) -> Wrote
     requires { ⌜ length (now t) ≤ 1024 ⌝ }
-    ensures { λ r. ⌜ (r ≡ wrote (bytes (writeText (now (t .entry)))) (now (out .entry))) × (now (out .exit) ≡ placed (bytes (writeText (now (t .entry)))) (now (out .entry))) ⌝ }
+    ensures { λ r. ⌜ Writes (bytes (writeText (now (t .entry)))) (now (out .entry)) r (now (out .exit)) ⌝ }
 {
     let n = t.len();
     let a = counts::count_size(n as u64);
@@ -84,7 +84,7 @@ fn write_sized(t: &[u8], out: &mut [u8]) -> Wrote
 
 // Writes t as a text to the front of out.
 pub fn write_text(t: &[u8], out: &mut [u8]) -> Wrote
-    ensures { λ r. ⌜ (r ≡ wrote (textForm (now (t .entry))) (now (out .entry))) × (now (out .exit) ≡ placed (textForm (now (t .entry))) (now (out .entry))) ⌝ }
+    ensures { λ r. ⌜ Writes (textForm (now (t .entry))) (now (out .entry)) r (now (out .exit)) ⌝ }
 {
     if 1024 < t.len() {
         return Wrote::Refused(4);

@@ -1,3 +1,4 @@
 pub mod MomentLaws
+pub mod LaterLaws
 pub mod MomentWriteLaws
 pub mod TransitionLaws

@@ -29,8 +29,8 @@ use Rattle.counts.proofs.CountLaws.{byte-count, Counted, counted, count-written
 use Rattle.counts.proofs.FixedLaws.{fixed-between, fixed-form, length-fixed, fixed-bytes, read-fixed-written}
 use Rattle.signed.specs.Instant.{fromRaw, rawOf}
 use Rattle.signed.proofs.IntegerLaws.{instant-finite, raw-fits, instant-raw, raw-instant}
-use Rattle.transitions.specs.Later.{Later}
 use Rattle.transitions.specs.Transition.{hour, minute, year1800, inRange, hoursAfter, fromCount, fromTicks, afterCount, readMoment, unitsTo, hoursTo, minutesTo, countTo, writeMoment}
+pub use Rattle.transitions.specs.Facts.{MomentRead, MomentSize, Preferred, Longer}
 
 -- ways out of the reader
 pub range-in : (n t : ℕ) → Finite t → Value t n ≡ inRange n t
@@ -56,28 +56,11 @@ ticks-some n raw t e z = ap (λ (x : ℕ). Value x n) e ∙ range-in n (fromRaw 
 
 -- where the count is 2 and eight bytes follow
 module _ (prev : ℕ) (s : List ℕ) where
-  ticks-read : (t : ℕ) → 9 ≤ length s → getD s 0 0 ≡ 2 → t ≡ fromRaw (fixedFrom 8 0 (drop 1 s)) → (t ≡ 0 → ⊥) → readMoment prev s ≡ Value t 9
+  pub ticks-read : (t : ℕ) → 9 ≤ length s → getD s 0 0 ≡ 2 → t ≡ fromRaw (fixedFrom 8 0 (drop 1 s)) → (t ≡ 0 → ⊥) → readMoment prev s ≡ Value t 9
   unfolding readMoment
   ticks-read t l e f z =
       rw (byte-count s 0 (omega arith) (omega arith), e, le-leb 8 (length (drop 1 s)) (rw length-drop (omega arith)))
       (sym (ticks-some 9 (fixedFrom 8 0 (drop 1 s)) t f z))
-
-  pub ticks-later : (raw t : ℕ) → 9 ≤ length s → getD s 0 0 ≡ 2 → firstInstant ≤ prev → raw ≡ fixedFrom 8 0 (take (length s - 1) (drop 1 s)) → t ≡ fromRaw raw
-      → prev < t → Later prev s 9 t
-  ticks-later raw t l e p g u h =
-      let f : t ≡ fromRaw (fixedFrom 8 0 (drop 1 s)) = u ∙ ap fromRaw (rw (part-from 1 s) at g) in
-      let n : t ≡ 0 → ⊥ = λ z. omega arith in
-      let i : Finite t = instant-finite t _ f n in
-      record {
-        previous = λ z. record { low = p; high = omega (arith, i .high) };
-        rises = λ z. h;
-        instant = λ z. i;
-        moment = λ z. ticks-read t l e f n;
-      }
-
-  pub not-later : (n : ℕ) → Later prev s n 0
-  not-later n =
-      record { previous = λ z. absurd (omega arith); rises = λ z. absurd (omega arith); instant = λ z. absurd (omega arith); moment = λ z. absurd (omega arith) }
 
 pub by-start : (p v n : ℕ) → v ≡ 0 → Value startOfTime n ≡ fromCount p v n
 unfolding fromCount
@@ -154,13 +137,6 @@ module _ (p : ℕ) (s : List ℕ) (P : Read → Type 0) where
       go (Value v n) e =
           pick-holds P (eqb v 2) (λ t. ticks-holds w n (rw (eqb-true v 2 t) at e)) (λ _. count-holds w v n e)
       go (Refused k) e = w .refused k
-
--- a moment m that s gives in n bytes
-pub record MomentRead (s : List ℕ) (m n : ℕ) : Type 0 where
-  pub is : Moment m
-  pub some : 1 ≤ n
-  pub size : n ≤ 9
-  pub within : n ≤ length s
 
 abbrev IsMoment : List ℕ → Read → Type 0
 IsMoment s (Value m n) = MomentRead s m n
@@ -322,24 +298,10 @@ moment-written p m rest (inr (inr h)) = rw (write-instant p m h) (go (eqb (count
     go true e = by-ticks p m rest h ∙ ap (Value m) (rw (length-fixed 8 (rawOf m)))
     go false e = let k = count-names p m h (eqb-false (countTo p m) 0 e) in by-name p m (countTo p m) rest (k .small) (k .other) (k .is)
 
--- the written form is 1 to 9 bytes
-pub record MomentSize (p m : ℕ) : Type 0 where
-  pub some : 1 ≤ length (writeMoment p m)
-  pub most : length (writeMoment p m) ≤ 9
-
 pub moment-size : (p m : ℕ) → Moment m → MomentSize p m
 moment-size p m h =
     let r = moment-read p (writeMoment p m ++ []) (sym (moment-written p m [] h)) in
     record { some = r .some; most = r .size }
-
--- a moment that reads from n bytes of s: they are its written form, or that is shorter, and they are more than three
-pub record Preferred (p : ℕ) (s : List ℕ) (m n : ℕ) : Type 0 where
-  pub form : s ≡ writeMoment p m ++ drop n s
-  pub size : length (writeMoment p m) ≡ n
-
-pub record Longer (p m n : ℕ) : Type 0 where
-  pub less : length (writeMoment p m) < n
-  pub long : 3 < n
 
 abbrev Renews : ℕ → List ℕ → Read → Type 0
 Renews p s (Value m n) = Preferred p s m n ⊎ Longer p m n

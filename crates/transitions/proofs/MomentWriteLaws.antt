@@ -7,10 +7,10 @@ use lib.IntN.{ℤ}
 use lib.ListN.{length}
 use borrow.Author.Tests.{le-leb, eq-eqb, ne-eqb}
 use Rattle.base.specs.Moment.{Finite, firstInstant, lastInstant, endOfTime}
-use Rattle.base.specs.Writing.{bytes}
+use Rattle.base.specs.Writing.{bytes, Writes}
 use Rattle.base.specs.declared.Wrote.{Wrote}
 use Rattle.base.specs.declared.Wrote.the-variants.{Refused}
-use Rattle.base.proofs.WriteLaws.{Writes, not-carried}
+use Rattle.base.proofs.WriteLaws.{not-carried}
 use Rattle.base.proofs.MomentLaws.{finite-yes, finite-low, finite-high}
 use Rattle.counts.specs.Groups.{writeGroups}
 use Rattle.counts.specs.Count.{writeCount, countForm}

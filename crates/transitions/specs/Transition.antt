@@ -1,4 +1,4 @@
--- The transition code, over moments. Assumes nothing: these are definitions.
+-- The transition code, over moments. To be believed.
 use Prim.Native.Nat.{ℕ, _+_, _*_, _-_, _/_, _%_}
 use mathlib.Core.List.{List, _∷_}
 use mathlib.Core.Bool.{Bool, true}

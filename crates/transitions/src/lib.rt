@@ -1,4 +1,7 @@
 // The transition code: marks, hours after the previous transition, minutes since 1800, and ticks.
+use base::END;
+use base::FIRST;
+use base::LAST;
 use base::Read;
 use base::Wrote;
 use signed::Number;
@@ -7,18 +10,13 @@ ghost use mathlib.Core.List.{_∷_};
 ghost use Prim.Native.Nat.{_≤_, _<_};
 ghost use lib.ListN.{length};
 ghost use Rattle.base.specs.Moment.{firstInstant};
-ghost use Rattle.base.specs.Writing.{bytes, wrote, placed};
+ghost use Rattle.base.specs.Writing.{bytes, Writes};
 ghost use Rattle.counts.specs.Fixed.{readFixed, fixedBytes};
-ghost use Rattle.transitions.specs.Later.{Later};
+ghost use Rattle.transitions.specs.Later.{laterIn};
 ghost use Rattle.transitions.specs.Transition.{inRange, hoursAfter, fromCount, fromTicks, readMoment, unitsTo, hoursTo, countTo, writeMoment, momentForm, readTransition, transitionForm};
 
-const FIRST: u64 = 126227808000000000;
-
-const LAST: u64 = 3281606783999999999;
-
-const END: u64 = 3281606784000000000;
-
-const HOUR: u64 = 36000000000;
+// An hour and a minute in ticks, and 1800-01-01T00:00Z.
+pub const HOUR: u64 = 36000000000;
 
 const MINUTE: u64 = 600000000;
 
@@ -103,7 +101,7 @@ pub fn read_moment(previous: u64, s: &[u8]) -> Read
 
 // The instant in ticks at the front of `s`, where it is after the instant `previous`; else 0.
 pub fn ticks_after(previous: u64, s: &[u8]) -> u64
-    ensures { λ r. ⌜ Later previous (now (s .entry)) 9 r ⌝ }
+    ensures { λ r. ⌜ r ≡ laterIn previous 9 (readMoment previous (now (s .entry))) ⌝ }
 {
     if s.len() < 9 {
         return 0;
@@ -197,7 +195,7 @@ pub fn moment_size(previous: u64, m: u64) -> usize
 
 // 2, then the bits of the ticks, high first.
 fn write_ticks(raw: u64, out: &mut [u8]) -> Wrote
-    ensures { λ r. ⌜ (r ≡ wrote (bytes (2 ∷ fixedBytes 8 raw)) (now (out .entry))) × (now (out .exit) ≡ placed (bytes (2 ∷ fixedBytes 8 raw)) (now (out .entry))) ⌝ }
+    ensures { λ r. ⌜ Writes (bytes (2 ∷ fixedBytes 8 raw)) (now (out .entry)) r (now (out .exit)) ⌝ }
 {
     if out.len() < 9 {
         return Wrote::Refused(15);
@@ -216,7 +214,7 @@ fn write_ticks(raw: u64, out: &mut [u8]) -> Wrote
 
 // Writes the moment `m`, after a previous one, to the front of `out`.
 pub fn write_moment(previous: u64, m: u64, out: &mut [u8]) -> Wrote
-    ensures { λ r. ⌜ (r ≡ wrote (momentForm previous m) (now (out .entry))) × (now (out .exit) ≡ placed (momentForm previous m) (now (out .entry))) ⌝ }
+    ensures { λ r. ⌜ Writes (momentForm previous m) (now (out .entry)) r (now (out .exit)) ⌝ }
 {
     if m == 0 {
         return counts::write_count(0, out);
@@ -239,7 +237,7 @@ pub fn write_moment(previous: u64, m: u64, out: &mut [u8]) -> Wrote
 
 // Writes the transition at tick `t`, after a previous one, to the front of `out`.
 pub fn write_transition(previous: i64, t: i64, out: &mut [u8]) -> Wrote
-    ensures { λ r. ⌜ (r ≡ wrote (transitionForm previous t) (now (out .entry))) × (now (out .exit) ≡ placed (transitionForm previous t) (now (out .entry))) ⌝ }
+    ensures { λ r. ⌜ Writes (transitionForm previous t) (now (out .entry)) r (now (out .exit)) ⌝ }
 {
     write_moment(signed::instant(previous), signed::moment(t), out)
 }

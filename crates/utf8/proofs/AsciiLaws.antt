@@ -1,18 +1,19 @@
 -- ASCII is UTF-8, and the largest byte tells it. Assumes nothing.
-use mathlib.Core.Path.{_≡_, refl, sym}
+use mathlib.Core.Path.{_≡_, refl, sym, _∙_}
 use mathlib.Core.List.{List, [], _∷_}
 use mathlib.Core.Bool.{Bool, true, false}
-use Prim.Native.Nat.{ℕ, zero, suc, _+_, _-_, _≤_, _<_, max}
+use Prim.Native.Nat.{ℕ, zero, suc, _+_, _-_, _*_, _/_, _≤_, _<_, max}
 use native.Mathlib.Omega.{arith}
 use native.Mathlib.Numerals.{add-one}
-use lib.ListN.{length, getD, take, drop, drop-of-length-le}
-use lib.Seq.{drop-cons, drop-drop}
+use lib.ListN.{length, getD, take, drop, length-drop, drop-of-length-le}
+use lib.Seq.{drop-cons, drop-drop, take-all}
 use lib.Dec.{ltb}
 use borrow.Author.Tests.{ltb-true, ltb-false, lt-ltb, le-ltb}
 use Rattle.base.specs.Pick.{pick}
 use Rattle.base.proofs.Tests.{by-order}
+use Rattle.base.proofs.Parts.{part-from}
 use Rattle.utf8.specs.Utf8.{chars}
-use Rattle.utf8.specs.Ascii.{ascii}
+use Rattle.utf8.specs.Ascii.{ascii, asciiBlocks, asciiFront}
 
 pub ascii-utf8 : (s : List ℕ) → ascii s ≡ true → chars 0 0x80 0xbf s ≡ true
 unfolding ascii chars
@@ -96,3 +97,67 @@ ascii-at p b a s l e =
 
 pub plain-utf8 : (p a n : ℕ) (s : List ℕ) → ascii (take p s) ≡ true → a + n ≤ p → true ≡ chars 0 0x80 0xbf (take (a + n - a) (drop a s))
 plain-utf8 p a n s e l = let z : a + n - a ≡ n = omega arith in rw z (sym (ascii-utf8 _ (ascii-part a n p s l e)))
+
+-- the front that is ASCII, block by block
+module _ (s : List ℕ) (at : ℕ) where
+  -- what is left of it from a place on
+  pub record FrontFrom : Type 0 where
+    pub inside : at ≤ length s
+    pub rest : asciiFront s ≡ at + asciiBlocks ((length s - at) / 512) (drop at s)
+
+  module _ (f : FrontFrom) (t : Bool) where
+    module _ (l : 512 ≤ length s - at) (e : t ≡ ascii (take (at + 512 - at) (drop at s))) where
+      block : asciiFront s ≡ at + pick t (512 + asciiBlocks ((length s - (at + 512)) / 512) (drop (at + 512) s)) 0
+      unfolding asciiBlocks
+      block =
+          let n : (length s - at) / 512 ≡ suc ((length s - (at + 512)) / 512) = omega arith in
+          let w : at + 512 - at ≡ 512 = omega arith in
+          let g : ascii (take 512 (drop at s)) ≡ t = sym (rw w at e) in
+          f .rest ∙ rw (n, g, drop-drop 512 at s)
+
+      pub front-stop : t ≡ false → at ≡ asciiFront s
+      front-stop q = let b : asciiFront s ≡ at + 0 = rw q at block in omega arith
+
+      front-more : t ≡ true → asciiFront s ≡ at + (512 + asciiBlocks ((length s - (at + 512)) / 512) (drop (at + 512) s))
+      front-more q = rw q at block
+
+    module _ (l : length s - at < 512) (e : t ≡ ascii (take (length s - at) (drop at s))) where
+      ending : asciiFront s ≡ at + pick t (length s - at) 0
+      unfolding asciiBlocks
+      ending =
+          let n : (length s - at) / 512 ≡ 0 = omega arith in
+          let g : ascii (drop at s) ≡ t = sym (rw (part-from at s) at e) in
+          f .rest ∙ rw (n, g, length-drop at s)
+
+      pub front-all : t ≡ true → length s ≡ asciiFront s
+      front-all q = let b : asciiFront s ≡ at + (length s - at) = rw q at ending in omega (arith, f .inside)
+
+      pub front-end : t ≡ false → at ≡ asciiFront s
+      front-end q = let b : asciiFront s ≡ at + 0 = rw q at ending in omega arith
+
+pub front-start : (s : List ℕ) → FrontFrom s 0
+front-start s = let z : length s - 0 ≡ length s = omega arith in record { inside = omega arith; rest = rw z (omega arith) }
+
+pub front-next : (s : List ℕ) (at : ℕ) → FrontFrom s at → (t : Bool) → 512 ≤ length s - at → t ≡ ascii (take (at + 512 - at) (drop at s)) → t ≡ true
+    → FrontFrom s (at + 512)
+front-next s at f t l e q = record { inside = omega arith; rest = omega (arith, front-more s at f t l e q) }
+
+blocks-ascii : (n : ℕ) (s : List ℕ) → n * 512 ≤ length s → (asciiBlocks n s ≤ length s) × (ascii (take (asciiBlocks n s) s) ≡ true)
+unfolding asciiBlocks ascii
+blocks-ascii zero s h = go (ascii s) refl
+  where
+    go : (t : Bool) → ascii s ≡ t → (pick t (length s) 0 ≤ length s) × (ascii (take (pick t (length s) 0) s) ≡ true)
+    go true e = (omega arith, rw (take-all (length s) s (omega arith)) e)
+    go false e = (omega arith, refl)
+blocks-ascii (suc n) s h =
+    let d : length (drop 512 s) ≡ length s - 512 = length-drop 512 s in
+    go (asciiBlocks n (drop 512 s)) (blocks-ascii n (drop 512 s) (omega arith)) (ascii (take 512 s)) refl
+  where
+    go : (k : ℕ) → (k ≤ length (drop 512 s)) × (ascii (take k (drop 512 s)) ≡ true) → (t : Bool) → ascii (take 512 s) ≡ t
+        → (pick t (512 + k) 0 ≤ length s) × (ascii (take (pick t (512 + k) 0) s) ≡ true)
+    go k b true e = (omega (arith, length-drop 512 s, b .0), ascii-more 512 k s e (b .1))
+    go k b false e = (omega arith, refl)
+
+-- it lies in s, and is ASCII
+pub front-ascii : (s : List ℕ) (n : ℕ) → n ≡ asciiFront s → (n ≤ length s) × (ascii (take n s) ≡ true)
+front-ascii s n e = rw e (blocks-ascii (length s / 512) s (omega arith))

@@ -1,4 +1,4 @@
--- UTF-8 as the encoding of code points (RFC 3629, section 3). Assumes nothing: these are definitions.
+-- UTF-8 as the encoding of code points (RFC 3629, section 3). To be believed.
 use Prim.Native.Nat.{ℕ, _+_, _/_, _%_}
 use mathlib.Core.Path.{_≡_}
 use mathlib.Core.List.{List, [], _∷_, _++_}

@@ -1,8 +1,10 @@
--- "UTF-8 is RFC 3629": whether bytes are UTF-8, by the table of its section 4. Assumes nothing: these are definitions.
-use Prim.Native.Nat.{ℕ, _-_}
+-- "UTF-8 is RFC 3629": whether bytes are UTF-8, by the table of its section 4. To be believed; `utf8-encoded` and `encoded-utf8`
+-- (proofs/DecodeLaws.antt, proofs/EncodeLaws.antt) say the same by code points.
+use Prim.Native.Nat.{ℕ, _+_, _-_}
 use mathlib.Core.List.{List, [], _∷_}
 use mathlib.Core.Bool.{Bool, false}
 use lib.Dec.{ltb, leb, eqb}
+use lib.ListN.{take}
 use Rattle.base.specs.Pick.{pick}
 use Rattle.utf8.specs.declared.Due.{Due}
 use Rattle.utf8.specs.declared.Due.the-variants.{Follow, Never}
@@ -40,3 +42,12 @@ chars k lo hi (b ∷ s) = going (after k lo hi b) (λ j l h. chars j l h s)
 -- UTF8-octets = *( UTF8-char )
 abbrev pub utf8 : List ℕ → Bool
 utf8 s = chars 0 0x80 0xbf s
+
+-- how many bytes the character at the front of s has, 0 where none stands there
+abbrev pub sizeBy : Due → List ℕ → ℕ
+sizeBy (Follow k lo hi) s = pick (chars k lo hi (take k s)) (k + 1) 0
+sizeBy Never s = 0
+
+unfoldable pub sizeOf : List ℕ → ℕ
+sizeOf [] = 0
+sizeOf (b ∷ s) = sizeBy (lead b) s

@@ -2,11 +2,10 @@
 ghost use mathlib.Core.Path.{_≡_};
 ghost use Prim.Native.Nat.{max, _+_, _≤_, _<_};
 ghost use lib.ListN.{length, take, drop};
-ghost use lib.Dec.{ltb, leb};
-ghost use mathlib.Core.Bool.{true};
+ghost use lib.Dec.{leb};
 ghost use Rattle.base.specs.Pick.{both};
-ghost use Rattle.utf8.specs.Utf8.{lead as leadOf, chars, utf8};
-ghost use Rattle.utf8.specs.Ascii.{ascii};
+ghost use Rattle.utf8.specs.Utf8.{lead as leadOf, chars, utf8, sizeOf};
+ghost use Rattle.utf8.specs.Ascii.{ascii, asciiFront};
 
 // What is due after a byte: how many more bytes of its character, and the range of the first of them. Or the bytes are not UTF-8.
 pub enum Due {
@@ -61,7 +60,7 @@ fn within(lo: u8, hi: u8, b: u8) -> bool
 // Whether the n bytes from a place on end a character, the first of them from lo to hi.
 fn ends(s: &[u8], at: usize, n: usize, lo: u8, hi: u8) -> bool
     requires { ⌜ at + n ≤ length (now s) ⌝ }
-    ensures { λ r. ⌜ chars n lo hi (drop at (now (s .entry))) ≡ both r (utf8 (drop (at + n) (now (s .entry)))) ⌝ }
+    ensures { λ r. ⌜ r ≡ chars n lo hi (take n (drop at (now (s .entry)))) ⌝ }
 {
     let mut i: usize = 0;
     let mut l = lo;
@@ -81,7 +80,7 @@ fn ends(s: &[u8], at: usize, n: usize, lo: u8, hi: u8) -> bool
 // How many bytes the character at a place has, 0 where none stands there.
 fn size_at(s: &[u8], at: usize) -> usize
     requires { ⌜ at < length (now s) ⌝ }
-    ensures { λ r. ⌜ (at + r ≤ length (now (s .entry))) × (utf8 (drop at (now (s .entry))) ≡ both (ltb 0 r) (utf8 (drop (at + r) (now (s .entry))))) ⌝ }
+    ensures { λ r. ⌜ r ≡ sizeOf (drop at (now (s .entry))) ⌝ }
 {
     match lead(s[at]) {
         Due::Never => 0,
@@ -132,9 +131,9 @@ fn all_ascii(s: &[u8]) -> bool
     m < 0x80
 }
 
-// How many bytes at the front of s are ASCII, found block by block: there may be more.
+// How many bytes at the front of s are ASCII, by blocks of 512: there may be more in the block at which it ends.
 pub fn ascii_front(s: &[u8]) -> usize
-    ensures { λ r. ⌜ (r ≤ length (now (s .entry))) × (ascii (take r (now (s .entry))) ≡ true) ⌝ }
+    ensures { λ r. ⌜ r ≡ asciiFront (now (s .entry)) ⌝ }
 {
     let mut at: usize = 0;
     while 512 <= s.len() - at {

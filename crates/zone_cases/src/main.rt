@@ -3,16 +3,13 @@
 // The instant is in ticks since 1970, `-` for none; the pool's count and the times, two bytes each, and the data are in hexadecimal.
 // For each it writes the check's number, the ID's pool number behind a 0, and with an instant the refusal's number or wall offset, savings,
 // the name's pool number, start and end.
-// The stored output comes from tests/zone_cases/make.py.
+// The stored output comes from tests/make/zone_cases.py.
+use base::END;
+use base::FIRST;
 use libc::STDIN_FILENO;
 use zones::Answer;
 use zones::Found;
-use zones::Verdict;
-
-// The first instant, and end of time.
-const FIRST: u64 = 126227808000000000;
-
-const END: u64 = 3281606784000000000;
+use zones::ZoneVerdict;
 
 // An offset, in milliseconds.
 fn offset(sum: u64) {
@@ -20,13 +17,13 @@ fn offset(sum: u64) {
     cases::say_difference(sum, 86400000);
 }
 
-fn show_verdict(v: Verdict) {
+fn show_verdict(v: ZoneVerdict) {
     match v {
-        Verdict::Good(id) => {
+        ZoneVerdict::Good(id) => {
             cases::say(b"0 ");
             cases::say_number(id);
         }
-        Verdict::Refused(k) => cases::say_number(k as u64),
+        ZoneVerdict::Refused(k) => cases::say_number(k as u64),
     }
 }
 

@@ -3,3 +3,5 @@ pub mod SoundLaws
 pub mod LookupLaws
 pub mod PartitionLaws
 pub mod RangeLaws
+pub mod EndLaws
+pub mod InOrderLaws

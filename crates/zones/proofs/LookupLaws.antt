@@ -7,19 +7,19 @@ use lib.Dec.{ltb}
 use borrow.Author.Tests.{lt-ltb, le-ltb}
 use Rattle.base.specs.Pick.{pick}
 use Rattle.base.specs.Parsed.{Parsed, got, bad}
-use Rattle.base.specs.Moment.{Finite, startOfTime, endOfTime}
+use Rattle.base.specs.Moment.{Finite, endOfTime}
 use Rattle.base.proofs.Tests.{by-order}
 use Rattle.recurrence.specs.Tails.{TailOk}
 use Rattle.intervals.specs.declared.Interval.{Interval}
 use Rattle.intervals.specs.declared.Scan.{Scan}
 use Rattle.intervals.specs.Scan.{scanFrom, unscanned, scanned}
 use Rattle.intervals.proofs.ScanLaws.{advance-closed, advance-next, advance-over}
-use Rattle.intervals.specs.Sound.{Later, ListOk}
+use Rattle.intervals.specs.Sound.{Rising, ListOk}
 use Rattle.tails.specs.declared.NamedTail.{NamedTail}
 use Rattle.zones.specs.Content.{untailed, tailed, Body, fixed, listed, Zone}
 use Rattle.zones.specs.Parse.{parseZone}
 use Rattle.zones.specs.Sound.{BodyOk}
-use Rattle.zones.specs.Lookup.{zeroOffset, until, holding, inList, inTail, behindList, inBody, answerOf}
+use Rattle.zones.specs.Lookup.{until, holding, inList, inTail, behindList, always, inBody, answerOf}
 use Rattle.zones.specs.View.{heldUntil, bodyRead, readOf}
 use Rattle.zones.proofs.SoundLaws.{zone-sound}
 use Rattle.zones.specs.declared.Found.{Found}
@@ -38,7 +38,7 @@ closed t end i m last (j ∷ is) h =
     ∙ closed t end i m (j .start) is h
 
 -- until then it holds the latest start
-opened : (pool t end : ℕ) (i : Interval) (last prev : ℕ) (is : List Interval) → Later pool prev is
+opened : (pool t end : ℕ) (i : Interval) (last prev : ℕ) (is : List Interval) → Rising pool prev is
     → heldUntil (scanFrom t (record { held = i; end = endOfTime; last = last }) is) end ≡ holding t end i is
 unfolding scanFrom holding heldUntil
 opened pool t end i last prev [] h = refl
@@ -66,12 +66,12 @@ abbrev pub tailAnswer : ℕ → Scan → NamedTail → Found
 tailAnswer t c n = pick (ltb t (n .tail .start)) (heldUntil c (n .tail .start)) (inTail t n)
 
 abbrev pub answerRead : ℕ → ZoneRead → Answer
-answerRead t (Fixed id offset n) = In (record { wall = offset; savings = zeroOffset; name = n; start = startOfTime; end = endOfTime })
+answerRead t (Fixed id offset n) = In (always id offset n)
 answerRead t (Listed id c) = In (heldUntil c endOfTime)
 answerRead t (Tailed id c n) = In (tailAnswer t c n)
 answerRead t (Refused k) = Denied k
 
-body-answer : (pool t id : ℕ) (b : Body) → Finite t → BodyOk pool b → answerRead t (bodyRead t id b) ≡ In (inBody t b)
+body-answer : (pool t id : ℕ) (b : Body) → Finite t → BodyOk pool b → answerRead t (bodyRead t id b) ≡ In (inBody t id b)
 unfolding inBody behindList
 body-answer pool t id (fixed offset n) f h = refl
 body-answer pool t id (listed is end untailed) f h =

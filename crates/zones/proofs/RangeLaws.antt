@@ -9,17 +9,17 @@ use borrow.Author.Tests.{ltb-false}
 use Rattle.base.specs.Pick.{pick}
 use Rattle.base.specs.Parsed.{Parsed, got, bad}
 use Rattle.base.specs.Moment.{Finite}
-use Rattle.base.proofs.Tests.{pick-holds}
+use Rattle.base.proofs.Tests.{pick-holds, clash}
 use Rattle.recurrence.specs.Tails.{wallOf, lookup}
 use Rattle.rules.proofs.FieldLaws.{sum-range}
 use Rattle.intervals.specs.declared.Interval.{Interval}
-use Rattle.intervals.specs.Sound.{Ranged, Later}
+use Rattle.intervals.specs.Sound.{Ranged, Rising}
 use Rattle.tails.specs.declared.NamedTail.{NamedTail}
 use Rattle.tails.specs.Sound.{NamedTailOk}
 use Rattle.zones.specs.Content.{untailed, tailed, Body, fixed, listed, Zone}
 use Rattle.zones.specs.Parse.{parseZone}
-use Rattle.zones.specs.Sound.{BodyOk, FoundOk}
-use Rattle.zones.specs.Lookup.{until, holding, inList, inTail, behindList, inBody, answerOf}
+use Rattle.zones.specs.Sound.{BodyOk, Sound, FoundOk}
+use Rattle.zones.specs.Lookup.{until, holding, inList, inTail, behindList, inBody, inZone, answerOf}
 use Rattle.zones.proofs.SoundLaws.{zone-sound}
 use Rattle.zones.specs.declared.Found.{Found}
 use Rattle.zones.specs.declared.Answer.the-variants.{In}
@@ -31,7 +31,7 @@ until-ok pool i end h = record {
   savings-high = omega (arith, h .savings-high);
 }
 
-holding-ok : (pool t end : ℕ) (i : Interval) (prev : ℕ) (is : List Interval) → Ranged pool i → Later pool prev is → FoundOk pool (holding t end i is)
+holding-ok : (pool t end : ℕ) (i : Interval) (prev : ℕ) (is : List Interval) → Ranged pool i → Rising pool prev is → FoundOk pool (holding t end i is)
 unfolding holding
 holding-ok pool t end i prev [] h l = until-ok pool i end h
 holding-ok pool t end i prev (j ∷ is) h l =
@@ -52,15 +52,18 @@ tail-ok pool end t n o =
     go true = (o .daylight-ok, omega (arith, s), omega (arith, o .savings-high))
     go false = (o .standard-ok, o .tail-ok .offset-high, omega arith)
 
-pub body-found : (pool t : ℕ) (b : Body) → BodyOk pool b → Finite t → FoundOk pool (inBody t b)
+body-found : (pool t id : ℕ) (b : Body) → id < pool → BodyOk pool b → Finite t → FoundOk pool (inBody t id b)
 unfolding inBody inList behindList
-body-found pool t (fixed offset n) h f = record { name-ok = h .1; wall-high = omega (arith, h .0); savings-high = omega arith }
-body-found pool t (listed [] end e) h f = absurd (h .0)
-body-found pool t (listed (i ∷ is) end untailed) h f =
-    pick-holds (FoundOk pool) (ltb t end) (λ _. holding-ok pool t end i (i .start) is (h .0 .1) (h .0 .2))
+body-found pool t id (fixed offset n) i h f = record { name-ok = h .1; wall-high = omega (arith, h .0); savings-high = omega arith }
+body-found pool t id (listed [] end e) i h f = absurd (h .0)
+body-found pool t id (listed (j ∷ is) end untailed) i h f =
+    pick-holds (FoundOk pool) (ltb t end) (λ _. holding-ok pool t end j (j .start) is (h .0 .1) (h .0 .2))
     (λ e. absurd (omega (arith, ltb-false t end e, h .1, f .high)))
-body-found pool t (listed (i ∷ is) end (tailed n)) h f =
-    pick-holds (FoundOk pool) (ltb t end) (λ _. holding-ok pool t end i (i .start) is (h .0 .1) (h .0 .2)) (λ _. tail-ok pool end t n (h .1 .2))
+body-found pool t id (listed (j ∷ is) end (tailed n)) i h f =
+    pick-holds (FoundOk pool) (ltb t end) (λ _. holding-ok pool t end j (j .start) is (h .0 .1) (h .0 .2)) (λ _. tail-ok pool end t n (h .1 .2))
+
+pub zone-found : (pool t : ℕ) (z : Zone) → Sound pool z → Finite t → FoundOk pool (inZone t z)
+zone-found pool t z h f = body-found pool t (z .id) (z .body) (h .id-ok) (h .body-ok) f
 
 -- what a lookup gives
 pub found-ok : (pool t : ℕ) (s : List ℕ) (x : Found) → Finite t → In x ≡ answerOf t (parseZone pool s) → FoundOk pool x
@@ -68,6 +71,6 @@ found-ok pool t s x f e = go (parseZone pool s) refl e
   where
     go : (p : Parsed Zone) → p ≡ parseZone pool s → In x ≡ answerOf t p → FoundOk pool x
     go (got z r) k h =
-        let y : inBody t (z .body) ≡ x = cc in
-        subst (FoundOk pool) y (body-found pool t (z .body) (zone-sound pool s z r (sym k) .0 .body-ok) f)
-    go (bad n) k h = let y : _≡_ {A = ℕ} 0 1 = cc in absurd (omega arith)
+        let y : inZone t z ≡ x = cc in
+        subst (FoundOk pool) y (zone-found pool t z (zone-sound pool s z r (sym k) .0) f)
+    go (bad n) k h = clash cc

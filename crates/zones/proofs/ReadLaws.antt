@@ -1,5 +1,5 @@
 -- Each way out of the zone's readers. Assumes nothing.
-use mathlib.Core.Path.{_≡_, refl, sym, ap, _∙_}
+use mathlib.Core.Path.{_≡_, refl, sym, ap, _∙_, subst}
 use mathlib.Core.Bool.{Bool, true, false}
 use mathlib.Core.List.{List, []}
 use Prim.Native.Nat.{ℕ, _≤_, _<_}
@@ -8,7 +8,7 @@ use lib.ListN.{length, drop}
 use lib.Dec.{ltb}
 use borrow.Author.Tests.{lt-ltb, le-ltb, eq-eqb, ne-eqb}
 use Rattle.base.specs.Pick.{pick, both}
-use Rattle.base.specs.Parsed.{Parsed, got, bad, bind, parse, many, behind}
+use Rattle.base.specs.Parsed.{Parsed, got, bad, bind, parse, behind}
 use Rattle.base.specs.Moment.{endOfTime}
 use Rattle.base.proofs.ParseLaws.{bad-got}
 use Rattle.transitions.specs.Transition.{readMoment}
@@ -16,17 +16,21 @@ use Rattle.places.specs.Placed.{at, no, Stands}
 use Rattle.places.proofs.PlaceLaws.{ended-here, ended-over}
 use Rattle.intervals.specs.declared.Interval.{Interval}
 use Rattle.intervals.specs.declared.Scan.{Scan}
-use Rattle.intervals.specs.Interval.{startOf, parseInterval}
+use Rattle.intervals.specs.Interval.{startOf}
 use Rattle.intervals.specs.Scan.{scanned, scanOf}
 use Rattle.intervals.proofs.ScanLaws.{last-start}
 use Rattle.tails.specs.declared.NamedTail.{NamedTail}
 use Rattle.zones.specs.Content.{untailed, tailed, Body, fixed, listed, Zone}
-use Rattle.zones.specs.Parse.{zoneOf, afterTailByte, parseTailed, afterEnd, afterIntervals, afterCount, parseFixed, parseListed, afterFlag}
+use Rattle.zones.specs.Parse.{zoneOf, afterTailByte, parseTailed, afterEnd, afterIntervals, parseIntervals, afterCount, parseFixed, parseListed, afterFlag}
 use Rattle.zones.specs.Lookup.{verdictOf, named}
 use Rattle.recurrence.specs.declared.Interval.{Interval as Lookup}
-use Rattle.zones.specs.View.{bodyRead, readOf, ReadsAny, ReadsAs}
-use Rattle.zones.specs.declared.Verdict.{Verdict}
-use Rattle.zones.specs.declared.Verdict.the-variants.{Good, Refused as Denied}
+use Rattle.zones.specs.View.{bodyRead, readOf, FrontTo, FrontOf, EndTo, EndOf}
+use Rattle.zones.specs.declared.ZoneVerdict.{ZoneVerdict}
+use Rattle.zones.specs.declared.ZoneVerdict.the-variants.{Good, Refused as Denied}
+use Rattle.zones.specs.declared.ZoneFront.{ZoneFront}
+use Rattle.zones.specs.declared.ZoneFront.the-variants.{Fixed as AllFixed, Listed as Several, Refused as FrontRefused}
+use Rattle.zones.specs.declared.ZoneEnd.{ZoneEnd}
+use Rattle.zones.specs.declared.ZoneEnd.the-variants.{Untailed, Tailed as WithTail, Refused as EndRefused}
 use Rattle.zones.specs.declared.ZoneRead.{ZoneRead}
 use Rattle.zones.specs.declared.ZoneRead.the-variants.{Fixed, Listed, Tailed, Refused}
 
@@ -47,40 +51,78 @@ read-bad t p k e = rw e
 pub read-on : (t : ℕ) (p q : Parsed Zone) (r : ZoneRead) → p ≡ q → r ≡ readOf t q → r ≡ readOf t p
 read-on t p q r e h = h ∙ ap (readOf t) (sym e)
 
--- whatever the instant
-pub any-bad : (p : Parsed Zone) (k : ℕ) → p ≡ bad k → ReadsAny p (Refused k)
-unfolding readOf
-any-bad p k e = record { means = λ t. rw e }
+-- the front
+module _ (pool : ℕ) (s : List ℕ) (p : Parsed Zone) where
+  pub front-bad : (k : ℕ) → p ≡ bad k → FrontOf pool s p (FrontRefused k)
+  front-bad k e = record { means = e }
 
-pub any-fixed : (p : Parsed Zone) (id offset n : ℕ) (r : List ℕ) → p ≡ got (record { id = id; body = fixed offset n }) r → ReadsAny p (Fixed id offset n)
-unfolding readOf
-any-fixed p id offset n r e = record { means = λ t. rw e }
+  pub front-fixed : (id offset n : ℕ) → p ≡ got (record { id = id; body = fixed offset n }) [] → FrontOf pool s p (AllFixed id offset n)
+  front-fixed id offset n e = record { means = e }
 
--- whatever the intervals that c stands for
-module _ (f : List Interval → Parsed Zone) (c : Scan) where
-  -- all that the readers behind the intervals use of c
+  pub front-listed : (id n a : ℕ) → p ≡ parseIntervals pool id n (drop a s) → a ≤ length s → (n ≡ 0 → ⊥) → n ≤ 4096
+      → FrontOf pool s p (Several id n a)
+  front-listed id n a e w z h = record { means = (e, w, omega (arith, z), h) }
+
+  pub front-on : (q : Parsed Zone) (r : ZoneFront) → p ≡ q → FrontOf pool s q r → FrontOf pool s p r
+  front-on q r e h = subst (λ (x : Parsed Zone). FrontOf pool s x r) (sym e) h
+
+  -- by what was given
+  module _ (r : ZoneFront) (h : FrontOf pool s p r) where
+    front-is : (x : ZoneFront) → r ≡ x → FrontTo pool s p x
+    front-is x e = subst (FrontOf pool s p) e h .means
+
+    pub refused-front : (k : ℕ) → r ≡ FrontRefused k → p ≡ bad k
+    refused-front k e = front-is (FrontRefused k) e
+
+    pub fixed-front : (id offset n : ℕ) → r ≡ AllFixed id offset n → p ≡ got (record { id = id; body = fixed offset n }) []
+    fixed-front id offset n e = front-is (AllFixed id offset n) e
+
+    pub listed-front : (id n a : ℕ) → r ≡ Several id n a
+        → (p ≡ parseIntervals pool id n (drop a s)) × (a ≤ length s) × (0 < n) × (n ≤ 4096)
+    listed-front id n a e = front-is (Several id n a) e
+
+pub read-fixed : (t : ℕ) (p : Parsed Zone) (id offset n : ℕ) → p ≡ got (record { id = id; body = fixed offset n }) [] → Fixed id offset n ≡ readOf t p
+unfolding readOf
+read-fixed t p id offset n e = rw e
+
+-- what stands behind the intervals
+module _ (f : ℕ → List Interval → Parsed Zone) (last : ℕ) where
   abbrev Behind : List Interval → Type 0
-  Behind is = c .last ≡ behind startOf endOfTime is
+  Behind is = last ≡ behind startOf endOfTime is
 
-  last-of : (t : ℕ) (is : List Interval) → c ≡ scanned t is → Behind is
-  last-of t is e = ap (λ (x : Scan). x .last) e ∙ last-start t is
+  pub end-bad : (k : ℕ) → ((id : ℕ) (is : List Interval) → Behind is → f id is ≡ bad k) → EndOf f last (EndRefused k)
+  end-bad k h = record { means = h }
 
-  pub as-bad : (k : ℕ) → ((is : List Interval) → Behind is → f is ≡ bad k) → ReadsAs f c (Refused k)
+  pub end-untailed : (end : ℕ) → end ≡ endOfTime
+      → ((id : ℕ) (is : List Interval) → Behind is → f id is ≡ got (record { id = id; body = listed is end untailed }) []) → EndOf f last Untailed
+  end-untailed end e h = record { means = λ id is b. rw e at (h id is b) }
+
+  pub end-tailed : (end : ℕ) (n : NamedTail)
+      → ((id : ℕ) (is : List Interval) → Behind is → f id is ≡ got (record { id = id; body = listed is end (tailed n) }) []) → EndOf f last (WithTail n)
+  end-tailed end n h = record { means = λ id is b. (end, h id is b) }
+
+  pub end-on : (g : ℕ → List Interval → Parsed Zone) (r : ZoneEnd) → ((id : ℕ) (is : List Interval) → Behind is → f id is ≡ g id is)
+      → EndOf g last r → EndOf f last r
+  end-on g r h k = record { means = λ id is b. subst (λ (p : Parsed Zone). EndTo id is p r) (sym (h id is b)) (k .means id is b) }
+
+pub end-is : {f : ℕ → List Interval → Parsed Zone} {last : ℕ} {r x : ZoneEnd} → EndOf f last r → r ≡ x → EndOf f last x
+end-is {f} {last} h e = subst (EndOf f last) e h
+
+-- behind the intervals that c stands for
+module _ (t id : ℕ) (p : Parsed Zone) (f : ℕ → List Interval → Parsed Zone) (c : Scan) (is : List Interval) (scans : c ≡ scanned t is) (goes : p ≡ f id is) where
+  last-of : c .last ≡ behind startOf endOfTime is
+  last-of = ap (λ (x : Scan). x .last) scans ∙ last-start t is
+
+  pub ended-bad : (k : ℕ) → EndOf f (c .last) (EndRefused k) → Refused k ≡ readOf t p
+  ended-bad k h = read-bad t p k (goes ∙ h .means id is last-of)
+
+  pub ended-untailed : EndOf f (c .last) Untailed → Listed id c ≡ readOf t p
   unfolding readOf
-  as-bad k h = record { means = λ t is e. rw (h is (last-of t is e)) }
+  ended-untailed h = rw (goes ∙ h .means id is last-of) (ap (Listed id) scans)
 
-  pub as-listed : (id end : ℕ) → ((is : List Interval) → Behind is → f is ≡ got (record { id = id; body = listed is end untailed }) [])
-      → ReadsAs f c (Listed id c)
+  pub ended-tailed : (n : NamedTail) → EndOf f (c .last) (WithTail n) → Tailed id c n ≡ readOf t p
   unfolding readOf
-  as-listed id end h = record { means = λ t is e. rw (h is (last-of t is e)) (ap (Listed id) e) }
-
-  pub as-tailed : (id end : ℕ) (n : NamedTail)
-      → ((is : List Interval) → Behind is → f is ≡ got (record { id = id; body = listed is end (tailed n) }) []) → ReadsAs f c (Tailed id c n)
-  unfolding readOf
-  as-tailed id end n h = record { means = λ t is e. rw (h is (last-of t is e)) (ap (λ (x : Scan). Tailed id x n) e) }
-
-  pub as-on : (g : List Interval → Parsed Zone) (r : ZoneRead) → ((is : List Interval) → Behind is → f is ≡ g is) → ReadsAs g c r → ReadsAs f c r
-  as-on g r h k = record { means = λ t is e. k .means t is e ∙ ap (readOf t) (sym (h is (last-of t is e))) }
+  ended-tailed n h = rw (goes ∙ h .means id is last-of .1) (ap (λ (x : Scan). Tailed id x n) scans)
 
 -- the tail byte, then the end transition
 module _ (pool id : ℕ) (is : List Interval) (end b : ℕ) (s : List ℕ) where
@@ -130,7 +172,7 @@ module _ (pool id n : ℕ) (s : List ℕ) where
   count-past h = rw (ne-eqb n 0 (omega arith), lt-ltb 4096 n h)
 
   pub count-some : (n ≡ 0 → ⊥) → n ≤ 4096
-      → afterCount pool id n s ≡ bind (many (parseInterval pool) startOf n endOfTime s) (afterIntervals pool id)
+      → afterCount pool id n s ≡ parseIntervals pool id n s
   unfolding afterCount
   count-some e h = rw (ne-eqb n 0 e, le-ltb 4096 n h)
 
@@ -175,7 +217,7 @@ module _ (pool id flag : ℕ) (s : List ℕ) where
   flag-unknown e f = rw (ne-eqb flag 1 e, ne-eqb flag 2 f)
 
 -- the verdict is that of the walk, whatever its instant
-abbrev pub verdictRead : ZoneRead → Verdict
+abbrev pub verdictRead : ZoneRead → ZoneVerdict
 verdictRead (Fixed id offset n) = Good id
 verdictRead (Listed id c) = Good id
 verdictRead (Tailed id c n) = Good id

@@ -3,10 +3,11 @@ use mathlib.Core.Path.{_≡_, refl, sym, _∙_, subst}
 use mathlib.Core.Bool.{Bool, true, false}
 use mathlib.Core.List.{List, []}
 use mathlib.Core.Logic.{inl, inr}
-use Prim.Native.Nat.{ℕ, _<_}
+use Prim.Native.Nat.{ℕ, _≤_, _<_}
 use native.Mathlib.Omega.{arith}
 use lib.Dec.{ltb, eqb}
-use borrow.Author.Tests.{ltb-true, eqb-true, eqb-false}
+use lib.ListN.{length}
+use borrow.Author.Tests.{ltb-true, ltb-false, eqb-true, eqb-false}
 use Rattle.base.specs.Pick.{pick, both}
 use Rattle.base.specs.Parsed.{Parsed, got, bad, bind, parse, parseByte, many, behind}
 use Rattle.base.specs.Moment.{Finite, endOfTime}
@@ -21,7 +22,7 @@ use Rattle.places.proofs.ValueLaws.{moment-is, name-ok, sum-high}
 use Rattle.intervals.specs.declared.Interval.{Interval}
 use Rattle.intervals.specs.Interval.{parseInterval, startOf}
 use Rattle.intervals.specs.Sound.{ListOk}
-use Rattle.intervals.proofs.SoundLaws.{list-sound}
+use Rattle.intervals.proofs.SoundLaws.{list-sound, list-length}
 use Rattle.tails.specs.Tail.{parseTail}
 use Rattle.tails.proofs.TailLaws.{tail-sound}
 use Rattle.zones.specs.Content.{untailed, tailed, Body, fixed, listed, Zone}
@@ -53,7 +54,7 @@ end-finite m (inl x) a b = absurd (omega arith)
 end-finite m (inr (inl x)) a b = absurd (omega arith)
 end-finite m (inr (inr x)) a b = x
 
-module _ (pool id : ℕ) (is : List Interval) (list : ListOk pool is) (end : ℕ) (moment : Moment end) (z : Zone) (q : List ℕ) where
+module _ (pool id : ℕ) (is : List Interval) (list : ListOk pool is) (few : length is ≤ 4096) (end : ℕ) (moment : Moment end) (z : Zone) (q : List ℕ) where
   tailed-whole : (s : List ℕ) → both (ltb (behind startOf endOfTime is) end) (ltb end endOfTime) ≡ true → parseTailed pool id is end s ≡ got z q
       → Whole pool id z q
   unfolding parseTailed afterTail
@@ -62,7 +63,7 @@ module _ (pool id : ℕ) (is : List Interval) (list : ListOk pool is) (end : ℕ
       let r : end < endOfTime = ltb-true _ _ (both-right (ltb (behind startOf endOfTime is) end) _ h) in
       let f : Finite end = end-finite end moment (omega arith) r in
       let a = bind-good (parseTail pool end s) (afterTail id is end) z q e in
-      zone-whole pool id (listed is end (tailed (a .first))) (a .rest) z q (list, (l, f, tail-sound pool end _ _ _ f (a .is))) (a .on)
+      zone-whole pool id (listed is end (tailed (a .first))) (a .rest) z q (list, (l, f, tail-sound pool end _ _ _ f (a .is)), few) (a .on)
 
   byte-whole : (b : ℕ) (s : List ℕ) → afterTailByte pool id is end b s ≡ got z q → Whole pool id z q
   unfolding afterTailByte
@@ -75,7 +76,7 @@ module _ (pool id : ℕ) (is : List Interval) (list : ListOk pool is) (end : ℕ
           → Whole pool id z q
       go true u k =
           let a = pick-good (eqb end endOfTime) (zoneOf id (listed is end untailed) s) 10 z q k in
-          zone-whole pool id (listed is end untailed) s z q (list, eqb-true end endOfTime (a .0)) (a .1)
+          zone-whole pool id (listed is end untailed) s z q (list, eqb-true end endOfTime (a .0), few) (a .1)
       go false true k =
           let a = pick-good (both (ltb (behind startOf endOfTime is) end) (ltb end endOfTime)) (parseTailed pool id is end s) 10 z q k in
           tailed-whole s (a .0) (a .1)
@@ -93,7 +94,8 @@ listed-whole pool id s z q e =
     let is : List Interval = d .first in
     let f = bind-good (parse (readMoment (behind startOf endOfTime is)) (d .rest)) (afterEnd pool id is) z q (d .on) in
     let g = bind-good (parseByte (f .rest)) (afterTailByte pool id is (f .first)) z q (f .on) in
-    byte-whole pool id is (list-sound pool n _ is _ (eqb-false n 0 (b .0)) (d .is)) (f .first) (moment-is _ _ _ _ (f .is)) z q (g .first) (g .rest) (g .on)
+    let few : length is ≤ 4096 = rw (list-length pool n _ _ is _ (d .is)) (ltb-false 4096 n (c .0)) in
+    byte-whole pool id is (list-sound pool n _ is _ (eqb-false n 0 (b .0)) (d .is)) few (f .first) (moment-is _ _ _ _ (f .is)) z q (g .first) (g .rest) (g .on)
 
 flag-whole : (pool id flag : ℕ) (s : List ℕ) (z : Zone) (q : List ℕ) → afterFlag pool id flag s ≡ got z q → Whole pool id z q
 unfolding afterFlag

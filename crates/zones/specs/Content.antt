@@ -1,5 +1,5 @@
 -- What a zone says. Offsets are milliseconds with 86,400,000 added, as in the file; texts are pool numbers; starts and ends are
--- moments (base's specs/Moment.antt). Assumes nothing: these are definitions.
+-- moments (base's specs/Moment.antt). To be believed.
 use Prim.Native.Nat.{ℕ}
 use mathlib.Core.List.{List}
 use Rattle.intervals.specs.declared.Interval.{Interval}

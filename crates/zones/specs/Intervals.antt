@@ -1,13 +1,12 @@
--- The intervals of a zone, with no instant asked. Assumes nothing: these are definitions.
+-- The intervals of a zone, with no instant asked. To be believed.
 use Prim.Native.Nat.{ℕ, _≤_, _<_}
 use mathlib.Core.List.{List, [], _∷_}
-use Rattle.base.specs.Moment.{startOfTime, endOfTime}
 use Rattle.recurrence.specs.declared.Interval.{Interval as TailInterval}
 use Rattle.recurrence.specs.Tails.{IsInterval}
 use Rattle.intervals.specs.declared.Interval.{Interval}
 use Rattle.tails.specs.declared.NamedTail.{NamedTail}
-use Rattle.zones.specs.Content.{Ending, tailed, Body, fixed, listed}
-use Rattle.zones.specs.Lookup.{zeroOffset, until, named}
+use Rattle.zones.specs.Content.{Ending, tailed, Body, fixed, listed, Zone}
+use Rattle.zones.specs.Lookup.{until, named, always}
 use Rattle.zones.specs.declared.Found.{Found}
 
 -- "An interval holds its start and not its end."
@@ -28,8 +27,12 @@ pub data InList (end : ℕ) : List Interval → Found → Type 0 where
 pub data InTail (n : NamedTail) : Found → Type 0 where
   by-rules : (y : TailInterval) → IsInterval (n .tail) y → InTail n (named n y)
 
-pub data InBody : Body → Found → Type 0 where
-  all-of-time : (offset n : ℕ)
-      → InBody (fixed offset n) (record { wall = offset; savings = zeroOffset; name = n; start = startOfTime; end = endOfTime })
-  in-list : (is : List Interval) (end : ℕ) (e : Ending) (x : Found) → InList end is x → InBody (listed is end e) x
-  in-tail : (is : List Interval) (end : ℕ) (n : NamedTail) (x : Found) → InTail n x → InBody (listed is end (tailed n)) x
+-- of a body of the zone with the ID id
+pub data InBody (id : ℕ) : Body → Found → Type 0 where
+  all-of-time : (offset n : ℕ) → InBody id (fixed offset n) (always id offset n)
+  in-list : (is : List Interval) (end : ℕ) (e : Ending) (x : Found) → InList end is x → InBody id (listed is end e) x
+  in-tail : (is : List Interval) (end : ℕ) (n : NamedTail) (x : Found) → InTail n x → InBody id (listed is end (tailed n)) x
+
+-- x is an interval of the zone z
+abbrev pub InZone : Zone → Found → Type 0
+InZone z x = InBody (z .id) (z .body) x

@@ -4,3 +4,4 @@ pub mod Sound
 pub mod Intervals
 pub mod Lookup
 pub mod View
+pub mod InOrder

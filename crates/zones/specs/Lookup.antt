@@ -1,4 +1,5 @@
--- The interval of a zone that holds an instant. Assumes nothing: these are definitions.
+-- The interval of a zone that holds an instant. The code's way, tied to the zone's intervals by `lookup-holds` and `lookup-only`
+-- (proofs/PartitionLaws.antt).
 use Prim.Native.Nat.{ℕ}
 use mathlib.Core.List.{List, [], _∷_}
 use lib.Dec.{ltb}
@@ -11,8 +12,8 @@ use Rattle.zones.specs.Content.{Ending, untailed, tailed, Body, fixed, l
 use Rattle.intervals.specs.declared.Interval.{Interval}
 use Rattle.tails.specs.declared.NamedTail.{NamedTail}
 use Rattle.zones.specs.declared.Found.{Found}
-use Rattle.zones.specs.declared.Verdict.{Verdict}
-use Rattle.zones.specs.declared.Verdict.the-variants.{Good, Refused}
+use Rattle.zones.specs.declared.ZoneVerdict.{ZoneVerdict}
+use Rattle.zones.specs.declared.ZoneVerdict.the-variants.{Good, Refused}
 use Rattle.zones.specs.declared.Answer.{Answer}
 use Rattle.zones.specs.declared.Answer.the-variants.{In, Refused as Denied}
 
@@ -49,16 +50,23 @@ unfoldable pub behindList : ℕ → Ending → Found
 behindList t untailed = nowhere
 behindList t (tailed n) = inTail t n
 
--- "Flag 1, fixed: .. savings 0, all of time"
-unfoldable pub inBody : ℕ → Body → Found
-inBody t (fixed offset name) = record { wall = offset; savings = zeroOffset; name = name; start = startOfTime; end = endOfTime }
-inBody t (listed is end e) = pick (ltb t end) (inList t end is) (behindList t e)
+-- "Flag 1, fixed: offset, then name; savings 0, all of time"; id is the zone's ID
+abbrev pub always : ℕ → ℕ → ℕ → Found
+always id offset name = record { wall = offset; savings = zeroOffset; name = name; start = startOfTime; end = endOfTime }
+
+unfoldable pub inBody : ℕ → ℕ → Body → Found
+inBody t id (fixed offset name) = always id offset name
+inBody t id (listed is end e) = pick (ltb t end) (inList t end is) (behindList t e)
+
+-- the interval of a zone that holds the instant t
+abbrev pub inZone : ℕ → Zone → Found
+inZone t z = inBody t (z .id) (z .body)
 
 -- what the check and the lookup make of a parse
-abbrev pub verdictOf : Parsed Zone → Verdict
+abbrev pub verdictOf : Parsed Zone → ZoneVerdict
 verdictOf (got z r) = Good (z .id)
 verdictOf (bad n) = Refused n
 
 abbrev pub answerOf : ℕ → Parsed Zone → Answer
-answerOf t (got z r) = In (inBody t (z .body))
+answerOf t (got z r) = In (inZone t z)
 answerOf t (bad n) = Denied n

@@ -1,6 +1,6 @@
 -- The data of field 1, read left to right: its content, or the number of the first fault. Each thing that is read is a stage of its
 -- own, last stage first; "a value's code (7) comes before its use (4, 8 to 11), and each use is judged at once".
--- Assumes nothing: these are definitions.
+-- The code's way, tied to InOrder.antt by `zone-stages` (proofs/InOrderLaws.antt).
 use Prim.Native.Nat.{ℕ}
 use mathlib.Core.List.{List}
 use lib.Dec.{ltb, eqb}
@@ -42,11 +42,12 @@ afterEnd pool id is end s = bind (parseByte s) (afterTailByte pool id is end)
 unfoldable pub afterIntervals : ℕ → ℕ → List Interval → List ℕ → Parsed Zone
 afterIntervals pool id is s = bind (parse (readMoment (behind startOf endOfTime is)) s) (afterEnd pool id is)
 
+abbrev pub parseIntervals : ℕ → ℕ → ℕ → List ℕ → Parsed Zone
+parseIntervals pool id n s = bind (many (parseInterval pool) startOf n endOfTime s) (afterIntervals pool id)
+
 -- "4,096 intervals a zone", "interval count 0" is 10
 unfoldable pub afterCount : ℕ → ℕ → ℕ → List ℕ → Parsed Zone
-afterCount pool id n s =
-    pick (eqb n 0) (bad 10)
-    (pick (ltb 4096 n) (bad 4) (bind (many (parseInterval pool) startOf n endOfTime s) (afterIntervals pool id)))
+afterCount pool id n s = pick (eqb n 0) (bad 10) (pick (ltb 4096 n) (bad 4) (parseIntervals pool id n s))
 
 unfoldable pub parseListed : ℕ → ℕ → List ℕ → Parsed Zone
 parseListed pool id s = bind (parse readCount s) (afterCount pool id)

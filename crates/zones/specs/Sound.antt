@@ -1,7 +1,8 @@
--- What holds of the content of a well-formed zone. Assumes nothing: these are definitions.
+-- What holds of the content of a well-formed zone. To be believed; `zone-sound` (proofs/SoundLaws.antt) shows it of what is read.
 use Prim.Native.Nat.{ℕ, _≤_, _<_}
 use mathlib.Core.Path.{_≡_}
 use mathlib.Core.List.{List}
+use lib.ListN.{length}
 use Rattle.base.specs.Parsed.{behind}
 use Rattle.base.specs.Moment.{Finite, endOfTime}
 use Rattle.intervals.specs.declared.Interval.{Interval}
@@ -16,9 +17,10 @@ abbrev pub EndOk : ℕ → List Interval → ℕ → Ending → Type 0
 EndOk pool is end untailed = end ≡ endOfTime
 EndOk pool is end (tailed n) = (behind startOf endOfTime is < end) × Finite end × NamedTailOk pool end n
 
+-- "4,096 intervals a zone"
 abbrev pub BodyOk : ℕ → Body → Type 0
 BodyOk pool (fixed offset n) = (offset ≤ 172799999) × (n < pool)
-BodyOk pool (listed is end e) = ListOk pool is × EndOk pool is end e
+BodyOk pool (listed is end e) = ListOk pool is × EndOk pool is end e × (length is ≤ 4096)
 
 -- pool is the pool's count
 pub record Sound (pool : ℕ) (z : Zone) : Type 0 where

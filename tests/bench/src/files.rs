@@ -56,7 +56,7 @@ pub struct Growing {
 }
 
 /// Files on which a reader with a cost that isn't linear would show it.
-pub const GROWING: [Growing; 9] = [
+pub const GROWING: [Growing; 10] = [
     Growing {
         name: "1,024 to 8,192 zones, IDs of 503 bytes that differ at the end",
         make: |factor| fixed_zones(1024 * factor, |number| format!("{}{number:04}", "x".repeat(499))),
@@ -65,6 +65,14 @@ pub const GROWING: [Growing; 9] = [
     Growing {
         name: "1,024 to 8,192 zones, IDs of 503 bytes that differ in the middle",
         make: |factor| fixed_zones(1024 * factor, |number| format!("{0}{number:04}{0}x", "x".repeat(249))),
+        well_formed: true,
+    },
+    Growing {
+        name: "1,024 to 8,192 zones, IDs of 500 bytes that all have one hash in the library",
+        make: |factor| {
+            let ids = of_one_hash(1024 * factor);
+            fixed_zones(ids.len(), |number| ids[number].clone())
+        },
         well_formed: true,
     },
     Growing {
@@ -128,6 +136,25 @@ fn names(count: usize) -> Vec<String> {
 
 fn fixed_zones(count: usize, id: impl Fn(usize) -> String) -> Grown {
     grown((0..count).map(id).collect(), (0..count).map(fixed).collect(), preferred)
+}
+
+/// IDs that all have one hash by `crates/ids`, which takes four bytes at a time, low first: `h = (h + word) * FACTOR`, of which the highest
+/// 14 bits count. So the last four bytes are chosen by what is to come out.
+fn of_one_hash(count: usize) -> Vec<String> {
+    const FACTOR: u32 = 16_777_619;
+    let front = "x".repeat(496);
+    let word = |bytes: &[u8]| bytes.iter().rev().fold(0, |word: u32, &byte| word << 8 | u32::from(byte));
+    let add = |hash: u32, bytes| hash.wrapping_add(word(bytes)).wrapping_mul(FACTOR);
+    let hash = front.as_bytes().chunks(4).fold(2_166_136_261, add);
+    // Newton's iteration for 1 / FACTOR modulo 2^32: each step doubles the bits that are right, of which an odd number's own are three.
+    let inverse =
+        (0..4).fold(FACTOR, |inverse, _| inverse.wrapping_mul(2u32.wrapping_sub(FACTOR.wrapping_mul(inverse))));
+    // All numbers with the highest bits 5; the ends that are ASCII, about one in sixteen, are taken.
+    let ends = (5 << 18..6 << 18).map(|sum: u32| sum.wrapping_mul(inverse).wrapping_sub(hash).to_le_bytes());
+    let ids = ends.filter(|end| end.is_ascii()).map(|end| front.clone() + &String::from_utf8_lossy(&end));
+    let ids: Vec<String> = ids.take(count).collect();
+    assert_eq!(ids.len(), count, "IDs of one hash");
+    ids
 }
 
 fn grown(pool: Vec<String>, zones: Vec<Zone>, write: fn(&FileContent) -> Vec<u8>) -> Grown {

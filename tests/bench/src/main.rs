@@ -1,5 +1,5 @@
-//! Measures the proved library beside the peer, and prints two Markdown tables: on the realistic files, ours against the
-//! peer's; on files of n, 2n, 4n and 8n bytes, how the time grows. Fails if the two give different answers.
+//! Measures the proved library beside the peer, and prints two Markdown tables with a few words: on the realistic files, ours
+//! against the peer's; on files of n, 2n, 4n and 8n bytes, how the time grows. Fails if the two give different answers.
 
 mod clock;
 mod files;
@@ -7,7 +7,7 @@ mod measure;
 mod work;
 
 use files::{content, in_ticks, Grown, GROWING};
-use measure::{measure, SAMPLES};
+use measure::{measure, FEW_SAMPLES, SAMPLES};
 use second_reader::generate::FileContent;
 use second_reader::zone::{Rest, Zone};
 use std::process::ExitCode;
@@ -38,19 +38,19 @@ impl Count {
 }
 
 fn main() -> ExitCode {
-    let (mut ratio, mut growth) = (Count::default(), Count::default());
-    if let Err(fault) = realistic(&mut ratio).and_then(|()| growing(&mut growth)) {
+    println!("A time is the processor time of one call in µs, the least of {SAMPLES} samples ({FEW_SAMPLES} where a call takes");
+    println!("longer than 0.1 s), ours and the peer's taken in turn.\n");
+    if let Err(fault) = realistic().and_then(|()| growing()) {
         eprintln!("bench: {fault}");
         return ExitCode::FAILURE;
     }
-    println!("Processor time of one call, the least of {SAMPLES} samples, ours and the peer's taken in turn.");
-    println!("Ratio above {WANTED_RATIO:.1} in {} of {} rows of the first table,", ratio.above, ratio.all);
-    println!("growth above {WANTED_GROWTH:.1} in {} of {} steps of the second.", growth.above, growth.all);
     ExitCode::SUCCESS
 }
 
 /// On the realistic files: ours against the peer's.
-fn realistic(ratio_count: &mut Count) -> Result<(), String> {
+fn realistic() -> Result<(), String> {
+    let mut above = Count::default();
+    println!("## The realistic files\n");
     println!("| File | Work | Ours, µs | Peer, µs | Ratio |");
     println!("|---|---|---:|---:|---:|");
     for name in ["all.nzd", "europe.nzd"] {
@@ -67,10 +67,13 @@ fn realistic(ratio_count: &mut Count) -> Result<(), String> {
             let times = measure(&mut work.pieces(file));
             let ratio = times[0] / times[1];
             println!("| `{name}` | {what} | {} | {} | {ratio:.2} |", us(times[0]), us(times[1]));
-            ratio_count.add(ratio, WANTED_RATIO);
+            above.add(ratio, WANTED_RATIO);
         }
     }
-    println!();
+    println!(
+        "\nThe ratio is above {WANTED_RATIO:.1}, so the peer the quicker one, in {} of {} rows.\n",
+        above.above, above.all
+    );
     Ok(())
 }
 
@@ -95,7 +98,11 @@ fn questions(content: &FileContent) -> Vec<(String, Work)> {
 }
 
 /// On files of n, 2n, 4n and 8n bytes: how the time grows.
-fn growing(growth: &mut Count) -> Result<(), String> {
+fn growing() -> Result<(), String> {
+    let mut above = Count::default();
+    println!("## Files made to be slow\n");
+    println!("Each is made with n, 2n, 4n and 8n bytes, up to the largest sizes. A cost that grows with the length only takes twice the");
+    println!("time where a file is twice as long.\n");
     println!(
         "| Files of n, 2n, 4n, 8n bytes | Work | 8n, bytes | Ours at 8n, µs \
          | t(2n)/t(n) | t(4n)/t(2n) | t(8n)/t(4n) | Peer's largest of these | Ours / peer at 8n |"
@@ -121,7 +128,7 @@ fn growing(growth: &mut Count) -> Result<(), String> {
             let times = measure(&mut pieces);
             let steps = [2, 4, 6].map(|at| times[at] / times[at - 2]);
             for step in steps {
-                growth.add(step, WANTED_GROWTH);
+                above.add(step, WANTED_GROWTH);
             }
             // Where the peer's is as large, it is the machine's caches.
             let peer = [3, 5, 7].map(|at| times[at] / times[at - 2]).into_iter().fold(0.0, f64::max);
@@ -130,7 +137,7 @@ fn growing(growth: &mut Count) -> Result<(), String> {
             println!("| {} | {what} | {length} | {ours} | {shown} | {peer:.2} | {ratio:.2} |", kind.name);
         }
     }
-    println!();
+    println!("\nOf {} steps {} are above {WANTED_GROWTH:.1}.", above.all, above.above);
     Ok(())
 }
 

@@ -61,7 +61,7 @@ fn read_number<T: Into<i64>>(
     tally: &mut Tally,
     what: &str,
     s: &[u8],
-    ours: impl Fn(&[u8], &mut [i64]) -> u64,
+    ours: impl Fn(&[u8], &mut [i64; 2]) -> u64,
     wrapped: impl Fn(&[u8]) -> Result<(i64, usize), nzd::Error>,
     theirs: impl Fn(&[u8]) -> codes::Read<T>,
 ) -> Result<(), Difference> {
@@ -75,8 +75,9 @@ fn read_text(tally: &mut Tally, s: &[u8]) -> Result<(), Difference> {
     let theirs = codes::read_text(s).map_err(refused);
     let numbers = theirs.clone().map(|(part, _)| [part.start as i64, part.len() as i64]);
     tally.same(&"text", s, lent::numbers(s, |out| ffi::read_text(s, out))?, numbers)?;
+    let wrapped = nzd::codes::read_text(s).map_err(error_pair).map(|(text, length)| (text.as_bytes(), length));
     let text = theirs.map(|(part, length)| (&s[part], length));
-    tally.same(&"text by the wrapper", s, nzd::codes::read_text(s).map_err(error_pair), text)
+    tally.same(&"text by the wrapper", s, wrapped, text)
 }
 
 fn instant((ticks, finite): Previous) -> Option<Transition> {

@@ -7,9 +7,9 @@ use crate::tally::{Difference, Outcome};
 const FOUND_NUMBER: i64 = -0x5a5a_5a5a_5a5a_5a5a;
 /// What lent bytes hold before a call.
 const FOUND_BYTE: u8 = 0xa7;
-/// How many elements behind the lent ones are watched.
+/// How many elements beside the lent ones are watched.
 const MARGIN: usize = 3;
-/// More numbers than any function gives, with the margin.
+/// More numbers than any function gives, with a margin before and behind them.
 const MOST_NUMBERS: usize = 16;
 
 /// Takes a result apart: number in the low byte, the rest above.
@@ -20,40 +20,21 @@ fn outcome(result: u64) -> Outcome<u64> {
     }
 }
 
-/// Calls a function that gives `N` numbers: with every out that is too short, with one just long enough, and with a
-/// longer one.
+/// Calls a function that gives `N` numbers, with an output that has others before and behind it.
 pub fn numbers<const N: usize>(
     bytes: &[u8],
-    function: impl Fn(&mut [i64]) -> u64,
+    function: impl FnOnce(&mut [i64; N]) -> u64,
 ) -> Result<Outcome<[i64; N]>, Difference> {
-    for room in 0..N {
-        // "an `out` that is too short for them gives 15 at place 0 before all else"
-        let short: Outcome<[i64; N]> = numbers_in(room, bytes, &function)?;
-        if short != Err((15, 0)) {
-            return Err(Difference::new(format!("an out of {room} instead of {N} gave {short:?}"), bytes));
-        }
-    }
-    let exact = numbers_in(N, bytes, &function)?;
-    let longer = numbers_in(N + 1, bytes, &function)?;
-    if exact != longer {
-        return Err(Difference::new(format!("{exact:?} with an out of {N}, {longer:?} with a longer one"), bytes));
-    }
-    Ok(exact)
-}
-
-fn numbers_in<const N: usize>(
-    room: usize,
-    bytes: &[u8],
-    function: impl Fn(&mut [i64]) -> u64,
-) -> Result<Outcome<[i64; N]>, Difference> {
-    let mut out = [FOUND_NUMBER; MOST_NUMBERS];
-    let given = outcome(function(&mut out[..room]));
-    let written = if given.is_ok() { N } else { 0 };
-    if written > room || out[written..].iter().any(|number| *number != FOUND_NUMBER) {
-        return Err(Difference::new(format!("{given:?} with an out of {room} left {out:?}"), bytes));
+    let mut lent = [FOUND_NUMBER; MOST_NUMBERS];
+    let (before, rest) = lent.split_at_mut(MARGIN);
+    let (out, behind) = rest.split_first_chunk_mut::<N>().expect("room for the output");
+    let given = outcome(function(out));
+    let left = |numbers: &[i64]| numbers.iter().all(|number| *number == FOUND_NUMBER);
+    if !left(before) || !left(behind) || (given.is_err() && !left(out)) {
+        return Err(Difference::new(format!("{given:?} with an out of {N} left {lent:?}"), bytes));
     }
     match given {
-        Ok(0) => Ok(Ok(std::array::from_fn(|at| out[at]))),
+        Ok(0) => Ok(Ok(*out)),
         Ok(rest) => Err(Difference::new(format!("0 with {rest} above it"), bytes)),
         Err(refusal) => Ok(Err(refusal)),
     }
@@ -88,29 +69,17 @@ pub fn nothing(bytes: &[u8], result: u64) -> Result<Outcome<()>, Difference> {
 mod tests {
     use super::*;
 
-    /// What a good function gives: three numbers, or 15.
-    fn three(out: &mut [i64]) -> u64 {
-        match out.get_mut(..3) {
-            Some(numbers) => {
-                numbers.copy_from_slice(&[7, 8, 9]);
-                0
-            }
-            None => 15,
-        }
-    }
-
     #[test]
     fn output_that_must_stay_is_watched() {
-        assert!(numbers::<3>(&[], three).is_ok_and(|given| given == Ok([7, 8, 9])));
-        // A number too many or too few, a length above 0, a refusal at a place, and a write on a refusal.
-        assert!(numbers::<2>(&[], three).is_err());
-        assert!(numbers::<4>(&[], three).is_err());
-        assert!(numbers::<3>(&[], |out| three(out) + 256).is_err());
-        let refused_late = |out: &mut [i64]| {
-            three(out);
-            15
+        let three = |out: &mut [i64; 3]| {
+            *out = [7, 8, 9];
+            0
         };
-        assert!(numbers::<3>(&[], refused_late).is_err());
+        assert!(numbers(&[], three).is_ok_and(|given| given == Ok([7, 8, 9])));
+        assert!(numbers::<3>(&[], |_| 15).is_ok_and(|given| given == Err((15, 0))));
+        // A length above 0, and a write on a refusal.
+        assert!(numbers(&[], |out| three(out) + 256).is_err());
+        assert!(numbers(&[], |out| three(out) + 15).is_err());
     }
 
     #[test]

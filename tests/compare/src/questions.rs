@@ -69,13 +69,16 @@ fn numbers_of(answer: &Answer) -> [i64; 6] {
 }
 
 fn wrapped_numbers(file: &[u8], answer: Result<nzd::Answer<'_>, nzd::Error>) -> Outcome<[i64; 6]> {
-    let nzd::Answer { wall_offset_ms, savings_ms, name, start, end } = answer.map_err(error_pair)?;
+    let answer = answer.map_err(error_pair)?;
+    let nzd::Answer { wall_offset_ms, savings_ms, start, end, .. } = answer;
     let bound = |bound: Bound| match bound {
         Bound::StartOfTime => i64::MIN,
         Bound::At(ticks) => ticks,
         Bound::EndOfTime => i64::MAX,
     };
-    // The name is a part of the file's own bytes.
+    // The name is a part of the file's own bytes, and text.
+    let name = answer.name_str();
+    assert_eq!(name.as_bytes(), answer.name);
     let place = (name.as_ptr() as usize).wrapping_sub(file.as_ptr() as usize);
     Ok([wall_offset_ms, savings_ms, place as i64, name.len() as i64, bound(start), bound(end)])
 }

@@ -33,8 +33,9 @@ fn version_text(tally: &mut Tally, file: &[u8]) -> Result<(), Difference> {
     let theirs = second_reader::version_text(file).map_err(pair);
     let numbers = theirs.clone().map(|part| [part.start as i64, part.len() as i64]);
     tally.same(&"version text", file, lent::numbers(file, |out| ffi::version_text(file, out))?, numbers)?;
+    let wrapped = nzd::version_text(file).map_err(error_pair).map(str::as_bytes);
     let text = theirs.map(|part| &file[part]);
-    tally.same(&"version text by the wrapper", file, nzd::version_text(file).map_err(error_pair), text)
+    tally.same(&"version text by the wrapper", file, wrapped, text)
 }
 
 /// Rewrites with room just enough, one byte short, none, as long as the file, and more.

@@ -1,6 +1,7 @@
 //! Codes, read from the front of what is left of a field's data, and the writer's form of transitions.
 
 use crate::number::{BAD_CODE, BAD_DATA, BAD_TEXT, TOO_LARGE};
+use crate::zone::Interval;
 use crate::{END_OF_TIME, FIRST, LAST, START_OF_TIME};
 
 const DAY_MS: i32 = 86_400_000;
@@ -99,7 +100,7 @@ impl<'a> Cursor<'a> {
         match *self.rest {
             [byte @ 0x01..=0x5f, ref rest @ ..] => {
                 self.rest = rest;
-                Ok((i32::from(byte) - 48) * 1_800_000)
+                Ok(half_hours(byte))
             }
             _ => self.long_offset(),
         }
@@ -145,15 +146,46 @@ impl<'a> Cursor<'a> {
         }
     }
 
+    /// An interval behind an instant, read at once: its start in two bytes of hours or nine of ticks, its name and offsets in a byte
+    /// each. None where other codes stand there, or where one of them is to be refused.
+    #[inline]
+    pub fn short_interval(&mut self, previous: i64, pool_count: u32) -> Option<Interval> {
+        let (start, [name @ 0..0x80, wall @ 0x01..=0x5f, savings @ 0x01..=0x5f], rest) = (match *self.rest {
+            [low @ 0x80..=0xff, high @ 0x01..0x80, name, wall, savings, ref rest @ ..] => {
+                let hours = i64::from(low & 0x7f) | i64::from(high) << 7;
+                Some((previous + hours * TICKS_PER_HOUR, [name, wall, savings], rest))
+            }
+            [2, a, b, c, d, e, f, g, h, name, wall, savings, ref rest @ ..] => {
+                Some((i64::from_be_bytes([a, b, c, d, e, f, g, h]), [name, wall, savings], rest))
+            }
+            _ => None,
+        })?
+        else {
+            return None;
+        };
+        if start <= previous || start > LAST || u32::from(name) >= pool_count {
+            return None;
+        }
+        self.rest = rest;
+        Some(Interval { start, name: name.into(), wall: half_hours(wall), savings: half_hours(savings) })
+    }
+
     /// A text: its length and its bytes.
     #[inline]
     pub fn text(&mut self) -> Result<&'a [u8], u8> {
+        self.text_behind(0)
+    }
+
+    /// A text, where the first `plain` bytes of what is left are known to be ASCII: what lies in them is not looked at again.
+    #[inline]
+    pub fn text_behind(&mut self, plain: usize) -> Result<&'a [u8], u8> {
+        let before = self.left();
         let length = self.count()?;
         if length > LONGEST_TEXT {
             return Err(TOO_LARGE);
         }
         let text = self.take(length as usize)?;
-        if text.is_ascii() || std::str::from_utf8(text).is_ok() {
+        if before - self.left() <= plain || std::str::from_utf8(text).is_ok() {
             Ok(text)
         } else {
             Err(BAD_TEXT)
@@ -167,6 +199,12 @@ impl<'a> Cursor<'a> {
             Err(BAD_DATA)
         }
     }
+}
+
+/// The offset, in milliseconds, of a byte of half hours.
+#[inline]
+fn half_hours(byte: u8) -> i32 {
+    (i32::from(byte) - 48) * 1_800_000
 }
 
 /// The writer's form of a transition.

@@ -49,6 +49,11 @@ impl<'a> Fields<'a> {
         Refusal { number, place: self.at }
     }
 
+    /// The first field, which is field 0; none where the version is all.
+    pub fn first(&mut self) -> Result<Option<Field<'a>>, Refusal> {
+        self.id()?.map(|id| self.field(id)).transpose()
+    }
+
     /// The next field's ID, judged; none at the bytes' end.
     #[inline]
     pub fn id(&self) -> Result<Option<u8>, Refusal> {

@@ -1,12 +1,14 @@
 //! A quick reader of `.nzd` files in safe Rust: the peer that the proved reader's speed is measured against.
 //!
-//! It makes the same checks in the same order, over slices and in one pass. It allocates the index of the pool's
-//! strings, for a whole-file check the set of zone IDs, and for a rewrite the list of the zones that change.
+//! It makes the same checks in the same order, over slices and in one pass, and has every shortcut that the proved
+//! reader has. It allocates the index of the pool's strings, for a whole-file check the table of zone IDs, and for a rewrite
+//! the list of the zones that change.
 //!
 //! Instants are ticks; start of time is the lowest `i64` and end of time the highest.
 
 mod codes;
 mod fields;
+mod ids;
 mod pool;
 mod rewrite;
 mod tail;
@@ -78,24 +80,23 @@ pub fn ask<'a>(file: &'a [u8], id: &[u8], ticks: i64, more: bool) -> Result<Answ
         return Err(Refusal { number: number::INSTANT_RANGE, place: 0 });
     }
     let cut = if more { number::NOT_YET } else { number::CUT_SHORT };
+    let unseen = if more { number::NOT_YET } else { number::NOT_FOUND };
     let mut fields = Fields::new(file, cut)?;
-    let mut pool = Pool::default();
+    let Some(field) = fields.first()? else {
+        return Err(Refusal { number: unseen, place: file.len() });
+    };
+    let pool = Pool::read(field.data).map_err(|number| field.refuse(number))?;
     while let Some(field_id) = fields.id()? {
         if field_id > 1 {
             return Err(Refusal { number: number::NOT_FOUND, place: fields.place() });
         }
         let field = fields.field(field_id)?;
-        if field_id == 0 {
-            pool = Pool::read(field.data).map_err(|number| field.refuse(number))?;
-            continue;
-        }
         let mut find = Find::new(ticks);
         let found = zone_of(field.data, &pool, id, &mut find).map_err(|number| field.refuse(number))?;
         if found {
             return Ok(find.answer(&pool));
         }
     }
-    let unseen = if more { number::NOT_YET } else { number::NOT_FOUND };
     Err(Refusal { number: unseen, place: file.len() })
 }
 

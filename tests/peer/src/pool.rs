@@ -6,9 +6,10 @@ use crate::number::TOO_LARGE;
 const MOST_STRINGS: u32 = 8192;
 
 /// The pool's strings, by number.
-#[derive(Default)]
 pub struct Pool<'a> {
-    strings: Vec<&'a [u8]>,
+    data: &'a [u8],
+    /// The place of each string's length.
+    starts: Vec<u32>,
 }
 
 impl<'a> Pool<'a> {
@@ -18,22 +19,43 @@ impl<'a> Pool<'a> {
         if count > MOST_STRINGS {
             return Err(TOO_LARGE);
         }
-        let mut strings = Vec::with_capacity(count as usize);
+        let mut at = data.len() - cursor.left();
+        // Most pools are ASCII: one look tells for all strings up to this place.
+        let plain = at + ascii_front(&data[at..]);
+        let mut starts = Vec::with_capacity(count as usize);
         for _ in 0..count {
-            strings.push(cursor.text()?);
+            starts.push(at as u32);
+            at += match data.get(at) {
+                // An ASCII byte is a whole count.
+                Some(&length) if at + usize::from(length) < plain => 1 + usize::from(length),
+                _ => {
+                    let mut cursor = Cursor::new(&data[at..]);
+                    cursor.text_behind(plain.saturating_sub(at))?;
+                    data.len() - at - cursor.left()
+                }
+            };
         }
-        cursor.end()?;
-        Ok(Pool { strings })
+        Cursor::new(&data[at..]).end()?;
+        Ok(Pool { data, starts })
     }
 
     #[inline]
     pub fn count(&self) -> u32 {
-        self.strings.len() as u32
+        self.starts.len() as u32
     }
 
     /// The string of a number below the count.
     #[inline]
     pub fn string(&self, number: u32) -> &'a [u8] {
-        self.strings[number as usize]
+        match self.data[self.starts[number as usize] as usize..] {
+            [length @ 0..0x80, ref rest @ ..] => &rest[..usize::from(length)],
+            [low, high, ref rest @ ..] => &rest[..usize::from(low & 0x7f) | usize::from(high) << 7],
+            _ => &[],
+        }
     }
+}
+
+/// How many bytes at the front are ASCII, found block by block: there may be more.
+fn ascii_front(bytes: &[u8]) -> usize {
+    bytes.chunks(256).take_while(|block| block.is_ascii()).map(<[u8]>::len).sum()
 }

@@ -2,11 +2,11 @@
 
 use crate::codes::Cursor;
 use crate::fields::{Field, Fields};
+use crate::ids::Ids;
 use crate::number::{CUT_SHORT, FIRST_FIELD, NOT_FOUND, SECOND_ZONE};
 use crate::pool::Pool;
 use crate::zone::read_rest;
 use crate::Refusal;
-use std::collections::HashSet;
 
 /// Checks a whole file.
 pub fn check(file: &[u8]) -> Result<(), Refusal> {
@@ -26,32 +26,27 @@ pub fn walk<'a>(
     mut read: impl FnMut(&Field<'a>, Cursor<'a>, u32) -> Result<(), u8>,
 ) -> Result<Option<&'a [u8]>, Refusal> {
     let mut fields = Fields::new(file, CUT_SHORT)?;
-    let mut pool = Pool::default();
-    let mut ids = HashSet::new();
+    let Some(field) = fields.first()? else {
+        return Err(Refusal { number: FIRST_FIELD, place: 4 });
+    };
+    let pool = Pool::read(field.data).map_err(|number| field.refuse(number))?;
+    let mut ids = Ids::new(pool.count());
     let mut text = None;
     while let Some(id) = fields.id()? {
         let field = fields.field(id)?;
         let refuse = |number| field.refuse(number);
         match id {
-            0 => {
-                pool = Pool::read(field.data).map_err(refuse)?;
-                ids.reserve(pool.count() as usize);
-            }
             1 => {
                 let mut cursor = Cursor::new(field.data);
                 let zone_id = cursor.pool_number(pool.count()).map_err(refuse)?;
                 read(&field, cursor, pool.count()).map_err(refuse)?;
-                if !ids.insert(pool.string(zone_id)) {
+                if !ids.insert(zone_id, &pool) {
                     return Err(refuse(SECOND_ZONE));
                 }
             }
             2 => text = Some(read_text(field.data).map_err(refuse)?),
             _ => {}
         }
-    }
-    // A first field that isn't field 0 is refused above.
-    if file.len() == 4 {
-        return Err(Refusal { number: FIRST_FIELD, place: 4 });
     }
     Ok(text)
 }

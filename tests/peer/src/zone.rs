@@ -60,6 +60,16 @@ fn read_listed(cursor: &mut Cursor, pool_count: u32, visit: &mut impl Visit) -> 
     }
     let mut previous = START_OF_TIME;
     for number in 0..count {
+        // Behind the second one stands an instant, and most are short.
+        if number > 1 {
+            let before = cursor.left();
+            if let Some(interval) = cursor.short_interval(previous, pool_count) {
+                visit.transition(interval.start, previous, before, cursor.left() + 3);
+                visit.interval(interval);
+                previous = interval.start;
+                continue;
+            }
+        }
         let start = read_transition(cursor, previous, visit)?;
         let allowed = if number == 0 { start == START_OF_TIME } else { start > previous && start != END_OF_TIME };
         if !allowed {

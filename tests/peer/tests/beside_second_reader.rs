@@ -147,6 +147,28 @@ fn realistic_files() {
     }
 }
 
+/// Other bytes than ASCII at every place of a pool that is ASCII else, so that what is known to be ASCII ends anywhere.
+#[test]
+fn ascii_up_to_any_place() {
+    let mut seen = Seen::default();
+    for place in 0..599 {
+        for bytes in [&[0xc3, 0xa9], &[0xff, 0xff]] {
+            let mut pool = vec![5];
+            let mut letters = vec![b'x'; 600];
+            letters[place..place + 2].copy_from_slice(bytes);
+            for string in letters.chunks(120) {
+                pool.push(120);
+                pool.extend(string);
+            }
+            let mut file = vec![0; 5];
+            file.extend(second_reader::codes::encode_count(pool.len() as i64).expect("a count"));
+            file.extend(pool);
+            same_whole(&file, &mut seen);
+        }
+    }
+    assert_eq!(seen.whole, BTreeSet::from([0, 8, 12, 15]));
+}
+
 #[test]
 fn limits() {
     // A field that ends at 4,194,304 exactly, and what may stand behind it.

@@ -18,10 +18,16 @@ refusal-requires : tie.Need-refusal-requires
 refusal-requires c κs = place-near _ _ _ _ _ (bytes (c .before .before .before .before .before .before .before .before)) (c .before .before .before .before .before .rewrite .ensures .0) (c .before .n2 .given .1)
 
 returns : tie.Need-returns
-returns c = (ap rewrittenResult (sym (c .before .n .given .1) ∙ c .before .before .before .before .before .rewrite .ensures .0), c .before .before .before .before .before .rewrite .ensures .1)
+returns c = record {
+  result = ap rewrittenResult (sym (c .before .n .given .1) ∙ c .before .before .before .before .before .rewrite .ensures .0);
+  output = c .before .before .before .before .before .rewrite .ensures .1;
+}
 
 returns-2 : tie.Need-returns-2
-returns-2 c = (c .refusal .ensures ∙ ap rewrittenResult (sym (c .before .before .n2 .given .1) ∙ c .before .before .before .before .before .before .rewrite .ensures .0), c .before .before .before .before .before .before .rewrite .ensures .1)
+returns-2 c = record {
+  result = c .refusal .ensures ∙ ap rewrittenResult (sym (c .before .before .n2 .given .1) ∙ c .before .before .before .before .before .before .rewrite .ensures .0);
+  output = c .before .before .before .before .before .before .rewrite .ensures .1;
+}
 
 pub nzd-rewrite-spec : {M : Type 1} → statement M
 nzd-rewrite-spec =

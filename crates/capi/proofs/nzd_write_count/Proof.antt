@@ -1,7 +1,7 @@
 use native.Mathlib.Omega.{arith}
 use denote.Ref.{now}
 use mir.Facts.{toZ-ofZ}
-use Rattle.base.proofs.WriteLaws.{Writes}
+use Rattle.base.specs.Writing.{Writes}
 use Rattle.capi.specs.Functions.{integerForm}
 use Rattle.capi.proofs.FormLaws.{integer-small}
 use Rattle.capi.proofs.PutLaws.{puts, result-small, negative, Natural, natural}

@@ -1,6 +1,6 @@
 use mir.Facts.{toZ-ofZ}
 use denote.Ref.{now}
-use Rattle.base.proofs.WriteLaws.{Writes}
+use Rattle.base.specs.Writing.{Writes}
 use Rattle.offsets.specs.Offset.{offsetForm}
 use Rattle.capi.proofs.FormLaws.{offset-short}
 use Rattle.capi.proofs.PutLaws.{puts, result-small}

@@ -1,6 +1,6 @@
 use mir.Facts.{toZ-ofZ}
 use denote.Ref.{now}
-use Rattle.base.proofs.WriteLaws.{Writes}
+use Rattle.base.specs.Writing.{Writes}
 use Rattle.counts.specs.SignedCount.{signedCountForm}
 use Rattle.capi.proofs.FormLaws.{signed-small}
 use Rattle.capi.proofs.PutLaws.{puts, result-small}

@@ -1,7 +1,7 @@
 use mathlib.Core.Path.{_≡_}
 use denote.Ref.{now}
 use mir.Facts.{toZ-ofZ}
-use Rattle.base.proofs.WriteLaws.{Writes}
+use Rattle.base.specs.Writing.{Writes}
 use Rattle.replies.specs.Functions.{previousOf, momentOf}
 use Rattle.capi.specs.Functions.{kindForm}
 use Rattle.capi.proofs.FormLaws.{moment-form}

@@ -1,41 +1,41 @@
 use mathlib.Core.Path.{_≡_, sym, _∙_}
 use denote.Ref.{now}
 use Rattle.base.specs.declared.Read.the-variants.{Value}
-use Rattle.counts.specs.Count.{readCount}
+use Rattle.frames.specs.Frame.{readSize}
 use native.Mathlib.Omega.{arith}
-use Rattle.counts.proofs.CountLaws.{counted}
+use Rattle.frames.proofs.SizeLaws.{size-read}
 use Rattle.frames.proofs.ReadLaws.{size-cut, size-refused, size-large, size-whole, size-part}
 use borrow.Author.Needs.{needs}
 use Rattle.frames.proofs.sized.Statement.{statement}
 use Rattle.frames.proofs.sized.Tie as tie
 use Rattle.frames.proofs.sized.Reads as reads
 use Rattle.frames.proofs.sized.Lts as lts
-use Rattle.counts.proofs.read_count.Reads as read-count-reads
+use Rattle.frames.proofs.read_size.Reads as read-size-reads
 use Rattle.frames.proofs.beyond.Reads as beyond-reads
 
 abbrev At-size : Type 0
 At-size =
-    lts.After-known-told2 (read-count-reads.Asked, read-count-reads.Learnt, beyond-reads.Asked, beyond-reads.Learnt) reads.Pre reads.Post
+    lts.After-known-told2 (read-size-reads.Asked, read-size-reads.Learnt, beyond-reads.Asked, beyond-reads.Learnt) reads.Pre reads.Post
 
 -- the size code is a count
 value : (c : At-size)
-    → Value (c .before .v .given .0 .0) (c .before .v .given .0 .1 .0) ≡ readCount (now (c .before .before .before .before .before .args .r))
-value c = sym (c .before .v .given .1) ∙ c .before .before .before .read-count .ensures
+    → Value (c .before .v .given .0 .0) (c .before .v .given .0 .1 .0) ≡ readSize (now (c .before .before .before .before .before .args .r))
+value c = sym (c .before .v .given .1) ∙ c .before .before .before .read-size .ensures
 
 returns : tie.Need-returns
-returns c = size-cut _ _ _ _ (sym (c .before .before .n .given .1) ∙ c .before .before .before .before .read-count .ensures) (c .if1 .taken)
+returns c = size-cut _ _ _ _ (sym (c .before .before .n .given .1) ∙ c .before .before .before .before .read-size .ensures) (c .if1 .taken)
 
 add-beyond : tie.Need-add-beyond
-add-beyond c = omega (arith, counted _ (value c))
+add-beyond c = omega (arith, size-read _ (value c))
 
 add-beyond-2 : tie.Need-add-beyond-2
-add-beyond-2 c = omega (arith, counted _ (value c))
+add-beyond-2 c = omega (arith, size-read _ (value c))
 
 returns-2 : tie.Need-returns-2
 returns-2 c = size-large _ _ _ _ _ (value (c .before .before)) _ (c .before .beyond .ensures) (c .if2 .taken)
 
 add-if3 : tie.Need-add-if3
-add-if3 c = omega (arith, counted _ (value (c .before .before)))
+add-if3 c = omega (arith, size-read _ (value (c .before .before)))
 
 returns-3 : tie.Need-returns-3
 returns-3 c =
@@ -43,7 +43,7 @@ returns-3 c =
 
 returns-4 : tie.Need-returns-4
 returns-4 c =
-    size-refused _ _ _ _ (sym (c .before .before .n .given .1) ∙ c .before .before .before .before .read-count .ensures) (c .if1 .left)
+    size-refused _ _ _ _ (sym (c .before .before .n .given .1) ∙ c .before .before .before .before .read-size .ensures) (c .if1 .left)
 
 returns-5 : tie.Need-returns-5
 returns-5 c =

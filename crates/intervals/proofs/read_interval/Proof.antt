@@ -1,5 +1,5 @@
 use native.Mathlib.Omega.{arith}
-use Rattle.intervals.proofs.ShortLaws.{start-room}
+use Rattle.intervals.proofs.ShortLaws.{start-room, start-means}
 use borrow.Author.Needs.{needs}
 use Rattle.intervals.proofs.read_interval.Statement.{statement}
 use Rattle.intervals.proofs.read_interval.Tie as tie
@@ -8,7 +8,7 @@ short-interval-requires : tie.Need-short-interval-requires
 short-interval-requires c κs = omega (arith, start-room _ _ _ _ _ _ (c .before .short-start .ensures) (c .if3 .taken))
 
 returns : tie.Need-returns
-returns c = rw (c .short-interval .ensures) (c .before .before .short-start .ensures .means (c .before .if3 .taken))
+returns c = rw (c .short-interval .ensures) (start-means _ _ _ _ _ _ (c .before .before .short-start .ensures) (c .before .if3 .taken))
 
 pub read-interval-spec : {M : Type 1} → statement M
 read-interval-spec =

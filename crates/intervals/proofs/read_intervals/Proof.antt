@@ -4,7 +4,7 @@ use native.Mathlib.Omega.{arith}
 use mathlib.Core.Path.{ap}
 use Rattle.intervals.specs.Scan.{ofInterval}
 use Rattle.intervals.proofs.ScanLaws.{Scanning, scanning-start, scanning-in, scanning-bad, scanning-next, scanning-done}
-use Rattle.intervals.proofs.ShortLaws.{start-room}
+use Rattle.intervals.proofs.ShortLaws.{start-room, start-means}
 use Rattle.intervals.proofs.read_intervals.Statement.{statement}
 use Rattle.intervals.proofs.read_intervals.Tie as tie
 
@@ -36,7 +36,7 @@ loop-again : tie.Need-loop-again Inv-loop μ-loop
 loop-again c =
     rw (c .advance .ensures, c .before .short-interval .ensures)
     (scanning-next _ _ _ _ _ _ _ _ (c .before .before .before .before .before .loop .inv) (omega arith) _ _
-    (c .before .before .before .short-start .ensures .means (c .before .before .if1 .taken)))
+    (start-means _ _ _ _ _ _ (c .before .before .before .short-start .ensures) (c .before .before .if1 .taken)))
 
 read-interval-requires : tie.Need-read-interval-requires Inv-loop μ-loop
 read-interval-requires c κs = scanning-in _ _ _ _ _ _ _ _ (c .before .before .before .loop .inv)

@@ -1,21 +1,18 @@
-use mathlib.Core.Path.{refl}
-use native.Mathlib.Omega.{arith}
-use Rattle.base.proofs.Tests.{never}
-use Rattle.places.proofs.ShortLaws.{details-at}
+use Rattle.places.proofs.ShortLaws.{details-long, details-are, details-none}
 use borrow.Author.Needs.{needs}
 use Rattle.places.proofs.short_details.Statement.{statement}
 use Rattle.places.proofs.short_details.Tie as tie
 
 returns : tie.Need-returns
-returns c = λ e. never e refl
+returns c = details-long _ _ (c .if1 .taken)
 
 returns-2 : tie.Need-returns-2
 returns-2 c =
-    λ e. details-at _ _ (omega arith) (omega arith)
-    (c .before .before .before .half-hours .ensures (c .before .before .if2 .taken)) (c .half-hours2 .ensures e)
+    details-are _ _ _ (c .before .before .before .before .before .if1 .left) (c .before .before .before .half-hours .ensures) _ (c .before .before .if2 .taken)
+    (c .half-hours2 .ensures)
 
 returns-3 : tie.Need-returns-3
-returns-3 c = λ e. never e refl
+returns-3 c = details-none _ _ _ (c .before .before .before .if1 .left) (c .before .half-hours .ensures) (c .if2 .left)
 
 pub short-details-spec : {M : Type 1} → statement M
 short-details-spec =

@@ -31,7 +31,7 @@ plain-at : (c : tie.In-loop Inv-loop μ-loop)
 plain-at c = ascii-at (c .before .before .before .before .args .plain) (c .before .before .before .before .args .from) (c .before .loop .at) (now (c .before .before .before .before .args .d)) (c .before .loop .inv .1) (c .before .before .before .before .pre .5)
 
 loop-again : tie.Need-loop-again Inv-loop μ-loop
-loop-again c = (filling-next _ _ _ _ _ _ _ (c .before .before .before .loop .inv .0) (c .before .before .loop-test .taken) _ (plain-here _ _ (c .before .before .before .before .before .before .args .plain) _ (c .before .before .before .before .before .before .pre .4) (plain-at (c .before .before)) (c .before .short .ensures (c .if1 .taken)) (c .if1 .taken)) _ _ refl, omega (arith, c .before .before .before .loop .inv .1))
+loop-again c = (filling-next _ _ _ _ _ _ _ (c .before .before .before .loop .inv .0) (c .before .before .loop-test .taken) _ (plain-here _ _ (c .before .before .before .before .before .before .args .plain) _ (c .before .before .before .before .before .before .pre .4) (plain-at (c .before .before)) (c .before .short .ensures) (c .if1 .taken)) _ _ refl, omega (arith, c .before .before .before .loop .inv .1))
 
 read-text-in-requires : tie.Need-read-text-in-requires Inv-loop μ-loop
 read-text-in-requires c κs =

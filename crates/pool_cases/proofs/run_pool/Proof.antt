@@ -7,9 +7,6 @@ use Rattle.pool_cases.proofs.run_pool.Tie as tie
 show-strings-requires : tie.Need-show-strings-requires
 show-strings-requires c κs = (ready _ _ _ (room-most _) (c .before .before .before .before .before .before .before .before .check-pool .ensures .1), taken _ _ (sym (c .before .before .before .before .before .c2 .given .1) ∙ c .before .before .before .before .before .before .before .before .check-pool .ensures .0) .many)
 
-show-field-requires : tie.Need-show-field-requires
-show-field-requires c κs = ready _ _ _ (room-most _) (c .before .before .before .before .before .before .before .before .before .before .check-pool .ensures .1)
-
 pub run-pool-spec : {M : Type 1} → statement M
 run-pool-spec =
     tie.close
@@ -28,8 +25,7 @@ run-pool-spec =
     (λ c κs. search needs)
     (λ c. search needs)
     show-strings-requires
-    (λ c. search needs)
-    show-field-requires
+    (λ c κs. search needs)
     (λ c κs. search needs)
     (λ c. search needs)
     (λ c κs. search needs)

@@ -3,14 +3,14 @@ use mathlib.Core.Path.{sym, _∙_}
 use native.Mathlib.Omega.{arith}
 use borrow.Author.Tests.{leb-true}
 use Rattle.field_checks.proofs.WellFormedLaws.{good-well-formed}
-use Rattle.rewrite.specs.View.{Ready}
+use Rattle.rewrite.specs.View.{Rewritable}
 use Rattle.rewrite.proofs.ReadyLaws.{file-ready, rewrite-refused, rewrite-short, rewrite-put}
 use borrow.Author.Needs.{needs}
 use Rattle.rewrite.proofs.rewrite.Statement.{statement}
 use Rattle.rewrite.proofs.rewrite.Tie as tie
 
 -- the check has shown what the walk relies on
-ready : (c : tie.After-enum-told) → Ready (now (c .before .before .before .before .before .args .s))
+ready : (c : tie.After-enum-told) → Rewritable (now (c .before .before .before .before .before .args .s))
 ready c = file-ready _ (good-well-formed _ (sym (c .before .before .check .ensures) ∙ c .enum-told .given .1)) (λ i. omega (arith, c .before .before .before .before .shared-slice-known .given i))
 
 has-room-requires : tie.Need-has-room-requires

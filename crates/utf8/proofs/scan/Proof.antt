@@ -5,7 +5,7 @@ use native.Mathlib.Omega.{arith}
 use lib.ListN.{length, drop}
 use borrow.Author.Tests.{lt-ltb}
 use Rattle.utf8.specs.Utf8.{utf8}
-use Rattle.utf8.proofs.Utf8Laws.{utf8-end}
+use Rattle.utf8.proofs.Utf8Laws.{utf8-end, size-means}
 use Rattle.utf8.proofs.scan.Statement.{statement}
 use Rattle.utf8.proofs.scan.Tie as tie
 
@@ -19,15 +19,15 @@ loop-holds : tie.Need-loop-holds Inv-loop μ-loop
 loop-holds c = (search needs, refl)
 
 returns : tie.Need-returns Inv-loop μ-loop
-returns c = sym (rw (c .if1 .taken) at (c .before .size-at .ensures .1)) ∙ c .before .before .before .loop .inv .1
+returns c = sym (rw (c .if1 .taken) at (size-means _ _ (c .before .before .loop-test .taken) _ (c .before .size-at .ensures) .1)) ∙ c .before .before .before .loop .inv .1
 
 loop-less : tie.Need-loop-less Inv-loop μ-loop
-loop-less c = omega (arith, c .before .size-at .ensures .0)
+loop-less c = omega (arith, size-means _ _ (c .before .before .loop-test .taken) _ (c .before .size-at .ensures) .0)
 
 loop-again : tie.Need-loop-again Inv-loop μ-loop
 loop-again c =
     let l : 0 < c .before .size-at .result = omega arith in
-    (c .before .size-at .ensures .0, sym (rw (lt-ltb _ _ l) at (c .before .size-at .ensures .1)) ∙ c .before .before .before .loop .inv .1)
+    (size-means _ _ (c .before .before .loop-test .taken) _ (c .before .size-at .ensures) .0, sym (rw (lt-ltb _ _ l) at (size-means _ _ (c .before .before .loop-test .taken) _ (c .before .size-at .ensures) .1)) ∙ c .before .before .before .loop .inv .1)
 
 returns-2 : tie.Need-returns-2 Inv-loop μ-loop
 returns-2 c = sym (utf8-end _ _ (c .loop-test .left)) ∙ c .before .loop .inv .1
@@ -41,7 +41,7 @@ scan-spec =
     loop-holds
     (λ c κs. search needs)
     returns
-    (λ c. search needs)
+    (λ c. omega (arith, size-means _ _ (c .before .before .loop-test .taken) _ (c .before .size-at .ensures) .0))
     loop-less
     loop-again
     returns-2)

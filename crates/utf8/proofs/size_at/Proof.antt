@@ -1,6 +1,7 @@
 use borrow.Author.Needs.{needs}
-use mathlib.Core.Path.{refl, sym, _∙_}
-use Rattle.utf8.proofs.Utf8Laws.{size-none, size-cut, size-some}
+use mathlib.Core.Path.{sym, _∙_}
+use mathlib.Core.Bool.{true, false}
+use Rattle.utf8.proofs.Utf8Laws.{size-by, size-cut, size-ends}
 use Rattle.utf8.proofs.size_at.Statement.{statement}
 use Rattle.utf8.proofs.size_at.Tie as tie
 
@@ -9,17 +10,18 @@ returns c = size-cut _ _ (c .before .before .before .before .before .before .bef
 
 returns-2 : tie.Need-returns-2
 returns-2 c =
-    size-some _ _ (c .before .before .before .before .before .before .before .before .before .pre) _ _ _
+    size-ends _ _ (c .before .before .before .before .before .before .before .before .before .pre) _ _ _ true
     (sym (c .before .before .before .before .k .given .1) ∙ c .before .before .before .before .before .before .lead .ensures)
-    (c .before .before .if1 .left) (rw (c .if2 .taken) at (c .before .ends .ensures))
+    (rw (c .if2 .taken) at (c .before .ends .ensures))
 
 returns-3 : tie.Need-returns-3
-returns-3 c = size-none _ _ (c .before .before .before .before .before .pre) _ (sym (c .enum-told .given .1) ∙ c .before .before .lead .ensures) refl
+returns-3 c = size-by _ _ (c .before .before .before .before .before .pre) _ (sym (c .enum-told .given .1) ∙ c .before .before .lead .ensures)
 
 returns-4 : tie.Need-returns-4
 returns-4 c =
-    size-none _ _ (c .before .before .before .before .before .before .before .before .before .pre) _
-    (sym (c .before .before .before .before .k .given .1) ∙ c .before .before .before .before .before .before .lead .ensures) (rw (c .if2 .left) at (c .before .ends .ensures))
+    size-ends _ _ (c .before .before .before .before .before .before .before .before .before .pre) _ _ _ false
+    (sym (c .before .before .before .before .k .given .1) ∙ c .before .before .before .before .before .before .lead .ensures)
+    (rw (c .if2 .left) at (c .before .ends .ensures))
 
 pub size-at-spec : {M : Type 1} → statement M
 size-at-spec =

@@ -2,7 +2,7 @@ use mathlib.Core.Path.{ap, _∙_}
 use Rattle.places.specs.Placed.{ofRead}
 use Rattle.places.proofs.PlaceLaws.{then-in, then-got, then-bad}
 use Rattle.zones.specs.Parse.{afterEnd}
-use Rattle.zones.proofs.ReadLaws.{as-bad, as-on, after-last}
+use Rattle.zones.proofs.ReadLaws.{end-bad, end-on, after-last}
 use borrow.Author.Needs.{needs}
 use Rattle.zones.proofs.read_end.Statement.{statement}
 use Rattle.zones.proofs.read_end.Tie as tie
@@ -15,15 +15,15 @@ read-ending-requires c κs = then-in (c .before .before .before .byte-at .ensure
 
 returns : tie.Need-returns
 returns c =
-    as-bad _ _ _
-    (λ is l. after-last _ _ is _ _ l ∙
+    end-bad _ _ _
+    (λ id is l. after-last _ _ is _ _ l ∙
     then-bad (c .before .before .before .moment-at .ensures) _ _ (ap ofRead (c .before .k .given .1)))
 
 returns-2 : tie.Need-returns-2
 unfolding afterEnd
 returns-2 c =
-    as-bad _ _ _
-    (λ is l. after-last _ _ is _ _ l ∙
+    end-bad _ _ _
+    (λ id is l. after-last _ _ is _ _ l ∙
     then-got (c .before .before .before .before .before .before .before .moment-at .ensures) _ _ _
     (ap ofRead (c .before .before .before .before .before .end .given .1)) ∙
     then-bad (c .before .before .before .byte-at .ensures) _ _ (ap ofRead (c .before .k2 .given .1)))
@@ -31,8 +31,8 @@ returns-2 c =
 returns-3 : tie.Need-returns-3
 unfolding afterEnd
 returns-3 c =
-    as-on _ _ _ _
-    (λ is l. after-last _ _ is _ _ l ∙
+    end-on _ _ _ _
+    (λ id is l. after-last _ _ is _ _ l ∙
     then-got (c .before .before .before .before .before .before .before .before .moment-at .ensures) _ _ _
     (ap ofRead (c .before .before .before .before .before .before .end .given .1)) ∙
     then-got (c .before .before .before .before .byte-at .ensures) _ _ _ (ap ofRead (c .before .before .b .given .1)))

@@ -2,7 +2,7 @@ use mathlib.Core.Path.{ap, _∙_}
 use Rattle.places.specs.Placed.{ofRead}
 use Rattle.places.proofs.PlaceLaws.{then-in, then-got, then-bad}
 use Rattle.zones.specs.Parse.{afterFixedOffset, parseFixed}
-use Rattle.zones.proofs.ReadLaws.{zone-here, zone-over, any-bad, any-fixed}
+use Rattle.zones.proofs.ReadLaws.{zone-here, zone-over, front-bad, front-fixed}
 use borrow.Author.Needs.{needs}
 use Rattle.zones.proofs.read_fixed.Statement.{statement}
 use Rattle.zones.proofs.read_fixed.Tie as tie
@@ -13,7 +13,7 @@ name-at-requires c κs = then-in (c .before .before .before .sum-at .ensures) _ 
 returns : tie.Need-returns
 unfolding parseFixed afterFixedOffset
 returns c =
-    any-bad _ _
+    front-bad _ _ _ _
     (then-got (c .before .before .before .before .before .before .before .before .sum-at .ensures) _ _ _
     (ap ofRead (c .before .before .before .before .before .before .offset .given .1)) ∙
     then-got (c .before .before .before .before .name-at .ensures) _ _ _ (ap ofRead (c .before .before .n .given .1)) ∙
@@ -21,12 +21,12 @@ returns c =
 
 returns-2 : tie.Need-returns-2
 unfolding parseFixed
-returns-2 c = any-bad _ _ (then-bad (c .before .before .before .sum-at .ensures) _ _ (ap ofRead (c .before .k .given .1)))
+returns-2 c = front-bad _ _ _ _ (then-bad (c .before .before .before .sum-at .ensures) _ _ (ap ofRead (c .before .k .given .1)))
 
 returns-3 : tie.Need-returns-3
 unfolding parseFixed afterFixedOffset
 returns-3 c =
-    any-bad _ _
+    front-bad _ _ _ _
     (then-got (c .before .before .before .before .before .before .before .sum-at .ensures) _ _ _
     (ap ofRead (c .before .before .before .before .before .offset .given .1)) ∙
     then-bad (c .before .before .before .name-at .ensures) _ _ (ap ofRead (c .before .k2 .given .1)))
@@ -34,7 +34,7 @@ returns-3 c =
 returns-4 : tie.Need-returns-4
 unfolding parseFixed afterFixedOffset
 returns-4 c =
-    any-fixed _ _ _ _ _
+    front-fixed _ _ _ _ _ _
     (then-got (c .before .before .before .before .before .before .before .before .sum-at .ensures) _ _ _
     (ap ofRead (c .before .before .before .before .before .before .offset .given .1)) ∙
     then-got (c .before .before .before .before .name-at .ensures) _ _ _ (ap ofRead (c .before .before .n .given .1)) ∙

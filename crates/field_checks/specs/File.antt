@@ -1,0 +1,45 @@
+-- A well-formed file by its bytes, with no walk and no order of faults: "A file is well formed when none of 2 to 11 or 13 applies to it as a
+-- whole." To be believed: file-well-formed and well-formed-file (proofs/FileLaws.antt) say that these are the files to which the check gives 0.
+use Prim.Native.Nat.{ℕ}
+use mathlib.Core.Path.{_≡_}
+use mathlib.Core.List.{List, [], _∷_, _++_}
+use lib.ListN.{length}
+use Rattle.base.specs.All.{All}
+use Rattle.base.specs.Parsed.{got}
+use Rattle.texts.specs.Text.{parseText}
+use Rattle.pool.specs.Pool.{parsePool}
+use Rattle.zones.specs.Content.{Zone}
+use Rattle.zones.specs.Parse.{parseZone}
+use Rattle.frames.specs.Frame.{Field}
+use Rattle.frames.specs.Covers.{Framed}
+use Rattle.field_checks.specs.Check.{HasId}
+
+-- the data d of a field 1, all of them, are a zone, with ts for a pool: none of 4 and 7 to 11
+pub record ZoneData (ts : List (List ℕ)) (d : List ℕ) : Type 0 where
+  pub zone : Zone
+  pub parsed : parseZone (length ts) d ≡ got zone []
+
+abbrev pub AsZone : List (List ℕ) → Field → Type 0
+AsZone ts g = g .id ≡ 1 → ZoneData ts (g .body)
+
+-- the data d of a field 2, all of them, are a text: none of 4 and 7 to 9
+pub record TextData (d : List ℕ) : Type 0 where
+  pub text : List ℕ
+  pub parsed : parseText d ≡ got text []
+
+abbrev pub AsText : Field → Type 0
+AsText g = g .id ≡ 2 → TextData (g .body)
+
+pub record IsFile (f : List ℕ) : Type 0 where
+  -- version and fields to the bytes' end
+  pub first : Field
+  pub others : List Field
+  pub framed : Framed f first others
+  -- their contents; "Fields 3 and up are stepped over by their size"
+  pub strings : List (List ℕ)
+  pub pool : parsePool (first .body) ≡ got strings []
+  pub zones : All (AsZone strings) others
+  pub texts : All AsText others
+  -- no "second zone with the same ID bytes": not 13
+  pub apart : (gs : List Field) (g : Field) (hs : List Field) (h : Field) (is : List Field) (x : List ℕ) → others ≡ gs ++ g ∷ (hs ++ h ∷ is)
+      → HasId strings x g → HasId strings x h → ⊥

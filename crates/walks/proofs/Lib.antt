@@ -1,2 +1,0 @@
-pub mod JudgeLaws
-pub mod WalkingLaws

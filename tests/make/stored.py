@@ -1,0 +1,86 @@
+"""What the scripts that make stored cases share: writing a program's cases, counts, texts and fields as bytes, and asking the second reader."""
+import os
+import subprocess
+import sys
+import tempfile
+
+TOP = os.path.dirname(os.path.dirname(os.path.dirname(os.path.abspath(__file__))))
+
+
+def write_cases(program, cases):
+    """Writes the input lines and the expected output of a program: pairs of a line and what is written for it."""
+    lines = "".join(line + "\n" for line, _ in cases)
+    assert len(lines) <= 65536, "the program's input has %d bytes" % len(lines)
+    for name, text_ in ("stdin", lines), ("stdout", "".join(said + "\n" for _, said in cases)):
+        with open(os.path.join(TOP, "crates", program, name), "w") as f:
+            f.write(text_)
+    print("%d cases" % len(cases))
+
+
+def count(n):
+    """The shortest form of a count: seven bits a byte, low first, the top bit set on all but the last."""
+    out = []
+    while n > 127:
+        out.append(128 + n % 128)
+        n //= 128
+    return bytes(out + [n])
+
+
+def signed(n):
+    """A signed count: 0, -1, 1, -2 are the counts 0, 1, 2, 3."""
+    return count(2 * n if n >= 0 else -2 * n - 1)
+
+
+def offset(ms):
+    """An offset in milliseconds, in the first form that fits."""
+    n = ms + 86400000
+    if n % 1800000 == 0:
+        return bytes([n // 1800000])
+    if n % 60000 == 0:
+        return (0x8000 + n // 60000).to_bytes(2, "big")
+    if n % 1000 == 0:
+        return (0xA00000 + n // 1000).to_bytes(3, "big")
+    return (0xC0000000 + n).to_bytes(4, "big")
+
+
+def text(s):
+    """Length and bytes."""
+    b = s if isinstance(s, bytes) else s.encode("utf-8")
+    return count(len(b)) + b
+
+
+def field(id_, data):
+    """ID, size and data."""
+    return bytes([id_]) + count(len(data)) + data
+
+
+def hex_(h):
+    return bytes.fromhex(h)
+
+
+def parts(front, unit, times, end):
+    """The words of a line that spell the front, the unit so many times, and the end."""
+    return "%s %s %06x %s" % (front.hex(), unit.hex(), times, end.hex() or "-")
+
+
+class Second:
+    """The second reader: the program that the command line names, or else the one that is built."""
+
+    def __init__(self):
+        self.program = sys.argv[1] if len(sys.argv) > 1 else self.built()
+        self.folder = tempfile.TemporaryDirectory()
+        self.file = os.path.join(self.folder.name, "zones.nzd")
+
+    @staticmethod
+    def built():
+        target = os.path.join(TOP, "target", "second_reader")
+        subprocess.run(["cargo", "build", "--offline", "--locked", "--release", "--quiet"], cwd=os.path.join(TOP, "tests", "second_reader"),
+                       env=dict(os.environ, CARGO_TARGET_DIR=target), check=True)
+        return os.path.join(target, "release", "second_reader")
+
+    def says(self, *words):
+        """What it writes, without the line feed."""
+        done = subprocess.run([self.program, *words], capture_output=True)
+        assert done.returncode in (0, 1), (words, done.stderr)
+        assert done.stdout.endswith(b"\n")
+        return done.stdout[:-1]

@@ -125,7 +125,7 @@ struct nzd_answer {
 uint64_t nzd_ask(const uint8_t *file, size_t n, const uint8_t *id, size_t id_n, int64_t ticks, bool more,
                  struct nzd_answer *out);
 
-/* The same, of bytes that are all there is. */
+/* The same with more: the plain question expects more. Of a file that is all there, call nzd_ask without more. */
 uint64_t nzd_ask_plain(const uint8_t *file, size_t n, const uint8_t *id, size_t id_n, int64_t ticks,
                        struct nzd_answer *out);
 

@@ -10,7 +10,7 @@
 //! ```
 //! // A file with one fixed zone, "UTC".
 //! let file = b"\0\0\0\0\x00\x05\x01\x03UTC\x01\x04\x00\x01\x30\x00";
-//! let answer = nzd::ask_plain(file, "UTC", nzd::ticks_of_unix_seconds(1_711_846_800))?;
+//! let answer = nzd::ask(file, "UTC", nzd::ticks_of_unix_seconds(1_711_846_800), nzd::Mark::ThisIsAll)?;
 //! assert_eq!(answer.wall_offset_ms, 0);
 //! assert_eq!(answer.name_str(), "UTC");
 //! # Ok::<(), nzd::Error>(())
@@ -117,14 +117,17 @@ pub fn ask(file: &[u8], id: impl AsRef<[u8]>, ticks: i64, mark: Mark) -> Result<
     Ok(answer(file, out))
 }
 
-/// Asks bytes that are all there is for the interval of the zone `id` that holds the instant `ticks`.
+/// Asks for the interval of the zone `id` that holds the instant `ticks`, of bytes of which more may come: [`ask`] with
+/// [`Mark::MoreMayCome`]. Of a file that is all there use [`ask`] with [`Mark::ThisIsAll`].
 ///
 /// ```
-/// use nzd::Number;
+/// use nzd::{Mark, Number};
 ///
 /// let file = b"\0\0\0\0\x00\x05\x01\x03UTC\x01\x04\x00\x01\x30\x00";
 /// assert_eq!(nzd::ask_plain(file, "UTC", 0)?.savings_ms, 0);
-/// assert_eq!(nzd::ask_plain(file, "GMT", 0).unwrap_err().number, Number::NotFound);
+/// // The zone may still come.
+/// assert_eq!(nzd::ask_plain(file, "GMT", 0).unwrap_err().number, Number::NotYet);
+/// assert_eq!(nzd::ask(file, "GMT", 0, Mark::ThisIsAll).unwrap_err().number, Number::NotFound);
 /// # Ok::<(), nzd::Error>(())
 /// ```
 pub fn ask_plain(file: &[u8], id: impl AsRef<[u8]>, ticks: i64) -> Result<Answer<'_>, Error> {

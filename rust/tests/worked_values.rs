@@ -27,15 +27,18 @@ fn the_worked_file() {
         assert_eq!((answer.start, answer.end), start_and_end);
     }
     assert_eq!(check(UTC), Ok(()));
-    assert_eq!(refused(ask_plain(UTC, "GMT", 0)), (Number::NotFound, 17));
+    // "unmarked lines .. write `1 17` for GMT, `1 11` on 16 bytes and `1 0` on none"
+    assert_eq!(refused(ask_plain(UTC, "GMT", 0)), (Number::NotYet, 17));
+    assert_eq!(refused(ask_plain(&UTC[..16], "UTC", 0)), (Number::NotYet, 11));
+    assert_eq!(refused(ask_plain(&[], "UTC", 0)), (Number::NotYet, 0));
     assert_eq!(refused(ask(UTC, "GMT", 0, Mark::ThisIsAll)), (Number::NotFound, 17));
     assert_eq!(refused(ask(UTC, "GMT", 0, Mark::MoreMayCome)), (Number::NotYet, 17));
     assert_eq!(refused(ask(&UTC[..16], "UTC", 0, Mark::MoreMayCome)), (Number::NotYet, 11));
-    assert_eq!(refused(ask_plain(&UTC[..16], "UTC", 0)), (Number::CutShort, 11));
+    assert_eq!(refused(ask(&UTC[..16], "UTC", 0, Mark::ThisIsAll)), (Number::CutShort, 11));
     let longer = [UTC, &[2]].concat();
     assert_eq!(refused(ask(&longer, "GMT", 0, Mark::MoreMayCome)), (Number::NotFound, 17));
     assert_eq!(refused(ask(&[], "UTC", 0, Mark::MoreMayCome)), (Number::NotYet, 0));
-    assert_eq!(refused(ask_plain(&[], "UTC", 0)), (Number::CutShort, 0));
+    assert_eq!(refused(ask(&[], "UTC", 0, Mark::ThisIsAll)), (Number::CutShort, 0));
     assert_eq!(refused(ask_plain(UTC, "UTC", i64::MAX)), (Number::InstantOutOfRange, 0));
 }
 
@@ -51,10 +54,10 @@ fn summer_and_winter() {
     let file = europe();
     // 2024-03-31T01:00Z and 2024-10-27T01:00Z.
     let (spring, autumn) = (1_711_846_800 * TICKS_PER_SECOND, 1_729_990_800 * TICKS_PER_SECOND);
-    let summer = ask_plain(&file, "Europe/Oslo", spring).expect("an answer");
+    let summer = ask(&file, "Europe/Oslo", spring, Mark::ThisIsAll).expect("an answer");
     assert_eq!((summer.wall_offset_ms, summer.savings_ms, summer.name), (2 * HOUR, HOUR, &b"CEST"[..]));
     assert_eq!((summer.start, summer.end), (Bound::At(spring), Bound::At(autumn)));
-    let winter = ask_plain(&file, "Europe/Oslo", spring - 1).expect("an answer");
+    let winter = ask(&file, "Europe/Oslo", spring - 1, Mark::ThisIsAll).expect("an answer");
     assert_eq!((winter.wall_offset_ms, winter.savings_ms, winter.name), (HOUR, 0, &b"CET"[..]));
     assert!(winter.start < winter.end && winter.end == Bound::At(spring));
     assert_eq!(version_text(&file), Ok("2025b"));

@@ -30,8 +30,10 @@ static void no_bytes(void) {
     struct nzd_transition transition;
     EXPECT(nzd_check(NULL, 0) == NZD_CUT_SHORT);
     EXPECT(nzd_ask(NULL, 0, NULL, 0, 0, true, &answer) == NZD_NOT_YET);
-    EXPECT(nzd_ask_plain(NULL, 0, NULL, 0, 0, &answer) == NZD_CUT_SHORT);
-    EXPECT(nzd_ask_plain(file, sizeof file, NULL, 0, 0, &answer) == NZD_NOT_FOUND + 256 * 17);
+    EXPECT(nzd_ask(NULL, 0, NULL, 0, 0, false, &answer) == NZD_CUT_SHORT);
+    EXPECT(nzd_ask_plain(NULL, 0, NULL, 0, 0, &answer) == NZD_NOT_YET);
+    EXPECT(nzd_ask(file, sizeof file, NULL, 0, 0, false, &answer) == NZD_NOT_FOUND + 256 * 17);
+    EXPECT(nzd_ask_plain(file, sizeof file, NULL, 0, 0, &answer) == NZD_NOT_YET + 256 * 17);
     EXPECT(nzd_version_text(NULL, 0, &text) == NZD_CUT_SHORT);
     EXPECT(nzd_rewrite(NULL, 0, NULL, 0) == NZD_CUT_SHORT);
     EXPECT(nzd_rewrite(file, sizeof file, NULL, 0) == NZD_OUTPUT_TOO_SHORT);
@@ -63,9 +65,9 @@ static void members(void) {
     EXPECT(nzd_read_transition(hours, 2, 0, true, &transition) == NZD_ANSWERED);
     EXPECT(transition.kind == NZD_KIND_INSTANT && transition.ticks == 5040 * 3600 * NZD_TICKS_PER_SECOND);
     EXPECT(transition.length == 2);
-    EXPECT(nzd_ask_plain(file, sizeof file, NULL, 0, NZD_LAST_INSTANT, &answer) == NZD_NOT_FOUND + 256 * 17);
+    EXPECT(nzd_ask(file, sizeof file, NULL, 0, NZD_LAST_INSTANT, false, &answer) == NZD_NOT_FOUND + 256 * 17);
     EXPECT(nzd_ask_plain(file, sizeof file, NULL, 0, NZD_LAST_INSTANT + 1, &answer) == NZD_INSTANT_OUT_OF_RANGE);
-    EXPECT(nzd_ask_plain(file, sizeof file, NULL, 0, NZD_FIRST_INSTANT, &answer) == NZD_NOT_FOUND + 256 * 17);
+    EXPECT(nzd_ask(file, sizeof file, NULL, 0, NZD_FIRST_INSTANT, false, &answer) == NZD_NOT_FOUND + 256 * 17);
     EXPECT(nzd_ask_plain(file, sizeof file, NULL, 0, NZD_FIRST_INSTANT - 1, &answer) == NZD_INSTANT_OUT_OF_RANGE);
 }
 
@@ -80,7 +82,7 @@ static void words(void) {
 
 int main(void) {
     struct nzd_answer out;
-    uint64_t r = nzd_ask_plain(file, sizeof file, (const uint8_t *)"UTC", 3, 0, &out);
+    uint64_t r = nzd_ask(file, sizeof file, (const uint8_t *)"UTC", 3, 0, false, &out);
     if (nzd_number_of(r) != NZD_ANSWERED) {
         printf("%s: number %u, place %zu\n", nzd_words(nzd_number_of(r)), nzd_number_of(r), nzd_place_of(r));
         return 1;

@@ -115,7 +115,7 @@ def good(pool, d, instants=(), ahead=2, back=1, words=None):
     def at(t):
         """Start and end of the interval that holds t."""
         if t not in asked:
-            number, wall, savings, start, end, name = second("ask", FILE, id_, str(t))
+            number, wall, savings, start, end, name = second("ask", FILE, id_, str(t), "all")
             assert number == "0"
             asked[t] = start, end
             store(t, pool, words, " ".join(["0", id_, wall, savings, name, start, end]))

@@ -2,10 +2,11 @@
 // A line is `TICKS ID FILE` or `TICKS ID FRONT UNIT TIMES END`, where the file is the front, the unit so many times, and the end.
 // The instant is in ticks since 1970; the zone's ID, the file's parts and the times, three bytes, are in hexadecimal, `-` for none.
 // For each it writes the check's number and place, `0 0` for a well-formed file; the version text's number and place, with its length behind a
-// 0; and the plain question's number and place, or 0, wall offset, savings, start, end and name, the name in hexadecimal.
+// 0; and the number and place of the question as all there is, or 0, wall offset, savings, start, end and name, the name in hexadecimal.
 // The stored output comes from tests/make/check_cases.py.
 use answers::Answer;
 use answers::Found;
+use answers::Mark;
 use field_checks::Verdict;
 use field_checks::VersionText;
 use libc::STDIN_FILENO;
@@ -62,7 +63,7 @@ fn run_file(s: &[u8], id: &[u8], ticks: i64) {
     cases::say(b" | ");
     show_version(checks::version_text(s));
     cases::say(b" | ");
-    show_answer(s, questions::ask_plain(s, id, ticks));
+    show_answer(s, questions::ask(s, id, ticks, Mark::All));
     cases::say(b"\n");
 }
 

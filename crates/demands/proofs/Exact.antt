@@ -35,7 +35,7 @@ use Rattle.answers.specs.declared.Answer.the-variants.{In, Refused}
 use Rattle.questions.proofs.NameLaws.{standing-name}
 use Rattle.field_checks.specs.Check.{start, job, WellFormed, filePool, HasId}
 use Rattle.demands.specs.Zones.{InRange, Asked, NoZone}
-use Rattle.demands.specs.Parts.{There, Missing}
+use Rattle.demands.specs.Parts.{marked, There, Missing}
 use Rattle.demands.specs.Whole.{orEnd, absentAt}
 use Rattle.demands.proofs.Lone.{none-before}
 use Rattle.demands.proofs.Standing.{waits}
@@ -92,7 +92,7 @@ unfolding readGroups
 begin-alike ts = record { same = refl; which = inr refl }
 
 -- the file has the asked zone
-pub zone-there : (f id : List ℕ) (z : ℤ) (g : Field) (k : ℕ) → WellFormed f → Asked f id g → InRange z → k ≤ length f → There f id z g k
+pub zone-there : (f id : List ℕ) (z : ℤ) (g : Field) (k : ℕ) → WellFormed f → Asked f id g → InRange z → k ≤ length f → There marked f id z g k
 zone-there f id z g k w a h l =
     let t : ℕ = instantOf z in
     let low = all-map {Q = λ (h : Field). h .id ≤ 1} (λ g′ e. omega (arith, e .rising, a .has .is-zone)) (chain-split f false 0 4 (a .before) g (a .behind) (rw (a .splits) at (listing-chain f 255))) in
@@ -117,7 +117,7 @@ zone-there f id z g k w a h l =
     }
 
 -- the file has no such zone
-pub zone-missing : (f id : List ℕ) (z : ℤ) (k : ℕ) → WellFormed f → NoZone f id → InRange z → k ≤ length f → Missing f id z k
+pub zone-missing : (f id : List ℕ) (z : ℤ) (k : ℕ) → WellFormed f → NoZone f id → InRange z → k ≤ length f → Missing marked f id z k
 zone-missing f id z k w n h l =
     let t : ℕ = instantOf z in
     let s = up-to-first (fields f) in

@@ -24,7 +24,7 @@ use Rattle.frames.specs.Fields.{scan, listing}
 use Rattle.base.specs.All.{all-none, all-also}
 use Rattle.field_checks.specs.Check.{placed, poolKept, newId, zoneKept, textKept, judged, WellFormed, filePool}
 use Rattle.demands.specs.Zones.{InRange, Asked, NoZone}
-use Rattle.demands.specs.Parts.{There, Missing}
+use Rattle.demands.specs.Parts.{marked, There, Missing}
 use Rattle.demands.proofs.Exact.{zone-there, zone-missing}
 use Rattle.base.proofs.Tests.{clash}
 
@@ -86,8 +86,8 @@ epoch-in-range e = omega arith
 
 -- so every first part of the file waits for "UTC" up to place 17 and then answers, and waits for "GMT" up to the byte at 17 and then
 -- says that there is no such zone
-pub utc-there : (k : ℕ) → k ≤ length file → There file utc (pos 0) zone k
+pub utc-there : (k : ℕ) → k ≤ length file → There marked file utc (pos 0) zone k
 utc-there k l = zone-there file utc (pos 0) zone k well-formed asked epoch-in-range l
 
-pub gmt-missing : (k : ℕ) → k ≤ length file → Missing file gmt (pos 0) k
+pub gmt-missing : (k : ℕ) → k ≤ length file → Missing marked file gmt (pos 0) k
 gmt-missing k l = zone-missing file gmt (pos 0) k well-formed lacks epoch-in-range l

@@ -1,4 +1,4 @@
--- TWELVE WORKED CASES OF DOCUMENT 01, each with the sentence that it is. `worked` (proofs/Worked.antt) says that they hold; the other worked
+-- TWELVE WORKED CASES OF DOCUMENT 01, each with the sentence that it is; of its plain lines Ask 1's. `worked` (proofs/Worked.antt) says that they hold; the other worked
 -- values are run by programs (docs/STATEMENTS.md says which). To be believed.
 use mathlib.Core.List.{List, [], _∷_, _++_}
 use Prim.Native.Nat.{ℕ, _+_, _*_, _-_}
@@ -22,7 +22,7 @@ use Rattle.questions.specs.Question.{ask, askPlain}
 use Rattle.answers.specs.Answers.{nameOf}
 use Rattle.answers.specs.Numbers.{givenByAnswer}
 use Rattle.answers.specs.declared.Mark.{Mark}
-use Rattle.answers.specs.declared.Mark.the-variants.{More}
+use Rattle.answers.specs.declared.Mark.the-variants.{More, All}
 use Rattle.answers.specs.declared.Answer.{Answer}
 use Rattle.answers.specs.declared.Answer.the-variants.{In, Refused}
 
@@ -100,14 +100,14 @@ cases =
     ∷ record { asked = rule (0x3E ∷ 0x03 ∷ 0x10 ∷ 0x34 ∷ []) 2024; expected = falls (dayNumber (2024 + 399) 3 10) (1710036000 * 10000000) }
     -- 7. "`UTC 0` writes `0 0 0 UTC`"
     ∷ record { asked = plain file utc (pos 0); expected = reply (pos 0) (pos 0) utc }
-    -- 8. "`GMT 0 part` writes `1 17`"
-    ∷ record { asked = question file gmt (pos 0) More; expected = refusal 1 17 }
-    -- 9. "On the first 16 bytes `UTC 0 part` writes `1 11`"
-    ∷ record { asked = question (take 16 file) utc (pos 0) More; expected = refusal 1 11 }
-    -- 10. "`UTC 0` writes `2 11`"
-    ∷ record { asked = plain (take 16 file) utc (pos 0); expected = refusal 2 11 }
+    -- 8. Ask 1: "unmarked lines .. write `1 17` for GMT"
+    ∷ record { asked = plain file gmt (pos 0); expected = refusal 1 17 }
+    -- 9. Ask 1: "`1 11` on 16 bytes"
+    ∷ record { asked = plain (take 16 file) utc (pos 0); expected = refusal 1 11 }
+    -- 10. `2 11` on the first 16 bytes, by a line that says "this is all"
+    ∷ record { asked = question (take 16 file) utc (pos 0) All; expected = refusal 2 11 }
     -- 11. "With one byte 02 added, `GMT 0 part` writes `12 17`"
     ∷ record { asked = question (file ++ 2 ∷ []) gmt (pos 0) More; expected = refusal 12 17 }
-    -- 12. "On no bytes: `1 0`"
-    ∷ record { asked = question [] utc (pos 0) More; expected = refusal 1 0 }
+    -- 12. Ask 1: "and `1 0` on none"
+    ∷ record { asked = plain [] utc (pos 0); expected = refusal 1 0 }
     ∷ []

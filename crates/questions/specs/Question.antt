@@ -11,7 +11,7 @@ use Rattle.frames.specs.Machine.{Out, found, refused, cut, ended, Job, walk}
 use Rattle.answers.specs.Answers.{Pool, noPool, answered, waiting}
 use Rattle.locate.specs.Asked.{asking}
 use Rattle.answers.specs.declared.Mark.{Mark}
-use Rattle.answers.specs.declared.Mark.the-variants.{All}
+use Rattle.answers.specs.declared.Mark.the-variants.{More}
 use Rattle.answers.specs.declared.Found.{Found}
 use Rattle.answers.specs.declared.Answer.{Answer}
 use Rattle.answers.specs.declared.Answer.the-variants.{In, Refused}
@@ -33,9 +33,9 @@ finish mark (ended m p) = Refused (waiting mark 12) p
 unfoldable pub ask : List ℕ → List ℕ → ℤ → Mark → Answer
 ask bs id z mark = pick (eqb (instantOf z) 0) (Refused 14 0) (finish mark (walk (question id (instantOf z)) noPool bs))
 
--- "The plain question carries no mark and means 'this is all'."
+-- Ask 1: "From now on the plain question means 'more may come'."
 abbrev pub plainMark : Mark
-plainMark = All
+plainMark = More
 
 abbrev pub askPlain : List ℕ → List ℕ → ℤ → Answer
 askPlain bs id z = ask bs id z plainMark

@@ -85,9 +85,9 @@ pub fn ask(s: &[u8], id: &[u8], ticks: i64, mark: Mark) -> Answer
     answers::finish(o, mark)
 }
 
-// The plain question: this is all.
+// The plain question: more may come.
 pub fn ask_plain(s: &[u8], id: &[u8], ticks: i64) -> Answer
     ensures { λ r. ⌜ r ≡ askPlain (now (s .entry)) (now (id .entry)) ticks ⌝ }
 {
-    ask(s, id, ticks, Mark::All)
+    ask(s, id, ticks, Mark::More)
 }

@@ -1,7 +1,7 @@
 //! What is measured: a check, a question or a rewrite, by the library and by the peer.
 
 use crate::measure::Piece;
-use nzd::Bound;
+use nzd::{Bound, Mark};
 use std::hint::black_box;
 
 /// One kind of work on a file.
@@ -36,7 +36,7 @@ impl Work {
         match self {
             Work::Check => nzd::check(file).map_err(pair) == peer::check(file).map_err(peer_pair),
             Work::Ask { id, ticks } => {
-                let ours: Said = nzd::ask_plain(file, id, *ticks)
+                let ours: Said = nzd::ask(file, id, *ticks, Mark::ThisIsAll)
                     .map(|a| (a.wall_offset_ms, a.savings_ms, a.name, ticks_of(a.start), ticks_of(a.end)))
                     .map_err(pair);
                 let theirs: Said = peer::ask(file, id, *ticks, false)
@@ -57,7 +57,7 @@ impl Work {
         match self {
             Work::Check => [piece(move || nzd::check(black_box(file))), piece(move || peer::check(black_box(file)))],
             Work::Ask { id, ticks } => [
-                piece(move || nzd::ask_plain(black_box(file), black_box(id), *ticks)),
+                piece(move || nzd::ask(black_box(file), black_box(id), *ticks, Mark::ThisIsAll)),
                 piece(move || peer::ask(black_box(file), black_box(id), *ticks, false)),
             ],
             Work::Rewrite => {

@@ -32,7 +32,8 @@ pub(crate) fn run(arguments: &[OsString]) -> Result<Done, Misuse> {
             let bytes = read(file)?;
             Ok(done(file::read_file(&bytes).map(|_| b"0".to_vec())))
         }
-        (Some("ask"), [file, zone, ticks]) => ask_file(file, zone, ticks, Mark::ThisIsAll),
+        // The plain question.
+        (Some("ask"), [file, zone, ticks]) => ask_file(file, zone, ticks, Mark::MoreMayCome),
         (Some("ask"), [file, zone, ticks, mark]) => match mark.to_str() {
             Some("part") => ask_file(file, zone, ticks, Mark::MoreMayCome),
             Some("all") => ask_file(file, zone, ticks, Mark::ThisIsAll),

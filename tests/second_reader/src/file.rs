@@ -224,9 +224,9 @@ pub fn ask(bytes: &[u8], zone: &[u8], ticks: i64, mark: Mark) -> Result<Answer, 
     Err(mark.unseen().at(bytes.len()))
 }
 
-/// "The plain question carries no mark and means \"this is all\"."
+/// 02, Ask 1: "From now on the plain question means \"more may come\"."
 pub fn ask_plain(bytes: &[u8], zone: &[u8], ticks: i64) -> Result<Answer, Refusal> {
-    ask(bytes, zone, ticks, Mark::ThisIsAll)
+    ask(bytes, zone, ticks, Mark::MoreMayCome)
 }
 
 /// The tzdb version text, as a part of the lent bytes: "check all first; then 15 or 12", "for 12 on the version text,

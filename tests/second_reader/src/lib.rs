@@ -1,10 +1,11 @@
 //! A second reader of NodaZoneData (`.nzd`) files.
 //!
-//! It is written from the papers alone (`01-scope.md`, the readings in `docs/DECISIONS.md`, the published format) and shares no code,
-//! table or text with the proved reader, so that its results can stand as expected results for that one.
+//! It is written from the papers alone (`01-scope.md`, `02-change-requests.md`, the readings in `docs/DECISIONS.md`, the published format) and
+//! shares no code, table or text with the proved reader, so that its results can stand as expected results for that one.
 //! Plain over clever: everything is decoded first and judged in the order that the paper gives.
 //!
-//! The comments cite the sentences of `01-scope.md` as "01", the points of `docs/DECISIONS.md` as "reading N".
+//! The comments cite the sentences of `01-scope.md` as "01", those of `02-change-requests.md` as "02", the points of
+//! `docs/DECISIONS.md` as "reading N", and those on an ask of 02 as "reading ASK.N".
 
 pub mod calendar;
 pub mod codes;

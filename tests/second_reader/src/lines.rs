@@ -15,7 +15,7 @@ pub struct Question<'a> {
     pub zone: &'a [u8],
     /// The ticks; none if past 64 bits.
     pub ticks: Option<i64>,
-    /// `part` or `all`; a line without a mark is the plain question, which means all.
+    /// `part` or `all`; "unmarked lines in 01 follow the plain question" (02, Ask 1), so they are as with `part`.
     pub mark: Mark,
 }
 
@@ -29,8 +29,8 @@ pub fn parse_line(line: &[u8]) -> Option<Question<'_>> {
     let zone = parts.next()?;
     let ticks = parse_ticks(parts.next()?)?;
     let mark = match parts.next() {
-        None | Some(b"all") => Mark::ThisIsAll,
-        Some(b"part") => Mark::MoreMayCome,
+        None | Some(b"part") => Mark::MoreMayCome,
+        Some(b"all") => Mark::ThisIsAll,
         Some(_) => return None,
     };
     match parts.next() {

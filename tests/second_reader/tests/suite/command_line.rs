@@ -48,11 +48,15 @@ fn commands_on_files() {
     prints(&["ask", EUROPE, "Europe/Oslo", "17118468000000000"], "", oslo, 0);
     prints(&["ask", EUROPE, "Europe/Oslo", "17118468000000000", "part"], "", oslo, 0);
     prints(&["ask", EUROPE, "Europe/Atlantis", "2534023008000000000", "all"], "", "14 0\n", 1);
+    fs::write(dir.join("cut"), &fs::read(EUROPE).expect("europe.nzd")[..21_000]).expect("a file");
+    prints(&["ask", &path("cut"), "Europe/Zurich", "0"], "", "1 20753\n", 1);
+    prints(&["ask", &path("cut"), "Europe/Zurich", "0", "part"], "", "1 20753\n", 1);
+    prints(&["ask", &path("cut"), "Europe/Zurich", "0", "all"], "", "2 20753\n", 1);
     prints(&["rewrite", EUROPE, &path("out")], "", "0 21993\n", 0);
     assert!(fs::read(dir.join("out")).ok() == fs::read(EUROPE).ok());
     prints(&["lines", EUROPE], "Europe/Oslo 0\nEurope/Oslo\n", "0 3600000 0 CET\n16 0\n", 0);
     // A missing file counts as no bytes for the program only.
-    prints(&["lines", &path("missing")], "UTC 0\nUTC 0 part", "2 0\n1 0\n", 0);
+    prints(&["lines", &path("missing")], "UTC 0\nUTC 0 all", "1 0\n2 0\n", 0);
     prints(&["check", &path("missing")], "", "", 2);
     fs::write(dir.join("bad"), [0, 0, 0, 1]).expect("a file");
     prints(&["check", &path("bad")], "", "3 0\n", 1);

@@ -1,7 +1,8 @@
 //! What the tests share.
 
 use second_reader::generate::{plan, random_content, FileContent, FilePlan, Forms, Prng, Size};
-use second_reader::{ask, Answer, Mark, Refusal};
+use second_reader::transition::{FIRST, LAST};
+use second_reader::{ask, ask_plain, check, lines, rewrite, version_text, Answer, Mark, Refusal};
 
 /// Bytes from hex digits; spaces are skipped.
 pub fn hex(text: &str) -> Vec<u8> {
@@ -37,6 +38,11 @@ pub fn pair(result: &Result<Answer, Refusal>) -> (u8, u64) {
     }
 }
 
+/// The question that means "this is all".
+pub fn ask_all(bytes: &[u8], zone: &[u8], ticks: i64) -> Result<Answer, Refusal> {
+    ask(bytes, zone, ticks, Mark::ThisIsAll)
+}
+
 /// Number and place of a question for `A` at instant 0 that means "more may come".
 pub fn part(bytes: &[u8]) -> (u8, u64) {
     asked(bytes, b"A", 0, Mark::MoreMayCome)
@@ -68,4 +74,81 @@ pub fn generated(seed: u64, size: Size) -> (FileContent, FilePlan, Prng) {
     let content = random_content(&mut prng, size);
     let file = plan(&content, &mut Forms::Any(&mut prng));
     (content, file, prng)
+}
+
+/// The worked values of the readings on 02: a call, the bytes that it is made on and what it gives, in their words.
+pub fn worked(values: &[(&str, &str, &str)]) {
+    for (call, bytes, given) in values {
+        assert_eq!(called(call, &hex(&bytes.replace('V', "00000000"))), *given, "{call} on {bytes}");
+    }
+}
+
+/// What a call gives: "a refusal is \"number place\"", a good check is "0", a rewriting "0" and its bytes.
+fn called(call: &str, file: &[u8]) -> String {
+    let words: Vec<&str> = call.split(' ').collect();
+    match words.as_slice() {
+        ["line", ..] => {
+            let output = lines(file, call.trim_start_matches("line ").as_bytes());
+            String::from_utf8_lossy(&output).trim_end_matches('\n').to_string()
+        }
+        ["check"] => match check(file) {
+            (0, 0) => "0".to_string(),
+            (number, place) => format!("{number} {place}"),
+        },
+        ["version"] => shown(version_text(file), |part| format!("{part:?}")),
+        ["normalize", room] => {
+            let mut out = vec![0xaa; room.parse().expect("a room")];
+            shown(rewrite(file, &mut out), |length| to_hex(&out[..length]))
+        }
+        ["ask", id, ticks, mark] => {
+            let (id, ticks) = (named_bytes(id), ticks_of(ticks));
+            let asked = match marked(mark) {
+                Some(mark) => ask(file, id, ticks, mark),
+                None => ask_plain(file, id, ticks),
+            };
+            shown(asked, |answer| answer_text(file, &answer))
+        }
+        _ => panic!("{call} is no call"),
+    }
+}
+
+fn shown<T>(result: Result<T, Refusal>, text: impl Fn(T) -> String) -> String {
+    result.map_or_else(|refusal| refusal.to_string(), |value| format!("0 {}", text(value)))
+}
+
+/// "0 wall savings NAME@place start end".
+fn answer_text(file: &[u8], answer: &Answer) -> String {
+    let name = String::from_utf8_lossy(&file[answer.name.clone()]);
+    let place = answer.name.start;
+    format!("{} {} {name}@{place} {} {}", answer.wall, answer.savings, answer.start, answer.end)
+}
+
+fn to_hex(bytes: &[u8]) -> String {
+    bytes.iter().map(|byte| format!("{byte:02x}")).collect()
+}
+
+/// None for `plain`.
+fn marked(word: &str) -> Option<Mark> {
+    match word {
+        "part" => Some(Mark::MoreMayCome),
+        "all" => Some(Mark::ThisIsAll),
+        "plain" => None,
+        _ => panic!("{word} is no mark"),
+    }
+}
+
+/// `""` is no bytes.
+fn named_bytes(word: &str) -> &[u8] {
+    word.trim_matches('"').as_bytes()
+}
+
+/// "MIN and MAX are the first and last tick of the range, I64MIN and I64MAX of 64 bits."
+fn ticks_of(word: &str) -> i64 {
+    match word {
+        "MIN" => FIRST,
+        "MAX" => LAST,
+        "I64MIN" => i64::MIN,
+        "I64MAX" => i64::MAX,
+        ticks => ticks.parse().expect("ticks"),
+    }
 }

@@ -1,11 +1,11 @@
 //! Demand 2: every instant falls in exactly one interval, the one that the content says.
 
-use crate::common::{generated, utc};
+use crate::common::{ask_all, generated, utc};
 use second_reader::generate::{instants, FileContent, Size};
 use second_reader::recurrence::Tail;
 use second_reader::transition::{FIRST, LAST};
 use second_reader::zone::{Rest, Zone};
-use second_reader::{ask_plain, Answer, Transition};
+use second_reader::{Answer, Transition};
 use Transition::{EndOfTime, Finite, StartOfTime};
 
 /// All instants of a tail's rules, over all years that can matter.
@@ -88,7 +88,7 @@ fn answers_are_those_of_the_content() {
                 _ => None,
             };
             for ticks in instants(zone, &mut prng) {
-                let answer = ask_plain(&file, content.id(zone), ticks).expect("an answer");
+                let answer = ask_all(&file, content.id(zone), ticks).expect("an answer");
                 let (wall, savings, name, start, end) = expected(zone, lists.as_ref(), ticks);
                 let wanted = Answer { wall, savings, name: places[name].clone(), start, end };
                 assert_eq!(answer, wanted, "seed {seed}, {zone:?} at {ticks}");
@@ -134,7 +134,7 @@ fn intervals_follow_one_another() {
         let (content, plan, _) = generated(seed, Size::Small);
         let file = plan.bytes();
         for zone in &content.zones {
-            let ask = |ticks: i64| ask_plain(&file, content.id(zone), ticks).expect("an answer");
+            let ask = |ticks: i64| ask_all(&file, content.id(zone), ticks).expect("an answer");
             let last_bound = match &zone.rest {
                 Rest::Listed { end: Finite(end), .. } => *end,
                 _ => FIRST,

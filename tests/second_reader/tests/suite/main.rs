@@ -8,6 +8,7 @@ mod demand3;
 mod generator;
 mod intervals;
 mod numbers;
+mod plain_question;
 mod program;
 mod readings;
 mod realistic;

@@ -1,6 +1,6 @@
 //! Each number from 1 to 15 with its place, by the check, by questions with both marks and by the version text.
 
-use crate::common::{all, asked, hex, pair, part, zone_file, A};
+use crate::common::{all, ask_all, asked, hex, pair, part, zone_file, A};
 use second_reader::{ask, ask_plain, check, rewrite, version_text, Mark};
 
 /// One good zone "B" behind a pool of "A" and "B": the next field is at place 17.
@@ -11,7 +11,7 @@ fn gives(file: &[u8], checked: (u8, u64), as_part: (u8, u64), as_all: (u8, u64))
     assert_eq!(check(file), checked, "check {shown:02x?}");
     assert_eq!(part(file), as_part, "part {shown:02x?}");
     assert_eq!(all(file), as_all, "all {shown:02x?}");
-    assert_eq!(ask_plain(file, b"A", 0), ask(file, b"A", 0, Mark::ThisIsAll));
+    assert_eq!(ask_plain(file, b"A", 0), ask(file, b"A", 0, Mark::MoreMayCome));
     if checked != (0, 0) {
         // The version text and the rewriter check all first, and keep the output.
         let refusal = version_text(file).expect_err("not well formed");
@@ -105,7 +105,7 @@ fn largest_sizes_are_good() {
     file.extend([1, (size & 0x7f) as u8 | 0x80, (size >> 7 & 0x7f) as u8 | 0x80, (size >> 14) as u8]);
     file.extend(&data);
     assert_eq!(check(&file), (0, 0));
-    assert_eq!(pair(&ask_plain(&file, b"A", 0)), (0, 0));
+    assert_eq!(pair(&ask_all(&file, b"A", 0)), (0, 0));
 }
 
 #[test]

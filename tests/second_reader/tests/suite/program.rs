@@ -17,13 +17,16 @@ fn worked_lines() {
     assert_eq!(file.len(), 17);
     assert_eq!(check(&file), (0, 0));
     answers(&file, b"UTC 0\n", "0 0 0 UTC\n");
-    answers(&file, b"GMT 0\n", "12 17\n");
+    // 02, Ask 1: "write `1 17` for GMT, `1 11` on 16 bytes and `1 0` on none. The marked cases [...] don't change."
+    answers(&file, b"GMT 0\n", "1 17\n");
     answers(&file, b"GMT 0 part\n", "1 17\n");
+    answers(&file, b"GMT 0 all\n", "12 17\n");
     answers(&file[..16], b"UTC 0 part\n", "1 11\n");
-    answers(&file[..16], b"UTC 0\n", "2 11\n");
+    answers(&file[..16], b"UTC 0\n", "1 11\n");
+    answers(&file[..16], b"UTC 0 all\n", "2 11\n");
     let longer = [file.as_slice(), &[2]].concat();
-    answers(&longer, b"GMT 0 part\n", "12 17\n");
-    answers(&[], b"UTC 0 part\nUTC 0\n", "1 0\n2 0\n");
+    answers(&longer, b"GMT 0 part\nGMT 0\n", "12 17\n12 17\n");
+    answers(&[], b"UTC 0 part\nUTC 0\nUTC 0 all\n", "1 0\n1 0\n2 0\n");
 }
 
 #[test]
@@ -39,8 +42,8 @@ fn marks_and_more_lines() {
 fn reading_26_line_length_is_without_the_line_feed() {
     let file = utc_file();
     let line = |length: usize, end: &str| [vec![b'x'; length - 2], b" 0".to_vec(), end.into()].concat();
-    answers(&file, &line(2048, "\n"), "12 17\n");
-    answers(&file, &line(2048, ""), "12 17\n");
+    answers(&file, &line(2048, "\n"), "1 17\n");
+    answers(&file, &line(2048, ""), "1 17\n");
     answers(&file, &line(2049, "\n"), "16 0\n");
     answers(&file, &line(2049, ""), "16 0\n");
 }
@@ -81,7 +84,7 @@ fn reading_28_bytes_of_a_line() {
     }
     answers(&file, b"UTC 0000000000000000000\nUTC -0\nUTC -007\n", "0 0 0 UTC\n0 0 0 UTC\n0 0 0 UTC\n");
     // "an empty ID is understood"; bytes that aren't UTF-8 are an ID like any other.
-    answers(&file, b" 0\n\xff 0\n", "12 17\n12 17\n");
+    answers(&file, b" 0 all\n\xff 0\n", "12 17\n1 17\n");
 }
 
 #[test]
@@ -118,6 +121,6 @@ fn reading_31_names_are_written_raw() {
 #[test]
 fn refusals_of_the_file_come_with_its_place() {
     answers(&hex("00000001"), b"UTC 0\nUTC 0 part\n", "3 0\n3 0\n");
-    answers(&hex("00000000"), b"UTC 0\nUTC 0 part\n", "12 4\n1 4\n");
-    answers(&hex("000000"), b"UTC 0\nUTC 0 part\n", "2 0\n1 0\n");
+    answers(&hex("00000000"), b"UTC 0\nUTC 0 part\nUTC 0 all\n", "1 4\n1 4\n12 4\n");
+    answers(&hex("000000"), b"UTC 0\nUTC 0 part\nUTC 0 all\n", "1 0\n1 0\n2 0\n");
 }

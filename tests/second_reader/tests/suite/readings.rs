@@ -1,16 +1,16 @@
 //! The examples of the numbered points of `docs/DECISIONS.md`, each with the result that was chosen, and examples for entries that give none.
 //! Readings 26 to 31 are in `program.rs`, 33 to 35 in `codes.rs`.
 
-use crate::common::{all, asked, hex, part, utc, zone_file, A};
+use crate::common::{all, ask_all, asked, hex, part, utc, zone_file, A};
 use second_reader::transition::LAST;
-use second_reader::{ask, ask_plain, check, version_text, Answer, Mark, Refusal, Transition};
+use second_reader::{ask, check, version_text, Answer, Mark, Refusal, Transition};
 
 fn with(text: &str) -> Vec<u8> {
     hex(&format!("{A} {text}"))
 }
 
-fn plain(file: &[u8], ticks: i64) -> Answer {
-    ask_plain(file, b"A", ticks).expect("an answer")
+fn at(file: &[u8], ticks: i64) -> Answer {
+    ask_all(file, b"A", ticks).expect("an answer")
 }
 
 fn all_three(file: &[u8], number: u8, place: u64) {
@@ -184,8 +184,8 @@ fn reading_16_asked_ids() {
 fn reading_17_doubles_before_the_asked_zone() {
     let file = hex("00000000 0005 0201410142 0104 01013000 0104 01013200 0104 00013400 0104 00013600 0100");
     assert_eq!(check(&file), (13, 17));
-    assert_eq!(plain(&file, 0).wall, 7_200_000);
-    assert_eq!(ask_plain(&file, b"B", 0).map(|answer| answer.wall), Ok(0));
+    assert_eq!(at(&file, 0).wall, 7_200_000);
+    assert_eq!(ask_all(&file, b"B", 0).map(|answer| answer.wall), Ok(0));
 }
 
 #[test]
@@ -193,23 +193,23 @@ fn reading_18_what_a_tails_answer_carries() {
     // Pool "A", "S", "D"; standard +01:00 from October, daylight from March, savings +01:00.
     let zone = hex("00020100003030 e09bd12a 01 32 01 1c0a0132 02 1c030132 32");
     let file = [hex("00000000 0007 03 0141 0153 0144"), vec![1, zone.len() as u8], zone].concat();
-    let summer = plain(&file, utc(2024, 7, 1, 0, 0, 0));
+    let summer = at(&file, utc(2024, 7, 1, 0, 0, 0));
     assert_eq!((summer.wall, summer.savings, summer.name), (7_200_000, 3_600_000, 12..13));
     assert_eq!(summer.start, Transition::Finite(utc(2024, 3, 31, 1, 0, 0)));
     assert_eq!(summer.end, Transition::Finite(utc(2024, 10, 27, 1, 0, 0)));
-    let winter = plain(&file, utc(2024, 10, 27, 1, 0, 0));
+    let winter = at(&file, utc(2024, 10, 27, 1, 0, 0));
     assert_eq!((winter.wall, winter.savings, winter.name), (3_600_000, 0, 10..11));
     // "but not before the tail's start"
-    let first = plain(&file, 0);
+    let first = at(&file, 0);
     assert_eq!((first.wall, first.start), (3_600_000, Transition::Finite(0)));
     assert_eq!(first.end, Transition::Finite(utc(1970, 3, 29, 1, 0, 0)));
-    assert_eq!(plain(&file, -1).end, Transition::Finite(0));
+    assert_eq!(at(&file, -1).end, Transition::Finite(0));
 }
 
 #[test]
 fn reading_19_occurrences_past_the_range_take_part() {
     let file = hex("00000000 0003010141 0118 0002010000303080c2d72f 01 32 00 1c030132 00 1c0a0132 32");
-    let answer = plain(&file, LAST);
+    let answer = at(&file, LAST);
     assert_eq!((answer.wall, answer.savings), (7_200_000, 3_600_000));
     assert_eq!(answer.start, Transition::Finite(utc(9999, 10, 31, 1, 0, 0)));
     assert_eq!(answer.end, Transition::EndOfTime);
@@ -219,14 +219,14 @@ fn reading_19_occurrences_past_the_range_take_part() {
 fn reading_20_intervals_are_not_merged() {
     // Both rules on 1 March: always standard, yet each year is an interval of its own.
     let file = tail_file("32 00 00030230 00 00030230 32");
-    let answer = plain(&file, utc(2000, 1, 1, 0, 0, 0));
+    let answer = at(&file, utc(2000, 1, 1, 0, 0, 0));
     assert_eq!((answer.wall, answer.savings), (3_600_000, 0));
     assert_eq!(answer.start, Transition::Finite(utc(1999, 3, 1, 0, 0, 0)));
     assert_eq!(answer.end, Transition::Finite(utc(2000, 3, 1, 0, 0, 0)));
     // The last listed interval has what the tail has, and ends at its start.
     let file = tail_file("30 00 00030230 00 00030230 30");
-    assert_eq!(plain(&file, -1).end, Transition::Finite(0));
-    assert_eq!(plain(&file, 0).start, Transition::Finite(0));
+    assert_eq!(at(&file, -1).end, Transition::Finite(0));
+    assert_eq!(at(&file, 0).start, Transition::Finite(0));
 }
 
 #[test]
@@ -234,11 +234,11 @@ fn reading_21_rules_that_do_not_alternate() {
     // Standard: Sunday on or before 1 January, so 1 January 2017 and 31 December 2017. Daylight: 31 December 12:00, so
     // never between those two.
     let file = tail_file("30 00 1c010230 00 000c3e48 32");
-    let between = plain(&file, utc(2017, 6, 1, 0, 0, 0));
+    let between = at(&file, utc(2017, 6, 1, 0, 0, 0));
     assert_eq!((between.wall, between.savings), (3_600_000, 3_600_000));
     assert_eq!(between.start, Transition::Finite(utc(2017, 1, 1, 0, 0, 0)));
     assert_eq!(between.end, Transition::Finite(utc(2017, 12, 31, 0, 0, 0)));
-    let after = plain(&file, utc(2017, 12, 31, 0, 0, 0));
+    let after = at(&file, utc(2017, 12, 31, 0, 0, 0));
     assert_eq!((after.wall, after.savings), (0, 0));
     assert_eq!(after.end, Transition::Finite(utc(2017, 12, 31, 12, 0, 0)));
 }
@@ -246,7 +246,7 @@ fn reading_21_rules_that_do_not_alternate() {
 #[test]
 fn reading_22_29_february_with_a_weekday() {
     let file = tail_file("30 00 1e023a30 00 00070230 32");
-    let answer = plain(&file, utc(2021, 3, 1, 0, 0, 0));
+    let answer = at(&file, utc(2021, 3, 1, 0, 0, 0));
     assert_eq!(answer.start, Transition::Finite(utc(2021, 2, 28, 0, 0, 0)));
 }
 
@@ -254,11 +254,11 @@ fn reading_22_29_february_with_a_weekday() {
 fn reading_23_wall_is_the_other_rules() {
     // Both rules on 1 March, 00:00 wall; standard 0, savings +2 h. Standard's instant uses +2 h: 28 February 22:00.
     let file = tail_file("30 00 20030230 00 20030230 34");
-    let answer = plain(&file, utc(2001, 2, 28, 23, 0, 0));
+    let answer = at(&file, utc(2001, 2, 28, 23, 0, 0));
     assert_eq!(answer.start, Transition::Finite(utc(2001, 2, 28, 22, 0, 0)));
     assert_eq!(answer.end, Transition::Finite(utc(2001, 3, 1, 0, 0, 0)));
     assert_eq!((answer.wall, answer.savings), (0, 0));
-    let rest_of_year = plain(&file, utc(2001, 6, 1, 0, 0, 0));
+    let rest_of_year = at(&file, utc(2001, 6, 1, 0, 0, 0));
     assert_eq!((rest_of_year.wall, rest_of_year.savings), (7_200_000, 7_200_000));
 }
 
@@ -267,13 +267,13 @@ fn reading_24_the_ends_previous_is_the_last_start() {
     // Starts: start of time, 1970; the end 128 hours later.
     let file = zone_file("000202 00003030 e09bd12a003030 8001 01 30 00 000a0230 00 00030230 32");
     assert_eq!(check(&file), (0, 0));
-    assert_eq!(plain(&file, 0).end, Transition::Finite(128 * 36_000_000_000));
+    assert_eq!(at(&file, 0).end, Transition::Finite(128 * 36_000_000_000));
 }
 
 #[test]
 fn reading_25_the_names_place_is_that_of_its_number() {
     let file = hex("00000000 0007 03 0141 0141 0141 0104 00013002");
-    assert_eq!(plain(&file, 0).name, 12..13);
+    assert_eq!(at(&file, 0).name, 12..13);
 }
 
 #[test]
@@ -281,7 +281,7 @@ fn against_the_published_format() {
     // a: 1048576 to 2097151 are hours.
     let file = zone_file("000203 00003030 e09bd12a003030 808040003030 0100");
     all_three(&zone_file("000203 00003030 808040003030 808040003030 0100"), 7, 9);
-    assert_eq!(plain(&file, 0).end, Transition::Finite(1_048_576 * 36_000_000_000));
+    assert_eq!(at(&file, 0).end, Transition::Finite(1_048_576 * 36_000_000_000));
     // b: a fixed zone's name is required.
     all_three(&with("0103 000130"), 9, 9);
     // c: no field 2 is fine, a second 6 or 7 isn't.

@@ -1,9 +1,9 @@
 //! The realistic files, against transitions worked out by hand from public knowledge of four zones.
 
-use crate::common::utc;
+use crate::common::{ask_all, utc};
 use second_reader::file::read_file;
 use second_reader::zone::Rest;
-use second_reader::{ask_plain, check, codes, rewrite, version_text, Transition};
+use second_reader::{check, codes, rewrite, version_text, Transition};
 
 const ALL: &str = concat!(env!("CARGO_MANIFEST_DIR"), "/../data/all.nzd");
 const EUROPE: &str = concat!(env!("CARGO_MANIFEST_DIR"), "/../data/europe.nzd");
@@ -17,7 +17,7 @@ const HOUR: i32 = 60 * MINUTE;
 
 /// At `ticks` an interval starts that has this wall offset and name, and one ends that had those before.
 fn changes(file: &[u8], zone: &str, ticks: i64, before: (i32, &str), after: (i32, &str)) {
-    let at = |instant: i64| ask_plain(file, zone.as_bytes(), instant).expect("an answer");
+    let at = |instant: i64| ask_all(file, zone.as_bytes(), instant).expect("an answer");
     let (old, new) = (at(ticks - 1), at(ticks));
     let name = |part: std::ops::Range<usize>| String::from_utf8_lossy(&file[part]).to_string();
     assert_eq!((old.wall, name(old.name).as_str()), before, "{zone} before {ticks}");
@@ -137,7 +137,7 @@ fn lord_howe() {
     // 4 April 2100 and 3 October 2100 are Sundays.
     to_winter(utc(2100, 4, 3, 15, 0, 0));
     to_summer(utc(2100, 10, 2, 15, 30, 0));
-    let answer = ask_plain(&file, b"Australia/Lord_Howe", utc(2024, 12, 1, 0, 0, 0)).expect("an answer");
+    let answer = ask_all(&file, b"Australia/Lord_Howe", utc(2024, 12, 1, 0, 0, 0)).expect("an answer");
     assert_eq!(answer.savings, half);
 }
 
@@ -159,6 +159,6 @@ fn apia() {
     change(utc(2012, 3, 31, 14, 0, 0), (14 * HOUR, "+14"), (13 * HOUR, "+13"));
     // The last change: first Sunday of April 2021, 04:00 wall.
     change(utc(2021, 4, 3, 14, 0, 0), (14 * HOUR, "+14"), (13 * HOUR, "+13"));
-    let answer = ask_plain(&file, b"Pacific/Apia", utc(9999, 12, 31, 0, 0, 0)).expect("an answer");
+    let answer = ask_all(&file, b"Pacific/Apia", utc(9999, 12, 31, 0, 0, 0)).expect("an answer");
     assert_eq!((answer.end, answer.savings), (Transition::EndOfTime, 0));
 }

@@ -111,7 +111,7 @@ uint64_t nzd_check(const uint8_t *file, size_t n);
 struct nzd_answer {
     int64_t wall_ms;     /* what to add to UTC for the time on the wall */
     int64_t savings_ms;  /* how much of that is daylight saving */
-    int64_t name_place;  /* the name in force, as "CEST": its place in file, */
+    int64_t name_place;  /* the name in force, as "CEST", or a fixed zone's ID where it has no name: its place in file, */
     int64_t name_length; /* and how many bytes it has */
     int64_t start;       /* ticks, or NZD_START_OF_TIME */
     int64_t end;         /* ticks, or NZD_END_OF_TIME */

@@ -65,7 +65,8 @@ pub struct Answer<'a> {
     pub wall_offset_ms: i64,
     /// How much of the wall offset is daylight saving, in milliseconds.
     pub savings_ms: i64,
-    /// The name in force, as "CEST": a part of the file's bytes, in UTF-8. [`name_str`](Answer::name_str) has it as text.
+    /// The name in force, as "CEST", or the ID of a fixed zone that has no name: a part of the file's bytes, in UTF-8.
+    /// [`name_str`](Answer::name_str) has it as text.
     pub name: &'a [u8],
     /// The interval's start, which it holds.
     pub start: Bound,

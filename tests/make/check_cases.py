@@ -20,7 +20,7 @@ def pool(*strings):
 
 
 def fixed(id_, offset=0x30, name=0):
-    return count(id_) + b"\x01" + bytes([offset]) + count(name)
+    return count(id_) + b"\x01" + bytes([offset]) + (b"" if name is None else count(name))
 
 
 V = bytes(4)
@@ -240,7 +240,7 @@ refused(V + field(0, b"\x00") + field(1, fixed(0)), "8 7")
 # ---- the contents of a zone: 4, 7 to 11, by the check and by a question for that zone, for a later one and for none
 
 ZONE_FAULTS = [
-    (9, ""), (9, "00"), (9, "0001"), (9, "000130"), (9, "00013000ff"), (9, "00"), (9, "0000"), (9, "0003"), (9, "00ff"), (9, "00018c"), (9, "0001dfffff"),
+    (9, ""), (9, "00"), (9, "0001"), (9, "00013080"), (9, "00013000ff"), (9, "00"), (9, "0000"), (9, "0003"), (9, "00ff"), (9, "00018c"), (9, "0001dfffff"),
     (9, "00020100003030027f"), (9, "000201000030300102"), (9, "00020100003030"), (9, "0002010000303001"), (9, "0002010000303000"), (9, "000201000030300100ff"),
     (7, "8000"), (7, "000100"), (7, "000160"), (7, "0001e0"), (7, "0001803c00"), (7, "00028000"), (7, "00020103"), (7, "0002018001"), (7, "000201000030308001"),
     (7, "000201000030308000"), (7, "0001308000"),
@@ -300,7 +300,9 @@ for twice in (ONE, TWO, SAME):
     case(P + ONE + twice + TWO + SAME, b"B", 0, "13 23", "12 41")
     # that zone's own faults come before, and later fields' after
     case(P + ONE + field(1, twice[2:] + b"\x00"), b"UTC", 0, "9 23", FIRST_ANSWER)
-    case(P + ONE + field(1, twice[2:-1]), b"A", 0, "9 23", "9 23")
+    case(P + ONE + field(1, twice[2:-2]), b"A", 0, "9 23", "9 23")
+    # without a name too
+    case(P + ONE + field(1, twice[2:-1]), b"A", 0, "13 23", "12 28")
     case(P + ONE + field(1, twice[2:-1] + b"\x03"), b"A", 0, "8 23", "8 23")
     case(P + ONE + twice + b"\x00", b"A", 0, "13 23", "5 29")
     case(P + ONE + twice + b"\x01", b"A", 0, "13 23", "2 29")
@@ -333,7 +335,7 @@ refused(V + hex_("0000"), "9 4")
 case(V + hex_("000100"), b"A", 0, "0 0", "12 7", "12 7")
 for number, h in ((7, "0002020000303080010030300100"), (7, "0002018001"), (7, "000201000030308001"), (9, "0002010000303000"), (9, "000201000030300002"),
                   (10, "000201000030300000"), (11, "0002010000303080c2d72f0130001c00"), (11, "0002010000303080c2d72f01300080"), (9, "00018c"), (9, "0001dfffff"),
-                  (7, "0001e0"), (9, "000130"), (10, "000200"), (4, "00028120"), (11, "0002010000303080c2d72f015f001c030132001c0a013231")):
+                  (7, "0001e0"), (9, "00013080"), (10, "000200"), (4, "00028120"), (11, "0002010000303080c2d72f015f001c030132001c0a013231")):
     refused(PA + field(1, hex_(h)), "%d 9" % number, b"A")
 refused(V + hex_("008080808080"), "7 4")
 refused(V + hex_("0080808080"), "2 4")
@@ -342,6 +344,24 @@ refused(hex_("01"), "2 0")
 case(V, b"", LAST + 1, "6 4", "14 0")
 case(PA + hex_("028000"), b"A", 0, "7 9", "12 9", "7 9")
 case(PA + hex_("01180002010000303080c2d72f0132001c030132001c0a013232"), b"A", LAST, "0 0", "0 7200000 3600000 2533969476000000000 end 41")
+
+# ---- 02, Ask 2: "A fixed zone ending right after its offset is well formed and its name is its ID."
+
+case(PA + hex_("0103000130"), b"A", 0, "0 0", "0 0 0 start end 41", "12 14")
+case(PA + hex_("0103000130"), b"B", 0, "0 0", "12 14")
+case(PA + hex_("0104000130"), b"A", 0, "2 9", "2 9", "2 9")
+for number, h in ((9, "00013080"), (8, "00013001"), (7, "0001308000"), (9, "0001300000"), (8, "000201003030" "01")):
+    refused(PA + field(1, hex_(h)), "%d 9" % number, b"A")
+# the ID's own number, where the bytes stand twice; offsets of every length; the empty ID; several zones
+case(P + field(1, fixed(2, 0x32, None)), b"UTC", 0, "0 0", "0 3600000 0 start end 555443")
+for h, ms in (("31", 1800000), ("86f9", 20700000), ("a15135", -75000), ("c5265c01", 1)):
+    case(P + field(1, b"\x01\x01" + hex_(h)) + TEXT, b"A", LAST, "0 0", "0 %d 0 start end 41" % ms, "0 %d 5" % (24 + len(h) // 2))
+case(V + pool(b"") + field(1, fixed(0, 0x30, None)), b"", FIRST, "0 0", "0 0 0 start end -")
+NAMELESS = P + field(1, fixed(1, 0x31, None)) + field(1, fixed(0, 0x32)) + TEXT
+case(NAMELESS, b"A", 0, "0 0", "0 1800000 0 start end 41")
+case(NAMELESS, b"UTC", 0, "0 0", "0 3600000 0 start end 555443")
+case(NAMELESS, b"B", 0, "0 0", "12 28")
+case(P + field(1, fixed(0, 0x31, None)) + field(1, fixed(2, 0x32, None)), b"A", 0, "13 22", "12 27")
 
 # ---- the largest sizes, at them and one past
 

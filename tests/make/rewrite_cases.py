@@ -69,7 +69,7 @@ def pool(*strings):
 
 
 def fixed(id_, ms=0, name=0):
-    return plain(1, count(id_) + b"\x01" + offset(ms) + count(name))
+    return plain(1, count(id_) + b"\x01" + offset(ms) + (b"" if name is None else count(name)))
 
 
 UTC_DAYS = hex_("3000" "00010230" "00" "00070230" "32")    # standard time from 1 January, daylight savings from 1 July
@@ -168,6 +168,11 @@ good((AB,))
 for ms in (0, 3600000, 84600000, -84600000, 20700000, -60000, -75000, 86399000, 1, -86399999, 86399999):
     good((AB, fixed(0, ms, 1)))
 good((AB, fixed(1, 0, 0), fixed(0, 1, 1)))
+# 02, Ask 2: "The rewriter keeps the absence", and a name that is the ID's too
+for ms in (0, 20700000, -75000, 1):
+    good((AB, fixed(0, ms, None)))
+    good((AB, fixed(1, ms, 1)))
+good((AB, fixed(1, 0, None), fixed(0, 1, 0)))
 
 # ---- each transition alone: every form that names it in the source, as a later start and as the end
 

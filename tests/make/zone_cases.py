@@ -42,8 +42,9 @@ def data(parts):
     return b"".join(b for _, b in parts)
 
 
-def fixed(id_, ms, name):
-    return [("name", count(id_)), ("flag", b"\x01"), ("offset", offset(ms)), ("name", count(name))]
+def fixed(id_, ms, name=None):
+    """With a name, or ending right after its offset."""
+    return [("name", count(id_)), ("flag", b"\x01"), ("offset", offset(ms))] + ([] if name is None else [("name", count(name))])
 
 
 def interval(start, name, wall, savings):
@@ -162,6 +163,11 @@ good(3, data(fixed(1, -75000, 2)), [0, -1, 1])
 good(300, data(fixed(299, 1, 298)))
 good(8192, data(fixed(8191, 86399999, 0)))
 good(2, data(fixed(0, -86399999, 1)))
+# without a name: it is the ID (02, Ask 2)
+good(1, data(fixed(0, 0)))
+good(3, data(fixed(2, -75000)), [0])
+good(300, data(fixed(299, 1)))
+good(8192, data(fixed(8191, 20700000)))
 
 # ---- good zones: one interval and several, their starts in hours, minutes and ticks
 
@@ -252,7 +258,10 @@ for zone in (alone, whole):
     good(pool, data(zone), ahead=9)
     # cut before, in and behind each code; left over
     for k in range(len(data(zone))):
-        refused(9, pool, data(zone)[:k])
+        if zone is alone and k == len(data(zone[:-1])):
+            good(pool, data(zone)[:k])
+        else:
+            refused(9, pool, data(zone)[:k])
     refused(9, pool, data(zone) + b"\x00")
     refused(9, pool, data(zone) + b"\xff\xff")
     for i, (kind, _) in enumerate(zone):

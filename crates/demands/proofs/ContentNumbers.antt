@@ -26,7 +26,7 @@ use Rattle.intervals.specs.Interval.{rises, intervalOf, startOf, afterWall, aft
 use Rattle.tails.specs.Tail.{afterTime, parseTime, afterDay, parseDay, afterMonth, parseMonth, afterByte, parseRule}
 use Rattle.tails.specs.Tail.{standardOf, tailOf, afterStandardName, afterOffset, parseStandard, afterSavings, parseSavings, afterDaylightName, parseDaylight, parseTail}
 use Rattle.zones.specs.Parse.{zoneOf, afterTail, parseTailed, afterTailByte, afterEnd, afterIntervals, afterCount, parseListed}
-use Rattle.zones.specs.Content.{untailed, tailed, fixed, listed}
+use Rattle.zones.specs.Content.{untailed, tailed, absent, present, fixed, listed}
 use Rattle.zones.specs.Parse.{fixedOf, afterFixedOffset, parseFixed, afterFlag, afterId, parseZone}
 use Rattle.demands.specs.Numbers.{OfContent, too-large, faulty}
 
@@ -188,8 +188,7 @@ zone-numbers pool s =
     row (parseName pool s) (afterId pool) (name pool s) (λ id r₁.
     row (parseByte r₁) (afterFlag pool id) (byte r₁) (λ flag r₂.
     either (eqb flag 1) (parseFixed pool id r₂) (pick (eqb flag 2) (parseListed pool id r₂) (bad 9))
-    (row (parse readSum r₂) (afterFixedOffset pool id) (code readSum r₂ (sum-codes r₂)) (λ offset r₃.
-    row (parseName pool r₃) (fixedOf id offset) (name pool r₃) (λ n r₄. end (record { id = id; body = fixed offset n }) r₄)))
+    (row (parse readSum r₂) (afterFixedOffset pool id) (code readSum r₂ (sum-codes r₂)) (λ offset r₃. named pool id offset r₃))
     (either (eqb flag 2) (parseListed pool id r₂) (bad 9)
     (row (parse readCount r₂) (afterCount pool id) (code readCount r₂ (groups-codes 4 7 r₂)) (λ n r₃.
     either (eqb n 0) (bad 10) _ ten
@@ -199,6 +198,11 @@ zone-numbers pool s =
     row (parseByte r₅) (afterTailByte pool id is e) (byte r₅) (λ b r₆. ending pool id is e b r₆)))))))
     nine)))
   where
+    named : (pool id offset : ℕ) (r : List ℕ) → Fine (afterFixedOffset pool id offset r)
+    named pool id offset [] = end (record { id = id; body = fixed offset absent }) []
+    named pool id offset (b ∷ r) =
+        row (parseName pool (b ∷ r)) (fixedOf id offset) (name pool (b ∷ r)) (λ n q. end (record { id = id; body = fixed offset (present n) }) q)
+
     ending : (pool id : ℕ) (is : List Interval) (e b : ℕ) (r : List ℕ) → Fine (afterTailByte pool id is e b r)
     ending pool id is e b r =
         either (eqb b 0) (pick (eqb e endOfTime) (zoneOf id (listed is e untailed) r) (bad 10)) _

@@ -14,7 +14,7 @@ use Rattle.texts.specs.Text.{textSized}
 use Rattle.pool.specs.Pool.{allStrings, counted}
 use Rattle.base.specs.Equal.{equal}
 use Rattle.places.specs.Name.{judgeName, parseName}
-use Rattle.zones.specs.Content.{Zone, fixed}
+use Rattle.zones.specs.Content.{Zone, present, fixed}
 use Rattle.zones.specs.Parse.{zoneOf, afterFixedOffset, parseFixed, afterFlag, afterId, parseZone}
 use Rattle.ids.specs.Ids.{among}
 use Rattle.signed.specs.Instant.{biasedOf}
@@ -62,7 +62,7 @@ asked = record {
   before = pool ∷ [];
   behind = text ∷ [];
   splits = refl;
-  has = record { zone = record { id = 0; body = fixed 86400000 0 }; rest = []; is-zone = refl; parsed = refl; bytes = refl };
+  has = record { zone = record { id = 0; body = fixed 86400000 (present 0) }; rest = []; is-zone = refl; parsed = refl; bytes = refl };
 }
 
 -- the zone "GMT" is not
@@ -73,9 +73,9 @@ lacks =
     (all-also (λ h. other (h .zone) (h .parsed) (h .bytes))
     (all-also (λ h. let z : _≡_ {A = ℕ} 2 1 = h .is-zone in omega arith) all-none))
   where
-    other : (w : Zone) {q : List ℕ} → got (record { id = 0; body = fixed 86400000 0 }) [] ≡ got w q → getD (utc ∷ []) (w .id) [] ≡ gmt → ⊥
+    other : (w : Zone) {q : List ℕ} → got (record { id = 0; body = fixed 86400000 (present 0) }) [] ≡ got w q → getD (utc ∷ []) (w .id) [] ≡ gmt → ⊥
     other w e b =
-        let i : record { id = 0; body = fixed 86400000 0 } ≡ w = cc in
+        let i : record { id = 0; body = fixed 86400000 (present 0) } ≡ w = cc in
         let c : utc ≡ gmt = rw (← i) at b in
         let d : _≡_ {A = ℕ} 85 71 = cc in
         omega arith

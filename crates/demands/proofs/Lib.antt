@@ -10,6 +10,7 @@ pub mod Rewriting
 pub mod Rewritten
 pub mod Example
 pub mod Tailed
+pub mod Nameless
 pub mod Worked
 pub mod ContentNumbers
 pub mod Numbers

@@ -52,6 +52,20 @@ pub zones :
 unfolding conclusion walk iterate step act frame version zeros field order sized readGroups many counted allStrings ended concluded poolKept judged chars textSized zoneKept newId textKept among equal parseZone afterId afterFlag parseFixed afterFixedOffset zoneOf parseByte parseName judgeName readSum
 zones = refl
 
+-- a pool of "A" and a field 1
+abbrev pub fixedOnly : List ℕ → List ℕ
+fixedOnly d = bare ++ 0 ∷ 3 ∷ 1 ∷ 1 ∷ 65 ∷ 1 ∷ d
+
+-- a fixed zone that ends right after its offset; one whose size counts a name that isn't there; behind the offset a count that is cut, a
+-- number past the pool, a count that isn't shortest, and a byte left over behind a name
+pub names :
+    map checkOf
+    (fixedOnly (3 ∷ 0 ∷ 1 ∷ 48 ∷ []) ∷ fixedOnly (4 ∷ 0 ∷ 1 ∷ 48 ∷ []) ∷ fixedOnly (4 ∷ 0 ∷ 1 ∷ 48 ∷ 128 ∷ []) ∷ fixedOnly (4 ∷ 0 ∷ 1 ∷ 48 ∷ 1 ∷ [])
+    ∷ fixedOnly (5 ∷ 0 ∷ 1 ∷ 48 ∷ 128 ∷ 0 ∷ []) ∷ fixedOnly (5 ∷ 0 ∷ 1 ∷ 48 ∷ 0 ∷ 0 ∷ []) ∷ [])
+    ≡ Good ∷ Refused 2 9 ∷ Refused 9 9 ∷ Refused 8 9 ∷ Refused 7 9 ∷ Refused 9 9 ∷ []
+unfolding conclusion walk iterate step act frame version zeros field order sized readGroups many counted allStrings ended concluded poolKept judged chars textSized zoneKept newId textKept among equal parseZone afterId afterFlag parseFixed afterFixedOffset zoneOf parseByte parseName judgeName readSum
+names = refl
+
 -- no version text; "A" in field 2; a byte left over there; a field 3 behind it
 pub texts :
     map versionOf (file ∷ (file ++ 2 ∷ 2 ∷ 1 ∷ 65 ∷ []) ∷ (file ++ 2 ∷ 3 ∷ 1 ∷ 65 ∷ 0 ∷ []) ∷ (file ++ 2 ∷ 2 ∷ 1 ∷ 65 ∷ 3 ∷ 1 ∷ 9 ∷ []) ∷ bare ∷ [])

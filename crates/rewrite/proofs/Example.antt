@@ -44,11 +44,11 @@ abbrev pub shorter : List ℕ
 shorter = 0 ∷ 0 ∷ 0 ∷ 0 ∷ 0 ∷ 5 ∷ 1 ∷ 3 ∷ 85 ∷ 84 ∷ 67 ∷ 1 ∷ 26 ∷ 0 ∷ 2 ∷ 4 ∷ 0 ∷ 0 ∷ 48 ∷ 48 ∷ 224 ∷ 155 ∷ 209 ∷ 42 ∷ 0 ∷ 50 ∷ 48 ∷ 248 ∷ 33 ∷ 0 ∷ 48 ∷ 48 ∷ 192 ∷ 34 ∷ 0 ∷ 50 ∷ 48 ∷ 1 ∷ 0 ∷ 2 ∷ 2 ∷ 1 ∷ 65 ∷ []
 
 -- every element is below 256
-unfoldable small : List ℕ → Bool
+unfoldable pub small : List ℕ → Bool
 small [] = true
 small (b ∷ s) = both (ltb b 256) (small s)
 
-small-bytes : (s : List ℕ) → small s ≡ true → Bytes s
+pub small-bytes : (s : List ℕ) → small s ≡ true → Bytes s
 unfolding small
 small-bytes [] h = no-bytes
 small-bytes (b ∷ s) h =

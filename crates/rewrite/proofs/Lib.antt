@@ -10,3 +10,5 @@ pub mod ReadyLaws
 pub mod FieldLaws
 pub mod ShortestLaws
 pub mod Example
+pub mod AbsenceLaws
+pub mod AbsenceExample

@@ -7,7 +7,7 @@ use lib.Dec.{ltb}
 use borrow.Author.Tests.{lt-ltb, le-ltb}
 use Rattle.base.specs.Pick.{pick}
 use Rattle.base.specs.Parsed.{Parsed, got, bad}
-use Rattle.base.specs.Moment.{Finite, endOfTime}
+use Rattle.base.specs.Moment.{Finite, startOfTime, endOfTime}
 use Rattle.base.proofs.Tests.{by-order}
 use Rattle.recurrence.specs.Tails.{TailOk}
 use Rattle.intervals.specs.declared.Interval.{Interval}
@@ -19,7 +19,7 @@ use Rattle.tails.specs.declared.NamedTail.{NamedTail}
 use Rattle.zones.specs.Content.{untailed, tailed, Body, fixed, listed, Zone}
 use Rattle.zones.specs.Parse.{parseZone}
 use Rattle.zones.specs.Sound.{BodyOk}
-use Rattle.zones.specs.Lookup.{until, holding, inList, inTail, behindList, always, inBody, answerOf}
+use Rattle.zones.specs.Lookup.{zeroOffset, until, holding, inList, inTail, behindList, inBody, answerOf}
 use Rattle.zones.specs.View.{heldUntil, bodyRead, readOf}
 use Rattle.zones.proofs.SoundLaws.{zone-sound}
 use Rattle.zones.specs.declared.Found.{Found}
@@ -66,7 +66,7 @@ abbrev pub tailAnswer : ℕ → Scan → NamedTail → Found
 tailAnswer t c n = pick (ltb t (n .tail .start)) (heldUntil c (n .tail .start)) (inTail t n)
 
 abbrev pub answerRead : ℕ → ZoneRead → Answer
-answerRead t (Fixed id offset n) = In (always id offset n)
+answerRead t (Fixed id offset n) = In (record { wall = offset; savings = zeroOffset; name = n; start = startOfTime; end = endOfTime })
 answerRead t (Listed id c) = In (heldUntil c endOfTime)
 answerRead t (Tailed id c n) = In (tailAnswer t c n)
 answerRead t (Refused k) = Denied k

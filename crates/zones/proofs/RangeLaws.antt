@@ -16,10 +16,10 @@ use Rattle.intervals.specs.declared.Interval.{Interval}
 use Rattle.intervals.specs.Sound.{Ranged, Rising}
 use Rattle.tails.specs.declared.NamedTail.{NamedTail}
 use Rattle.tails.specs.Sound.{NamedTailOk}
-use Rattle.zones.specs.Content.{untailed, tailed, Body, fixed, listed, Zone}
+use Rattle.zones.specs.Content.{untailed, tailed, absent, present, Body, fixed, listed, Zone}
 use Rattle.zones.specs.Parse.{parseZone}
 use Rattle.zones.specs.Sound.{BodyOk, Sound, FoundOk}
-use Rattle.zones.specs.Lookup.{until, holding, inList, inTail, behindList, inBody, inZone, answerOf}
+use Rattle.zones.specs.Lookup.{until, holding, inList, inTail, behindList, fixedNameOf, inBody, inZone, answerOf}
 use Rattle.zones.proofs.SoundLaws.{zone-sound}
 use Rattle.zones.specs.declared.Found.{Found}
 use Rattle.zones.specs.declared.Answer.the-variants.{In}
@@ -53,8 +53,9 @@ tail-ok pool end t n o =
     go false = (o .standard-ok, o .tail-ok .offset-high, omega arith)
 
 body-found : (pool t id : ℕ) (b : Body) → id < pool → BodyOk pool b → Finite t → FoundOk pool (inBody t id b)
-unfolding inBody inList behindList
-body-found pool t id (fixed offset n) i h f = record { name-ok = h .1; wall-high = omega (arith, h .0); savings-high = omega arith }
+unfolding inBody inList behindList fixedNameOf
+body-found pool t id (fixed offset absent) i h f = record { name-ok = i; wall-high = omega (arith, h .0); savings-high = omega arith }
+body-found pool t id (fixed offset (present n)) i h f = record { name-ok = h .1; wall-high = omega (arith, h .0); savings-high = omega arith }
 body-found pool t id (listed [] end e) i h f = absurd (h .0)
 body-found pool t id (listed (j ∷ is) end untailed) i h f =
     pick-holds (FoundOk pool) (ltb t end) (λ _. holding-ok pool t end j (j .start) is (h .0 .1) (h .0 .2))

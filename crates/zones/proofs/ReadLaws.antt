@@ -4,14 +4,16 @@ use mathlib.Core.Bool.{Bool, true, false}
 use mathlib.Core.List.{List, []}
 use Prim.Native.Nat.{ℕ, _≤_, _<_}
 use native.Mathlib.Omega.{arith}
-use lib.ListN.{length, drop}
+use lib.ListN.{length, drop, drop-of-length-le}
+use lib.Seq.{drop-cons}
 use lib.Dec.{ltb}
 use borrow.Author.Tests.{lt-ltb, le-ltb, eq-eqb, ne-eqb}
 use Rattle.base.specs.Pick.{pick, both}
-use Rattle.base.specs.Parsed.{Parsed, got, bad, bind, parse, behind}
+use Rattle.base.specs.Parsed.{Parsed, got, bad, bind, parse, ended, behind}
 use Rattle.base.specs.Moment.{endOfTime}
 use Rattle.base.proofs.ParseLaws.{bad-got}
 use Rattle.transitions.specs.Transition.{readMoment}
+use Rattle.places.specs.Name.{parseName}
 use Rattle.places.specs.Placed.{at, no, Stands}
 use Rattle.places.proofs.PlaceLaws.{ended-here, ended-over}
 use Rattle.intervals.specs.declared.Interval.{Interval}
@@ -20,9 +22,9 @@ use Rattle.intervals.specs.Interval.{startOf}
 use Rattle.intervals.specs.Scan.{scanned, scanOf}
 use Rattle.intervals.proofs.ScanLaws.{last-start}
 use Rattle.tails.specs.declared.NamedTail.{NamedTail}
-use Rattle.zones.specs.Content.{untailed, tailed, Body, fixed, listed, Zone}
-use Rattle.zones.specs.Parse.{zoneOf, afterTailByte, parseTailed, afterEnd, afterIntervals, parseIntervals, afterCount, parseFixed, parseListed, afterFlag}
-use Rattle.zones.specs.Lookup.{verdictOf, named}
+use Rattle.zones.specs.Content.{untailed, tailed, FixedName, absent, present, Body, fixed, listed, Zone}
+use Rattle.zones.specs.Parse.{zoneOf, afterTailByte, parseTailed, afterEnd, afterIntervals, parseIntervals, afterCount, fixedOf, afterFixedOffset, parseFixed, parseListed, afterFlag}
+use Rattle.zones.specs.Lookup.{verdictOf, named, fixedNameOf}
 use Rattle.recurrence.specs.declared.Interval.{Interval as Lookup}
 use Rattle.zones.specs.View.{bodyRead, readOf, FrontTo, FrontOf, EndTo, EndOf}
 use Rattle.zones.specs.declared.ZoneVerdict.{ZoneVerdict}
@@ -43,6 +45,19 @@ pub zone-over : (id : ℕ) (b : Body) (s : List ℕ) (e : ℕ) → e < length s 
 unfolding zoneOf
 zone-over id b s e h = ended-over _ s e h
 
+-- a fixed zone whose data end behind the offset has no name; else a name stands there
+pub name-absent : (pool id offset : ℕ) (s : List ℕ) (e : ℕ) → e ≡ length s
+    → afterFixedOffset pool id offset (drop e s) ≡ got (record { id = id; body = fixed offset absent }) []
+unfolding afterFixedOffset zoneOf ended
+name-absent pool id offset s e h =
+    let l : length s ≤ e = omega arith in
+    rw (drop-of-length-le s l)
+
+pub name-present : (pool id offset : ℕ) (s : List ℕ) (e : ℕ) → e ≤ length s → (e ≡ length s → ⊥)
+    → afterFixedOffset pool id offset (drop e s) ≡ bind (parseName pool (drop e s)) (fixedOf id offset)
+unfolding afterFixedOffset
+name-present pool id offset s e h n = rw (drop-cons s e 0 (omega (arith, n)))
+
 -- at one instant
 pub read-bad : (t : ℕ) (p : Parsed Zone) (k : ℕ) → p ≡ bad k → Refused k ≡ readOf t p
 unfolding readOf
@@ -56,8 +71,13 @@ module _ (pool : ℕ) (s : List ℕ) (p : Parsed Zone) where
   pub front-bad : (k : ℕ) → p ≡ bad k → FrontOf pool s p (FrontRefused k)
   front-bad k e = record { means = e }
 
-  pub front-fixed : (id offset n : ℕ) → p ≡ got (record { id = id; body = fixed offset n }) [] → FrontOf pool s p (AllFixed id offset n)
-  front-fixed id offset n e = record { means = e }
+  pub front-absent : (id offset : ℕ) → p ≡ got (record { id = id; body = fixed offset absent }) [] → FrontOf pool s p (AllFixed id offset id)
+  unfolding fixedNameOf
+  front-absent id offset e = record { means = (absent, e, refl) }
+
+  pub front-present : (id offset n : ℕ) → p ≡ got (record { id = id; body = fixed offset (present n) }) [] → FrontOf pool s p (AllFixed id offset n)
+  unfolding fixedNameOf
+  front-present id offset n e = record { means = (present n, e, refl) }
 
   pub front-listed : (id n a : ℕ) → p ≡ parseIntervals pool id n (drop a s) → a ≤ length s → (n ≡ 0 → ⊥) → n ≤ 4096
       → FrontOf pool s p (Several id n a)
@@ -74,16 +94,18 @@ module _ (pool : ℕ) (s : List ℕ) (p : Parsed Zone) where
     pub refused-front : (k : ℕ) → r ≡ FrontRefused k → p ≡ bad k
     refused-front k e = front-is (FrontRefused k) e
 
-    pub fixed-front : (id offset n : ℕ) → r ≡ AllFixed id offset n → p ≡ got (record { id = id; body = fixed offset n }) []
+    pub fixed-front : (id offset n : ℕ) → r ≡ AllFixed id offset n
+        → (m : FixedName) × (p ≡ got (record { id = id; body = fixed offset m }) []) × (n ≡ fixedNameOf id m)
     fixed-front id offset n e = front-is (AllFixed id offset n) e
 
     pub listed-front : (id n a : ℕ) → r ≡ Several id n a
         → (p ≡ parseIntervals pool id n (drop a s)) × (a ≤ length s) × (0 < n) × (n ≤ 4096)
     listed-front id n a e = front-is (Several id n a) e
 
-pub read-fixed : (t : ℕ) (p : Parsed Zone) (id offset n : ℕ) → p ≡ got (record { id = id; body = fixed offset n }) [] → Fixed id offset n ≡ readOf t p
+pub read-fixed : (t : ℕ) (p : Parsed Zone) (id offset n : ℕ)
+    → (m : FixedName) × (p ≡ got (record { id = id; body = fixed offset m }) []) × (n ≡ fixedNameOf id m) → Fixed id offset n ≡ readOf t p
 unfolding readOf
-read-fixed t p id offset n e = rw e
+read-fixed t p id offset n (m, e, f) = rw e (ap (Fixed id offset) f)
 
 -- what stands behind the intervals
 module _ (f : ℕ → List Interval → Parsed Zone) (last : ℕ) where

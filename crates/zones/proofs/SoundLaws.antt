@@ -1,7 +1,7 @@
 -- The content of a zone that was read is in its ranges. Assumes nothing.
 use mathlib.Core.Path.{_≡_, refl, sym, _∙_, subst}
 use mathlib.Core.Bool.{Bool, true, false}
-use mathlib.Core.List.{List, []}
+use mathlib.Core.List.{List, [], _∷_}
 use mathlib.Core.Logic.{inl, inr}
 use Prim.Native.Nat.{ℕ, _≤_, _<_}
 use native.Mathlib.Omega.{arith}
@@ -25,7 +25,7 @@ use Rattle.intervals.specs.Sound.{ListOk}
 use Rattle.intervals.proofs.SoundLaws.{list-sound, list-length}
 use Rattle.tails.specs.Tail.{parseTail}
 use Rattle.tails.proofs.TailLaws.{tail-sound}
-use Rattle.zones.specs.Content.{untailed, tailed, Body, fixed, listed, Zone}
+use Rattle.zones.specs.Content.{untailed, tailed, absent, present, Body, fixed, listed, Zone}
 use Rattle.zones.specs.Parse.{zoneOf, afterTail, parseTailed, afterTailByte, afterEnd, afterIntervals, afterCount, parseListed, fixedOf, afterFixedOffset, parseFixed, afterFlag, afterId, parseZone}
 use Rattle.zones.specs.Sound.{BodyOk, Sound}
 
@@ -45,8 +45,13 @@ fixed-whole : (pool id : ℕ) (s : List ℕ) (z : Zone) (q : List ℕ) → parse
 unfolding parseFixed afterFixedOffset
 fixed-whole pool id s z q e =
     let a = bind-good (parse readSum s) (afterFixedOffset pool id) z q e in
-    let b = bind-good (parseName pool (a .rest)) (fixedOf id (a .first)) z q (a .on) in
-    zone-whole pool id (fixed (a .first) (b .first)) (b .rest) z q (sum-high _ _ _ (a .is), name-ok pool _ _ _ (b .is)) (b .on)
+    go (a .first) (a .rest) (sum-high _ _ _ (a .is)) (a .on)
+  where
+    go : (offset : ℕ) (r : List ℕ) → offset ≤ 172799999 → afterFixedOffset pool id offset r ≡ got z q → Whole pool id z q
+    go offset [] h k = zone-whole pool id (fixed offset absent) [] z q (h, tt) k
+    go offset (c ∷ r) h k =
+        let b = bind-good (parseName pool (c ∷ r)) (fixedOf id offset) z q k in
+        zone-whole pool id (fixed offset (present (b .first))) (b .rest) z q (h, name-ok pool _ _ _ (b .is)) (b .on)
 
 -- an end transition after a start and before end of time is finite
 end-finite : (m : ℕ) → Moment m → 0 < m → m < endOfTime → Finite m

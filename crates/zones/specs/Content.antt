@@ -10,9 +10,14 @@ pub data Ending : Type 0 where
   untailed : Ending
   tailed : NamedTail → Ending
 
--- "Flag 1, fixed: offset, then name"; "Flag 2: .. intervals ..; then the end transition; tail byte .."
+-- "absent and present-but-equal stay two contents": the name of a fixed zone, where it has one
+pub data FixedName : Type 0 where
+  absent : FixedName
+  present : ℕ → FixedName
+
+-- "Flag 1, fixed: offset, then name", which may be absent; "Flag 2: .. intervals ..; then the end transition; tail byte .."
 pub data Body : Type 0 where
-  fixed : ℕ → ℕ → Body
+  fixed : ℕ → FixedName → Body
   listed : List Interval → ℕ → Ending → Body
 
 -- "A zone is ID, flag, rest"

@@ -1,7 +1,7 @@
--- A zone in the paper's order, three definitions: what a reader is to believe of `parseZone` (Parse.antt), which is the same by `zone-stages`
+-- A zone in the paper's order, four definitions: what a reader is to believe of `parseZone` (Parse.antt), which is the same by `zone-stages`
 -- (proofs/InOrderLaws.antt). Each thing that is read is judged at once, the end only after the tail byte.
 use Prim.Native.Nat.{ℕ}
-use mathlib.Core.List.{List}
+use mathlib.Core.List.{List, [], _∷_}
 use lib.Dec.{ltb, eqb}
 use Rattle.base.specs.Pick.{pick, both}
 use Rattle.base.specs.Parsed.{Parsed, bad, bind, parse, parseByte, ended, many, behind}
@@ -13,14 +13,17 @@ use Rattle.places.specs.Name.{parseName}
 use Rattle.intervals.specs.Interval.{startOf}
 use Rattle.intervals.specs.InOrder.{intervalInOrder}
 use Rattle.tails.specs.InOrder.{tailInOrder}
-use Rattle.zones.specs.Content.{untailed, tailed, fixed, listed, Zone}
+use Rattle.zones.specs.Content.{untailed, tailed, absent, present, fixed, listed, Zone}
+
+-- "A fixed zone ending right after its offset is well formed": by the data's size; one byte or more behind the offset is a name
+unfoldable pub nameInOrder : ℕ → ℕ → ℕ → List ℕ → Parsed Zone
+nameInOrder pool id offset [] = ended (record { id = id; body = fixed offset absent }) []
+nameInOrder pool id offset (b ∷ r) =
+    bind (parseName pool (b ∷ r)) (λ name r. ended (record { id = id; body = fixed offset (present name) }) r)
 
 -- "Flag 1, fixed: offset, then name"
 unfoldable pub fixedInOrder : ℕ → ℕ → List ℕ → Parsed Zone
-fixedInOrder pool id s =
-    bind (parse readSum s) (λ offset r.
-    bind (parseName pool r) (λ name r.
-    ended (record { id = id; body = fixed offset name }) r))
+fixedInOrder pool id s = bind (parse readSum s) (nameInOrder pool id)
 
 -- "Flag 2: interval count, at least 1; for each ..; then the end transition; tail byte 0 or 1; the tail if 1"
 unfoldable pub listedInOrder : ℕ → ℕ → List ℕ → Parsed Zone

@@ -5,7 +5,7 @@ use Rattle.recurrence.specs.declared.Interval.{Interval as TailInterval}
 use Rattle.recurrence.specs.Tails.{IsInterval}
 use Rattle.intervals.specs.declared.Interval.{Interval}
 use Rattle.tails.specs.declared.NamedTail.{NamedTail}
-use Rattle.zones.specs.Content.{Ending, tailed, Body, fixed, listed, Zone}
+use Rattle.zones.specs.Content.{Ending, tailed, FixedName, Body, fixed, listed, Zone}
 use Rattle.zones.specs.Lookup.{until, named, always}
 use Rattle.zones.specs.declared.Found.{Found}
 
@@ -29,7 +29,7 @@ pub data InTail (n : NamedTail) : Found → Type 0 where
 
 -- of a body of the zone with the ID id
 pub data InBody (id : ℕ) : Body → Found → Type 0 where
-  all-of-time : (offset n : ℕ) → InBody id (fixed offset n) (always id offset n)
+  all-of-time : (offset : ℕ) (n : FixedName) → InBody id (fixed offset n) (always id offset n)
   in-list : (is : List Interval) (end : ℕ) (e : Ending) (x : Found) → InList end is x → InBody id (listed is end e) x
   in-tail : (is : List Interval) (end : ℕ) (n : NamedTail) (x : Found) → InTail n x → InBody id (listed is end (tailed n)) x
 

@@ -8,7 +8,7 @@ use Rattle.base.specs.Parsed.{Parsed, got, bad}
 use Rattle.base.specs.Moment.{startOfTime, endOfTime}
 use Rattle.recurrence.specs.Tails.{lookup}
 use Rattle.recurrence.specs.declared.Interval.{Interval as Lookup}
-use Rattle.zones.specs.Content.{Ending, untailed, tailed, Body, fixed, listed, Zone}
+use Rattle.zones.specs.Content.{Ending, untailed, tailed, FixedName, absent, present, Body, fixed, listed, Zone}
 use Rattle.intervals.specs.declared.Interval.{Interval}
 use Rattle.tails.specs.declared.NamedTail.{NamedTail}
 use Rattle.zones.specs.declared.Found.{Found}
@@ -50,9 +50,14 @@ unfoldable pub behindList : ℕ → Ending → Found
 behindList t untailed = nowhere
 behindList t (tailed n) = inTail t n
 
+-- "A fixed zone ending right after its offset is well formed and its name is its ID": the pool string of the zone's own ID number
+unfoldable pub fixedNameOf : ℕ → FixedName → ℕ
+fixedNameOf id absent = id
+fixedNameOf id (present n) = n
+
 -- "Flag 1, fixed: offset, then name; savings 0, all of time"; id is the zone's ID
-abbrev pub always : ℕ → ℕ → ℕ → Found
-always id offset name = record { wall = offset; savings = zeroOffset; name = name; start = startOfTime; end = endOfTime }
+abbrev pub always : ℕ → ℕ → FixedName → Found
+always id offset n = record { wall = offset; savings = zeroOffset; name = fixedNameOf id n; start = startOfTime; end = endOfTime }
 
 unfoldable pub inBody : ℕ → ℕ → Body → Found
 inBody t id (fixed offset name) = always id offset name

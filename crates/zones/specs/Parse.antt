@@ -2,7 +2,7 @@
 -- own, last stage first; "a value's code (7) comes before its use (4, 8 to 11), and each use is judged at once".
 -- The code's way, tied to InOrder.antt by `zone-stages` (proofs/InOrderLaws.antt).
 use Prim.Native.Nat.{ℕ}
-use mathlib.Core.List.{List}
+use mathlib.Core.List.{List, [], _∷_}
 use lib.Dec.{ltb, eqb}
 use Rattle.base.specs.Pick.{pick, both}
 use Rattle.base.specs.Parsed.{Parsed, bad, bind, parse, parseByte, ended, many, behind}
@@ -15,7 +15,7 @@ use Rattle.intervals.specs.Interval.{startOf, parseInterval}
 use Rattle.intervals.specs.declared.Interval.{Interval}
 use Rattle.tails.specs.Tail.{parseTail}
 use Rattle.tails.specs.declared.NamedTail.{NamedTail}
-use Rattle.zones.specs.Content.{untailed, tailed, Body, fixed, listed, Zone}
+use Rattle.zones.specs.Content.{untailed, tailed, absent, present, Body, fixed, listed, Zone}
 
 -- A zone of either kind.
 unfoldable pub zoneOf : ℕ → Body → List ℕ → Parsed Zone
@@ -53,10 +53,13 @@ unfoldable pub parseListed : ℕ → ℕ → List ℕ → Parsed Zone
 parseListed pool id s = bind (parse readCount s) (afterCount pool id)
 
 abbrev pub fixedOf : ℕ → ℕ → ℕ → List ℕ → Parsed Zone
-fixedOf id offset n s = zoneOf id (fixed offset n) s
+fixedOf id offset n s = zoneOf id (fixed offset (present n)) s
 
+-- "A fixed zone ending right after its offset is well formed": its data end there by their size; one byte or more there is a name,
+-- with a name's faults
 unfoldable pub afterFixedOffset : ℕ → ℕ → ℕ → List ℕ → Parsed Zone
-afterFixedOffset pool id offset s = bind (parseName pool s) (fixedOf id offset)
+afterFixedOffset pool id offset [] = zoneOf id (fixed offset absent) []
+afterFixedOffset pool id offset (b ∷ s) = bind (parseName pool (b ∷ s)) (fixedOf id offset)
 
 unfoldable pub parseFixed : ℕ → ℕ → List ℕ → Parsed Zone
 parseFixed pool id s = bind (parse readSum s) (afterFixedOffset pool id)

@@ -10,16 +10,21 @@ use Rattle.intervals.specs.Interval.{startOf}
 use Rattle.intervals.specs.Sound.{ListOk}
 use Rattle.tails.specs.Sound.{NamedTailOk}
 use Rattle.zones.specs.declared.Found.{Found}
-use Rattle.zones.specs.Content.{Ending, untailed, tailed, Body, fixed, listed, Zone}
+use Rattle.zones.specs.Content.{Ending, untailed, tailed, FixedName, absent, present, Body, fixed, listed, Zone}
 
 -- "Without a tail the end is end of time; with one it is finite and after the last start"
 abbrev pub EndOk : ℕ → List Interval → ℕ → Ending → Type 0
 EndOk pool is end untailed = end ≡ endOfTime
 EndOk pool is end (tailed n) = (behind startOf endOfTime is < end) × Finite end × NamedTailOk pool end n
 
+-- the name of a fixed zone, where it has one, is a number of the pool
+abbrev pub FixedNameOk : ℕ → FixedName → Type 0
+FixedNameOk pool absent = Unit {0}
+FixedNameOk pool (present n) = n < pool
+
 -- "4,096 intervals a zone"
 abbrev pub BodyOk : ℕ → Body → Type 0
-BodyOk pool (fixed offset n) = (offset ≤ 172799999) × (n < pool)
+BodyOk pool (fixed offset n) = (offset ≤ 172799999) × FixedNameOk pool n
 BodyOk pool (listed is end e) = ListOk pool is × EndOk pool is end e × (length is ≤ 4096)
 
 -- pool is the pool's count

@@ -12,9 +12,9 @@ use Rattle.intervals.specs.Interval.{startOf}
 use Rattle.intervals.specs.Scan.{scanned}
 use Rattle.intervals.specs.declared.Interval.{Interval}
 use Rattle.intervals.specs.declared.Scan.{Scan}
-use Rattle.zones.specs.Content.{untailed, tailed, Body, fixed, listed, Zone}
+use Rattle.zones.specs.Content.{untailed, tailed, FixedName, Body, fixed, listed, Zone}
 use Rattle.zones.specs.Parse.{parseIntervals}
-use Rattle.zones.specs.Lookup.{until}
+use Rattle.zones.specs.Lookup.{until, fixedNameOf}
 use Rattle.zones.specs.declared.Found.{Found}
 use Rattle.zones.specs.declared.ZoneFront.{ZoneFront}
 use Rattle.zones.specs.declared.ZoneFront.the-variants.{Fixed as AllFixed, Listed as Several, Refused as FrontRefused}
@@ -29,7 +29,7 @@ heldUntil c end = until (c .held) (pick (ltb (c .end) endOfTime) (c .end) end)
 
 -- what one walk over a zone keeps for the instant t
 abbrev pub bodyRead : ℕ → ℕ → Body → ZoneRead
-bodyRead t id (fixed offset name) = Fixed id offset name
+bodyRead t id (fixed offset n) = Fixed id offset (fixedNameOf id n)
 bodyRead t id (listed is end untailed) = Listed id (scanned t is)
 bodyRead t id (listed is end (tailed n)) = Tailed id (scanned t is) n
 
@@ -39,7 +39,7 @@ readOf t (bad n) = ZoneRefused n
 
 -- r is what p is up to its intervals, where p reads some bytes s to their end; no more than 4,096 intervals are read
 abbrev pub FrontTo : ℕ → List ℕ → Parsed Zone → ZoneFront → Type 0
-FrontTo pool s p (AllFixed id offset n) = p ≡ got (record { id = id; body = fixed offset n }) []
+FrontTo pool s p (AllFixed id offset n) = (m : FixedName) × (p ≡ got (record { id = id; body = fixed offset m }) []) × (n ≡ fixedNameOf id m)
 FrontTo pool s p (Several id n at) = (p ≡ parseIntervals pool id n (drop at s)) × (at ≤ length s) × (0 < n) × (n ≤ 4096)
 FrontTo pool s p (FrontRefused k) = p ≡ bad k
 

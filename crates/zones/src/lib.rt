@@ -58,21 +58,27 @@ pub enum ZoneRead {
     Refused(u8),
 }
 
+// A fixed zone whose data end behind its offset has its ID for its name.
 fn read_fixed(s: &[u8], at: usize, pool: u64, id: u64) -> ZoneFront
     requires { ⌜ at ≤ length (now s) ⌝ }
     ensures { λ r. ⌜ FrontOf pool (now (s .entry)) (parseFixed pool id (drop at (now (s .entry)))) r ⌝ }
 {
     match places::sum_at(s, at) {
         Read::Refused(k) => ZoneFront::Refused(k),
-        Read::Value(offset, a) => match places::name_at(s, a, pool) {
-            Read::Refused(k) => ZoneFront::Refused(k),
-            Read::Value(n, e) => {
-                if e < s.len() {
-                    return ZoneFront::Refused(9);
-                }
-                ZoneFront::Fixed(id, offset, n)
+        Read::Value(offset, a) => {
+            if a == s.len() {
+                return ZoneFront::Fixed(id, offset, id);
             }
-        },
+            match places::name_at(s, a, pool) {
+                Read::Refused(k) => ZoneFront::Refused(k),
+                Read::Value(n, e) => {
+                    if e < s.len() {
+                        return ZoneFront::Refused(9);
+                    }
+                    ZoneFront::Fixed(id, offset, n)
+                }
+            }
+        }
     }
 }
 

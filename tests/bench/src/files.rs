@@ -169,7 +169,7 @@ fn grown(pool: Vec<String>, zones: Vec<Zone>, write: fn(&FileContent) -> Vec<u8>
 }
 
 fn fixed(id: usize) -> Zone {
-    Zone { id, rest: Rest::Fixed { offset: 0, name: 0 } }
+    Zone { id, rest: Rest::Fixed { offset: 0, name: Some(0) } }
 }
 
 /// A zone whose intervals are 200 days long.

@@ -62,7 +62,7 @@ fn alone(file: &[u8], contents: &Contents, zone: &Zone) -> Vec<u8> {
     let mut zone = zone.clone();
     zone.id = number(zone.id);
     match &mut zone.rest {
-        Rest::Fixed { name, .. } => *name = number(*name),
+        Rest::Fixed { name, .. } => *name = name.map(number),
         Rest::Listed { intervals, tail, .. } => {
             for interval in intervals {
                 interval.name = number(interval.name);

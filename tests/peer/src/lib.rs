@@ -106,8 +106,8 @@ fn zone_of(data: &[u8], pool: &Pool, asked: &[u8], find: &mut Find) -> Result<bo
     let id = cursor.pool_number(pool.count())?;
     let found = pool.string(id) == asked;
     match found {
-        true => read_rest(cursor, pool.count(), find)?,
-        false => read_rest(cursor, pool.count(), &mut ())?,
+        true => read_rest(cursor, id, pool.count(), find)?,
+        false => read_rest(cursor, id, pool.count(), &mut ())?,
     }
     Ok(found)
 }

@@ -15,6 +15,7 @@ struct Change<'a> {
     field: Field<'a>,
     /// The data behind the zone's ID.
     rest: Cursor<'a>,
+    id: u32,
     pool_count: u32,
     /// The length of the preferred data.
     length: usize,
@@ -24,11 +25,11 @@ struct Change<'a> {
 pub fn rewrite(file: &[u8], out: &mut [u8]) -> Result<usize, Refusal> {
     let mut changes = Vec::new();
     let mut length = file.len();
-    walk(file, |field, rest, pool_count| {
+    walk(file, |field, rest, id, pool_count| {
         let mut saved = Saved(0);
-        read_rest(rest, pool_count, &mut saved)?;
+        read_rest(rest, id, pool_count, &mut saved)?;
         if saved.0 > 0 {
-            let change = Change { field: *field, rest, pool_count, length: field.data.len() - saved.0 };
+            let change = Change { field: *field, rest, id, pool_count, length: field.data.len() - saved.0 };
             length -= field.end - field.place;
             length += 1 + count_length(change.length as u32) + change.length;
             changes.push(change);
@@ -40,11 +41,11 @@ pub fn rewrite(file: &[u8], out: &mut [u8]) -> Result<usize, Refusal> {
     }
     let mut write = Write { out, at: 0 };
     let mut copied = 0;
-    for Change { field, rest, pool_count, length } in changes {
+    for Change { field, rest, id, pool_count, length } in changes {
         write.bytes(&file[copied..=field.place]);
         write.count(length as u32);
         let mut rewrite = Rewrite { write: &mut write, data: field.data, copied: 0 };
-        read_rest(rest, pool_count, &mut rewrite).map_err(|number| field.refuse(number))?;
+        read_rest(rest, id, pool_count, &mut rewrite).map_err(|number| field.refuse(number))?;
         let left = rewrite.copied;
         write.bytes(&field.data[left..]);
         copied = field.end;

@@ -10,20 +10,20 @@ use crate::Refusal;
 
 /// Checks a whole file.
 pub fn check(file: &[u8]) -> Result<(), Refusal> {
-    walk(file, |_, rest, pool_count| read_rest(rest, pool_count, &mut ())).map(|_| ())
+    walk(file, |_, rest, id, pool_count| read_rest(rest, id, pool_count, &mut ())).map(|_| ())
 }
 
 /// The text of field 2 of a well-formed file.
 pub fn version_text(file: &[u8]) -> Result<&[u8], Refusal> {
-    let text = walk(file, |_, rest, pool_count| read_rest(rest, pool_count, &mut ()))?;
+    let text = walk(file, |_, rest, id, pool_count| read_rest(rest, id, pool_count, &mut ()))?;
     text.ok_or(Refusal { number: NOT_FOUND, place: file.len() })
 }
 
-/// Checks a whole file and gives its version text. `read` is given each zone's field, the data behind its ID and the
-/// pool's count, and checks the data.
+/// Checks a whole file and gives its version text. `read` is given each zone's field, the data behind its ID, the ID
+/// and the pool's count, and checks the data.
 pub fn walk<'a>(
     file: &'a [u8],
-    mut read: impl FnMut(&Field<'a>, Cursor<'a>, u32) -> Result<(), u8>,
+    mut read: impl FnMut(&Field<'a>, Cursor<'a>, u32, u32) -> Result<(), u8>,
 ) -> Result<Option<&'a [u8]>, Refusal> {
     let mut fields = Fields::new(file, CUT_SHORT)?;
     let Some(field) = fields.first()? else {
@@ -39,7 +39,7 @@ pub fn walk<'a>(
             1 => {
                 let mut cursor = Cursor::new(field.data);
                 let zone_id = cursor.pool_number(pool.count()).map_err(refuse)?;
-                read(&field, cursor, pool.count()).map_err(refuse)?;
+                read(&field, cursor, zone_id, pool.count()).map_err(refuse)?;
                 if !ids.insert(zone_id, &pool) {
                     return Err(refuse(SECOND_ZONE));
                 }

@@ -35,12 +35,13 @@ pub trait Visit {
 /// Checks only.
 impl Visit for () {}
 
-/// Reads what stands behind a zone's ID, to the end of its data.
-pub fn read_rest(mut cursor: Cursor, pool_count: u32, visit: &mut impl Visit) -> Result<(), u8> {
+/// Reads what stands behind a zone's ID, to the end of its data. A fixed zone that ends right after its offset has its ID
+/// for a name.
+pub fn read_rest(mut cursor: Cursor, id: u32, pool_count: u32, visit: &mut impl Visit) -> Result<(), u8> {
     match cursor.byte()? {
         1 => {
             let wall = cursor.offset()?;
-            let name = cursor.pool_number(pool_count)?;
+            let name = if cursor.left() == 0 { id } else { cursor.pool_number(pool_count)? };
             visit.interval(Interval { start: START_OF_TIME, name, wall, savings: 0 });
             visit.end(END_OF_TIME, None);
         }

@@ -59,9 +59,13 @@ impl<'a> Data<'a> {
         }
     }
 
+    pub(crate) fn is_at_end(&self) -> bool {
+        self.at == self.bytes.len()
+    }
+
     /// "9 for leftovers last"
     pub(crate) fn end(&self) -> Result<(), Number> {
-        if self.at == self.bytes.len() {
+        if self.is_at_end() {
             Ok(())
         } else {
             Err(Number::BadData)

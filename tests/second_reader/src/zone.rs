@@ -25,12 +25,14 @@ pub struct Interval {
 /// What stands behind a zone's ID.
 #[derive(Clone, Debug, PartialEq, Eq)]
 pub enum Rest {
-    /// "Flag 1, fixed: offset, then name; savings 0, all of time."
+    /// "Flag 1, fixed: offset, then name; savings 0, all of time." 02, Ask 2: "A fixed zone ending right after its
+    /// offset is well formed and its name is its ID."
     Fixed {
         /// Wall offset in milliseconds.
         offset: i32,
-        /// Pool number of the name.
-        name: usize,
+        /// Pool number of the name; none where the data ends after the offset. "absent and present-but-equal stay two
+        /// contents"
+        name: Option<usize>,
     },
     /// "Flag 2: interval count, at least 1; [...] then the end transition; tail byte 0 or 1; the tail if 1."
     Listed {
@@ -68,7 +70,8 @@ pub fn read_zone(bytes: &[u8], pool_count: usize) -> Result<Zone, Number> {
     let rest = match data.byte()? {
         1 => {
             let offset = data.offset()?;
-            let name = data.pool_number(pool_count)?;
+            // Absent by the field's size; one byte or more behind the offset is a name (readings 2.1 and 2.2).
+            let name = if data.is_at_end() { None } else { Some(data.pool_number(pool_count)?) };
             Rest::Fixed { offset, name }
         }
         2 => read_listed(&mut data, pool_count)?,
@@ -130,7 +133,7 @@ impl Zone {
         let (intervals, end, tail) = match &self.rest {
             Rest::Fixed { offset, name } => {
                 let start = Transition::StartOfTime;
-                let interval = Interval { start, name: *name, wall: *offset, savings: 0 };
+                let interval = Interval { start, name: name.unwrap_or(self.id), wall: *offset, savings: 0 };
                 return Holding { interval, end: Transition::EndOfTime };
             }
             Rest::Listed { intervals, end, tail } => (intervals, *end, tail),
@@ -154,7 +157,10 @@ impl Zone {
             Rest::Fixed { offset, name } => {
                 out.push(1);
                 out.extend(codes::encode_offset(i64::from(*offset))?);
-                out.extend(codes::encode_count(*name as i64)?);
+                // "The rewriter keeps the absence".
+                if let Some(name) = name {
+                    out.extend(codes::encode_count(*name as i64)?);
+                }
             }
             Rest::Listed { intervals, end, tail } => {
                 out.push(2);

@@ -106,10 +106,11 @@ fn random_others(prng: &mut Prng) -> Vec<(u8, Vec<u8>)> {
     others
 }
 
-/// Fixed, listed and tail zones.
+/// Fixed zones, with a name and without, listed and tail zones.
 fn random_rest(prng: &mut Prng, pool_count: usize, size: Size) -> Rest {
     if prng.one_in(4) {
-        return Rest::Fixed { offset: random_offset(prng), name: prng.below(pool_count) };
+        let name = (!prng.one_in(3)).then(|| prng.below(pool_count));
+        return Rest::Fixed { offset: random_offset(prng), name };
     }
     let count = match size {
         Size::Any if prng.one_in(150) => MOST_INTERVALS,

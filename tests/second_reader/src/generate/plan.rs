@@ -177,7 +177,8 @@ fn zone_codes(zone: &Zone, forms: &mut Forms) -> Vec<Code> {
     let mut codes = vec![counted(Kind::PoolNumber, zone.id)];
     match &zone.rest {
         Rest::Fixed { offset: ms, name } => {
-            codes.extend([byte(Kind::Flag, 1), offset(Kind::Offset, *ms), counted(Kind::PoolNumber, *name)]);
+            codes.extend([byte(Kind::Flag, 1), offset(Kind::Offset, *ms)]);
+            codes.extend(name.map(|name| counted(Kind::PoolNumber, name)));
         }
         Rest::Listed { intervals, end, tail } => {
             codes.extend([byte(Kind::Flag, 2), counted(Kind::IntervalCount, intervals.len())]);

@@ -37,7 +37,11 @@ fn rule_shapes(seen: &mut Seen, rule: &Rule, occurrence: impl Fn(i64) -> i64) {
 
 fn zone_shapes(seen: &mut Seen, zone: &Zone) {
     match &zone.rest {
-        Rest::Fixed { .. } => note(seen, true, "fixed"),
+        Rest::Fixed { name, .. } => {
+            note(seen, name.is_none(), "fixed without a name");
+            note(seen, name.is_some_and(|name| name == zone.id), "fixed, named by its ID's own number");
+            note(seen, name.is_some_and(|name| name != zone.id), "fixed");
+        }
         Rest::Listed { intervals, tail, .. } => {
             note(seen, tail.is_none(), "listed");
             note(seen, intervals.len() == 4096, "4096 intervals");
@@ -127,6 +131,8 @@ fn every_shape_is_generated() {
     }
     let mut wanted: Vec<String> = [
         "fixed",
+        "fixed without a name",
+        "fixed, named by its ID's own number",
         "listed",
         "tail",
         "UTC",

@@ -26,7 +26,8 @@ impl Occurrences {
 /// The interval that the content says: wall, savings, name's pool number, start, end.
 fn expected(zone: &Zone, tail_lists: Option<&Occurrences>, ticks: i64) -> (i32, i32, usize, Transition, Transition) {
     let (intervals, end, tail) = match &zone.rest {
-        Rest::Fixed { offset, name } => return (*offset, 0, *name, StartOfTime, EndOfTime),
+        // A fixed zone without a name has its ID for one.
+        Rest::Fixed { offset, name } => return (*offset, 0, name.unwrap_or(zone.id), StartOfTime, EndOfTime),
         Rest::Listed { intervals, end, tail } => (intervals, *end, tail),
     };
     let starts: Vec<Transition> = intervals.iter().map(|interval| interval.start).chain([end]).collect();

@@ -7,6 +7,7 @@ mod common;
 mod demand3;
 mod generator;
 mod intervals;
+mod nameless;
 mod numbers;
 mod plain_question;
 mod program;

@@ -282,8 +282,8 @@ fn against_the_published_format() {
     let file = zone_file("000203 00003030 e09bd12a003030 808040003030 0100");
     all_three(&zone_file("000203 00003030 808040003030 808040003030 0100"), 7, 9);
     assert_eq!(at(&file, 0).end, Transition::Finite(1_048_576 * 36_000_000_000));
-    // b: a fixed zone's name is required.
-    all_three(&with("0103 000130"), 9, 9);
+    // b: a fixed zone's name may be absent (02, Ask 2).
+    all_three(&with("0103 000130"), 0, 0);
     // c: no field 2 is fine, a second 6 or 7 isn't.
     assert_eq!(check(&with("0600 0600")), (5, 11));
     // f: a longer count for a month or day is judged by its range.

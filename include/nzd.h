@@ -5,13 +5,14 @@
  *
  * Results. Every function gives a result r: nzd_number_of(r) is a number of enum nzd_number, and nzd_place_of(r) the
  * place of a refusal (a number other than 0): the place in the file of the faulty field's ID byte, or the bytes' end
- * where no field has begun; 0 for 3, 14 and 15, for a version that is cut, and for every refusal of a small code. On 0,
- * nzd_length_of(r) is the length where a length is said below, else 0. Later versions may give further numbers.
+ * where no field has begun; 0 for 3, 14, 15 and 17, for a version that is cut, and for every refusal of a small code. On
+ * 0, nzd_length_of(r) is the length where a length is said below, else 0. Later versions may give further numbers.
  *
  * Output. Output is written on 0 only, and no further than said; all other lent memory stays as found.
  *
  * Instants are ticks of 100 ns since 1970-01-01T00:00Z, from NZD_FIRST_INSTANT (year 1) to NZD_LAST_INSTANT (end of
- * 9999). Offsets and savings are milliseconds.
+ * 9999). Offsets and savings are milliseconds. A local time is what clocks of a zone show, as ticks since
+ * 1970-01-01T00:00 on the same clocks.
  *
  * Texts (zone IDs, names, the version text) are UTF-8 and not NUL-terminated: each is a place and a length. A place
  * counts from the pointer that was lent.
@@ -20,8 +21,8 @@
  * pointer is not followed and may be null. A pointer to a struct is never null. out overlaps nothing else that is lent.
  * No function keeps a pointer, allocates, or has state, so any number of threads may call them.
  *
- * Stack, measured and not proved: up to 104 KB for nzd_check, nzd_version_text and nzd_rewrite, 39 KB for nzd_ask and
- * nzd_ask_plain, below 1 KB for a small code.
+ * Stack, measured and not proved: up to 104 KB for nzd_check, nzd_version_text and nzd_rewrite, 39 KB for nzd_ask,
+ * nzd_ask_plain and nzd_map_local, below 1 KB for a small code.
  */
 #ifndef NZD_H
 #define NZD_H
@@ -56,7 +57,8 @@ enum nzd_number {
     NZD_NOT_FOUND = 12,           /* no such zone, or no version text */
     NZD_SECOND_ZONE = 13,         /* a second zone with the same ID (never given by a question) */
     NZD_INSTANT_OUT_OF_RANGE = 14,/* the asked instant is outside years 1 to 9999 */
-    NZD_OUTPUT_TOO_SHORT = 15
+    NZD_OUTPUT_TOO_SHORT = 15,
+    NZD_NO_INSTANT = 17           /* no instant reads as the local time, as where clocks went forward over it */
 };
 
 /* The number of a result. */
@@ -93,6 +95,7 @@ static inline const char *nzd_words(unsigned number) {
     case NZD_SECOND_ZONE: return "a second zone has the same ID";
     case NZD_INSTANT_OUT_OF_RANGE: return "the instant is outside years 1 to 9999";
     case NZD_OUTPUT_TOO_SHORT: return "the output is too short";
+    case NZD_NO_INSTANT: return "no instant reads as that local time";
     default: return "a number that this header does not know";
     }
 }
@@ -128,6 +131,22 @@ uint64_t nzd_ask(const uint8_t *file, size_t n, const uint8_t *id, size_t id_n, 
 /* The same with more: the plain question expects more. Of a file that is all there, call nzd_ask without more. */
 uint64_t nzd_ask_plain(const uint8_t *file, size_t n, const uint8_t *id, size_t id_n, int64_t ticks,
                        struct nzd_answer *out);
+
+/* The instants at which clocks of a zone show a local time. */
+struct nzd_local {
+    int64_t count;    /* how many, at least 1: 2 where clocks went back over it; more only between short intervals */
+    int64_t earliest; /* the first of them, in ticks */
+    int64_t latest;   /* the last of them, in ticks; of one, the same */
+};
+
+/*
+ * Asks which instants read as a local time: those that, with the zone's wall offset at them added, are local. id is the
+ * zone's ID, any bytes; local is any number. The bytes are all there is, and what follows the zone is not looked at. The
+ * refusals of nzd_ask without more come first, 14 aside; then 17 if there is no such instant from year 1 to the end of
+ * 9999.
+ */
+uint64_t nzd_map_local(const uint8_t *file, size_t n, const uint8_t *id, size_t id_n, int64_t local,
+                       struct nzd_local *out);
 
 /* A text: a part of the bytes that were lent. */
 struct nzd_text {

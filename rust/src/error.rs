@@ -36,48 +36,51 @@ pub enum Number {
     InstantOutOfRange,
     /// 15: the output is too short.
     OutputTooShort,
+    /// 17: no instant reads as the local time, as where clocks went forward over it. No error has it:
+    /// [`map_local`](crate::map_local) gives [`LocalInstants::None`](crate::LocalInstants::None).
+    NoInstant,
     /// A number that this version of the wrapper has no name for.
     Other(u8),
 }
 
-/// The numbers from 1 on, in words.
-const NUMBERS: [(Number, &str); 15] = [
-    (Number::NotYet, "not yet: more bytes are needed"),
-    (Number::CutShort, "cut short"),
-    (Number::WrongVersion, "the version is not 0"),
-    (Number::TooLarge, "a largest size is passed"),
-    (Number::FieldOrder, "a field is out of order or stands twice"),
-    (Number::FirstField, "the first field is not the string pool"),
-    (Number::BadCode, "a count, offset or transition code is not allowed"),
-    (Number::BadText, "a string is not UTF-8, or a pool number is too high"),
-    (Number::BadData, "an unknown flag, or data that ends early or is left over"),
-    (Number::BadInterval, "an interval count, start or end is not allowed"),
-    (Number::BadRecurrence, "a recurrence or tail sum is out of range"),
-    (Number::NotFound, "no such zone, or no version text"),
-    (Number::SecondZone, "a second zone has the same ID"),
-    (Number::InstantOutOfRange, "the instant is outside years 1 to 9999"),
-    (Number::OutputTooShort, "the output is too short"),
+/// The numbers that have a name, in words. 16 is a number of the program `zone_query` only.
+const NUMBERS: [(u8, Number, &str); 16] = [
+    (1, Number::NotYet, "not yet: more bytes are needed"),
+    (2, Number::CutShort, "cut short"),
+    (3, Number::WrongVersion, "the version is not 0"),
+    (4, Number::TooLarge, "a largest size is passed"),
+    (5, Number::FieldOrder, "a field is out of order or stands twice"),
+    (6, Number::FirstField, "the first field is not the string pool"),
+    (7, Number::BadCode, "a count, offset or transition code is not allowed"),
+    (8, Number::BadText, "a string is not UTF-8, or a pool number is too high"),
+    (9, Number::BadData, "an unknown flag, or data that ends early or is left over"),
+    (10, Number::BadInterval, "an interval count, start or end is not allowed"),
+    (11, Number::BadRecurrence, "a recurrence or tail sum is out of range"),
+    (12, Number::NotFound, "no such zone, or no version text"),
+    (13, Number::SecondZone, "a second zone has the same ID"),
+    (14, Number::InstantOutOfRange, "the instant is outside years 1 to 9999"),
+    (15, Number::OutputTooShort, "the output is too short"),
+    (17, Number::NoInstant, "no instant reads as that local time"),
 ];
 
 impl Number {
     /// The name of a number that is not 0.
     fn of(value: u8) -> Number {
-        let named = usize::from(value).checked_sub(1).and_then(|at| NUMBERS.get(at));
-        named.map_or(Number::Other(value), |(number, _)| *number)
+        NUMBERS.iter().find(|(named, ..)| *named == value).map_or(Number::Other(value), |(_, number, _)| *number)
     }
 
     /// The number.
     pub fn value(self) -> u8 {
         match self {
             Number::Other(value) => value,
-            _ => (1..).zip(NUMBERS).find(|(_, (number, _))| *number == self).map_or(0, |(value, _)| value),
+            _ => NUMBERS.iter().find(|(_, number, _)| *number == self).map_or(0, |(value, ..)| *value),
         }
     }
 
     /// The number in words.
     pub fn meaning(self) -> &'static str {
         let unknown = "a number that this version of the wrapper does not know";
-        NUMBERS.iter().find(|(number, _)| *number == self).map_or(unknown, |(_, words)| words)
+        NUMBERS.iter().find(|(_, number, _)| *number == self).map_or(unknown, |(.., words)| words)
     }
 }
 
@@ -121,20 +124,20 @@ mod tests {
         for number in 1..=255u8 {
             let error = decode(u64::from(number) + 256 * 1000).expect_err("a refusal");
             assert_eq!((error.number.value(), error.place), (number, 1000));
-            assert_eq!(matches!(error.number, Number::Other(_)), number > 15);
+            assert_eq!(matches!(error.number, Number::Other(_)), number == 16 || number > 17);
         }
-        // The names stand in the order of the numbers.
         assert_eq!((Number::of(1), Number::of(12)), (Number::NotYet, Number::NotFound));
-        assert_eq!((Number::of(15), Number::of(16)), (Number::OutputTooShort, Number::Other(16)));
+        assert_eq!((Number::of(15), Number::of(17)), (Number::OutputTooShort, Number::NoInstant));
     }
 
     #[test]
     fn every_number_has_a_meaning_of_its_own() {
-        let meanings: BTreeSet<&str> = (1..=16).map(|number| Number::of(number).meaning()).collect();
-        assert_eq!(meanings.len(), 16);
+        let meanings: BTreeSet<&str> = (1..=18).map(|number| Number::of(number).meaning()).collect();
+        // 16 and 18 have no name.
+        assert_eq!(meanings.len(), 17);
         let error = Error { number: Number::CutShort, place: 11 };
         assert_eq!(error.to_string(), "cut short (number 2, place 11)");
-        let error = Error { number: Number::Other(17), place: 0 };
-        assert_eq!(error.to_string(), "a number that this version of the wrapper does not know (number 17, place 0)");
+        let error = Error { number: Number::Other(18), place: 0 };
+        assert_eq!(error.to_string(), "a number that this version of the wrapper does not know (number 18, place 0)");
     }
 }

@@ -26,6 +26,14 @@ mod c {
             ticks: i64,
             out: *mut [i64; 6],
         ) -> u64;
+        pub fn nzd_map_local(
+            file: *const u8,
+            n: usize,
+            id: *const u8,
+            id_n: usize,
+            local: i64,
+            out: *mut [i64; 3],
+        ) -> u64;
         pub fn nzd_version_text(file: *const u8, n: usize, out: *mut [i64; 2]) -> u64;
         pub fn nzd_rewrite(file: *const u8, n: usize, out: *mut u8, out_n: usize) -> u64;
         pub fn nzd_read_count(s: *const u8, n: usize, out: *mut [i64; 2]) -> u64;
@@ -61,6 +69,11 @@ pub fn ask(file: &[u8], id: &[u8], ticks: i64, more: bool, out: &mut [i64; 6]) -
 /// `nzd_ask_plain`.
 pub fn ask_plain(file: &[u8], id: &[u8], ticks: i64, out: &mut [i64; 6]) -> u64 {
     unsafe { c::nzd_ask_plain(file.as_ptr(), file.len(), id.as_ptr(), id.len(), ticks, out) }
+}
+
+/// `nzd_map_local`.
+pub fn map_local(file: &[u8], id: &[u8], local: i64, out: &mut [i64; 3]) -> u64 {
+    unsafe { c::nzd_map_local(file.as_ptr(), file.len(), id.as_ptr(), id.len(), local, out) }
 }
 
 /// `nzd_version_text`.

@@ -5,7 +5,8 @@
 //! true whatever bytes follow.
 //!
 //! Instants are ticks of 100 ns since 1970-01-01T00:00Z, which [`ticks_of_unix_seconds`] and [`ticks_of_system_time`]
-//! give; offsets and savings are milliseconds.
+//! give; offsets and savings are milliseconds. A local time is ticks since 1970-01-01T00:00 as clocks of a zone show it;
+//! [`map_local`] gives the instants that read that way.
 //!
 //! ```
 //! // A file with one fixed zone, "UTC".
@@ -29,9 +30,11 @@ pub mod codes;
 mod error;
 #[doc(hidden)]
 pub mod ffi;
+mod local;
 mod ticks;
 
 pub use error::{Error, Number};
+pub use local::{map_local, LocalInstants};
 #[cfg(feature = "std")]
 pub use ticks::ticks_of_system_time;
 pub use ticks::{ticks_of_unix_seconds, TICKS_PER_SECOND};

@@ -1,6 +1,7 @@
 //! The worked values of the scope paper and some of the realistic files', by the wrapper.
 
-use nzd::{ask, ask_plain, check, codes, rewrite, version_text, Answer, Bound, Error, Mark, Number};
+use nzd::{ask, ask_plain, check, codes, map_local, rewrite, version_text};
+use nzd::{Answer, Bound, Error, LocalInstants, Mark, Number};
 
 /// "00 00 00 00, 00 05 01 03 55 54 43, 01 04 00 01 30 00: 17 bytes, one fixed zone \"UTC\""
 const UTC: &[u8] = b"\0\0\0\0\x00\x05\x01\x03UTC\x01\x04\x00\x01\x30\x00";
@@ -62,6 +63,65 @@ fn summer_and_winter() {
     assert!(winter.start < winter.end && winter.end == Bound::At(spring));
     assert_eq!(version_text(&file), Ok("2025b"));
     assert_eq!(summer.name_str(), "CEST");
+}
+
+#[test]
+fn local_times() {
+    let file = europe();
+    let oslo = |local: i64| map_local(&file, "Europe/Oslo", local * TICKS_PER_SECOND).expect("instants");
+    // 2024-10-27T02:30, an autumn night: 00:30Z and 01:30Z.
+    let (earlier, later) = (1_729_989_000 * TICKS_PER_SECOND, 1_729_992_600 * TICKS_PER_SECOND);
+    assert_eq!(oslo(1_729_996_200), LocalInstants::Two { earlier, later });
+    let offset = |ticks| ask(&file, "Europe/Oslo", ticks, Mark::ThisIsAll).expect("an answer").wall_offset_ms;
+    assert_eq!((offset(earlier), offset(later)), (2 * HOUR, HOUR));
+    // 2024-03-31T02:30, a spring gap, and 2024-07-01T12:00.
+    assert_eq!(oslo(1_711_852_200), LocalInstants::None);
+    assert_eq!(oslo(1_719_835_200), LocalInstants::One(1_719_828_000 * TICKS_PER_SECOND));
+    let unknown = Err(Error { number: Number::NotFound, place: 21_985 });
+    assert_eq!(map_local(&file, "Europe/Olso", i64::MIN), unknown);
+}
+
+/// A file with the pool string "A" and this zone.
+fn zone(data: &[u8]) -> Vec<u8> {
+    [&b"\0\0\0\0\x00\x03\x01\x01A\x01"[..], &[data.len() as u8], data].concat()
+}
+
+#[test]
+fn local_times_at_the_ends_of_the_range() {
+    // An hour ahead, and an hour behind.
+    let (ahead, behind) = (zone(b"\x00\x01\x32"), zone(b"\x00\x01\x2e"));
+    let (first, last) = (-621_355_968_000_000_000, 2_534_023_007_999_999_999);
+    let hour = HOUR * 10_000;
+    assert_eq!(map_local(&ahead, "A", last + hour), Ok(LocalInstants::One(last)));
+    assert_eq!(map_local(&ahead, "A", last + hour + 1), Ok(LocalInstants::None));
+    assert_eq!(map_local(&ahead, "A", first), Ok(LocalInstants::None));
+    assert_eq!(map_local(&behind, "A", first - hour), Ok(LocalInstants::One(first)));
+    for file in [&ahead, &behind] {
+        for local in [i64::MIN, i64::MAX] {
+            assert_eq!(map_local(file, "A", local), Ok(LocalInstants::None));
+        }
+    }
+    // The refusals of "this is all" come first; what is behind the zone is not looked at.
+    let refused = |number, place| Err(Error { number, place });
+    assert_eq!(map_local(&ahead, "B", i64::MIN), refused(Number::NotFound, 14));
+    assert_eq!(map_local(&ahead[..13], "A", 0), refused(Number::CutShort, 9));
+    assert_eq!(map_local(&ahead[..9], "A", 0), refused(Number::NotFound, 9));
+    assert_eq!(map_local(&[&ahead[..], &[0]].concat(), "A", hour), Ok(LocalInstants::One(0)));
+    assert_eq!(map_local(&[], "A", 0), refused(Number::CutShort, 0));
+}
+
+#[test]
+fn three_instants_read_as_one_local_time() {
+    // Two hours ahead, then one, then none, from 90 and from 30 minutes before minute 100,000,000 on.
+    let file = zone(b"\0\x02\x03\0\0\x34\x34\xa6\xc1\xd7\x2f\0\x32\x32\xe2\xc1\xd7\x2f\0\x30\x30\x01\0");
+    let (earliest, latest) = (6_353_304_000_000_000, 6_353_376_000_000_000);
+    let found = map_local(&file, "A", 6_353_376_000_000_000).expect("instants");
+    assert_eq!(found, LocalInstants::More { count: 3, earliest, latest });
+    assert_eq!((found.count(), found.earliest(), found.latest()), (3, Some(earliest), Some(latest)));
+    let one = map_local(&file, "A", 0).expect("instants");
+    assert_eq!((one.count(), one.earliest(), one.latest()), (1, Some(-72_000_000_000), Some(-72_000_000_000)));
+    let none = map_local(&file, "A", i64::MAX).expect("instants");
+    assert_eq!((none.count(), none.earliest(), none.latest()), (0, None, None));
 }
 
 #[test]

@@ -18,6 +18,7 @@ static void expect(int holds, const char *what) {
 
 /* The structs are their numbers in a row. */
 typedef char answer_is_six_numbers[sizeof(struct nzd_answer) == 6 * sizeof(int64_t) ? 1 : -1];
+typedef char local_is_three_numbers[sizeof(struct nzd_local) == 3 * sizeof(int64_t) ? 1 : -1];
 typedef char text_is_two_numbers[sizeof(struct nzd_text) == 2 * sizeof(int64_t) ? 1 : -1];
 typedef char value_is_two_numbers[sizeof(struct nzd_value) == 2 * sizeof(int64_t) ? 1 : -1];
 typedef char transition_is_three_numbers[sizeof(struct nzd_transition) == 3 * sizeof(int64_t) ? 1 : -1];
@@ -25,6 +26,7 @@ typedef char transition_is_three_numbers[sizeof(struct nzd_transition) == 3 * si
 /* A pointer whose length is 0 may be null. The numbers are document 01's. */
 static void no_bytes(void) {
     struct nzd_answer answer;
+    struct nzd_local local;
     struct nzd_text text;
     struct nzd_value value;
     struct nzd_transition transition;
@@ -34,6 +36,8 @@ static void no_bytes(void) {
     EXPECT(nzd_ask_plain(NULL, 0, NULL, 0, 0, &answer) == NZD_NOT_YET);
     EXPECT(nzd_ask(file, sizeof file, NULL, 0, 0, false, &answer) == NZD_NOT_FOUND + 256 * 17);
     EXPECT(nzd_ask_plain(file, sizeof file, NULL, 0, 0, &answer) == NZD_NOT_YET + 256 * 17);
+    EXPECT(nzd_map_local(NULL, 0, NULL, 0, 0, &local) == NZD_CUT_SHORT);
+    EXPECT(nzd_map_local(file, sizeof file, NULL, 0, 0, &local) == NZD_NOT_FOUND + 256 * 17);
     EXPECT(nzd_version_text(NULL, 0, &text) == NZD_CUT_SHORT);
     EXPECT(nzd_rewrite(NULL, 0, NULL, 0) == NZD_CUT_SHORT);
     EXPECT(nzd_rewrite(file, sizeof file, NULL, 0) == NZD_OUTPUT_TOO_SHORT);
@@ -71,10 +75,52 @@ static void members(void) {
     EXPECT(nzd_ask_plain(file, sizeof file, NULL, 0, NZD_FIRST_INSTANT - 1, &answer) == NZD_INSTANT_OUT_OF_RANGE);
 }
 
+/* Whether these are the instants of a local time in the zone "A". */
+static int reads(const uint8_t *s, size_t n, int64_t local, int64_t count, int64_t earliest, int64_t latest) {
+    struct nzd_local out;
+    return nzd_map_local(s, n, (const uint8_t *)"A", 1, local, &out) == NZD_ANSWERED && out.count == count &&
+           out.earliest == earliest && out.latest == latest;
+}
+
+/* The number and place of a local time's refusal, which leaves out as found. */
+static uint64_t refused(const uint8_t *s, size_t n, const char *id, int64_t local) {
+    struct nzd_local out = {-1, -2, -3};
+    uint64_t r = nzd_map_local(s, n, (const uint8_t *)id, strlen(id), local, &out);
+    EXPECT(out.count == -1 && out.earliest == -2 && out.latest == -3);
+    return r;
+}
+
+/* Local times, in zones with the ID "A": +01:00 and -01:00; +01:00 to +00:00 at minute 100,000,000 of document 01's
+   count from 1800; and +02:00 to +01:00 to +00:00, 90 and 30 minutes before that. */
+static void local_times(void) {
+    static const uint8_t ahead[] = {0, 0, 0, 0, 0, 3, 1, 1, 'A', 1, 3, 0, 1, 0x32};
+    static const uint8_t behind[] = {0, 0, 0, 0, 0, 3, 1, 1, 'A', 1, 3, 0, 1, 0x2e};
+    static const uint8_t back[] = {0, 0, 0,    0,    0,    3,    1,    1, 'A',  1,    16, 0, 2, 2,
+                                   0, 0, 0x32, 0x32, 0x80, 0xc2, 0xd7, 0x2f, 0, 0x30, 0x30, 1, 0};
+    static const uint8_t twice[] = {0,    0,    0,    0,    0, 3,    1,    1,    'A',  1,    23, 0,    2,    3, 0, 0, 0x34,
+                                    0x34, 0xa6, 0xc1, 0xd7, 0x2f, 0, 0x32, 0x32, 0xe2, 0xc1, 0xd7, 0x2f, 0, 0x30, 0x30, 1, 0};
+    const int64_t hour = 3600 * NZD_TICKS_PER_SECOND, change = INT64_C(6353376000000000);
+    /* "No local time is refused for its size": the instants must be in range, first and last tick included. */
+    EXPECT(reads(ahead, sizeof ahead, NZD_LAST_INSTANT + hour, 1, NZD_LAST_INSTANT, NZD_LAST_INSTANT));
+    EXPECT(reads(behind, sizeof behind, NZD_FIRST_INSTANT - hour, 1, NZD_FIRST_INSTANT, NZD_FIRST_INSTANT));
+    EXPECT(refused(ahead, sizeof ahead, "A", NZD_LAST_INSTANT + hour + 1) == NZD_NO_INSTANT);
+    EXPECT(refused(ahead, sizeof ahead, "A", NZD_FIRST_INSTANT) == NZD_NO_INSTANT);
+    EXPECT(refused(ahead, sizeof ahead, "A", INT64_MIN) == NZD_NO_INSTANT);
+    EXPECT(refused(behind, sizeof behind, "A", INT64_MAX) == NZD_NO_INSTANT);
+    /* Clocks went back: the change itself belongs to the new offset. */
+    EXPECT(reads(back, sizeof back, change, 2, change - hour, change));
+    EXPECT(reads(back, sizeof back, change + hour - 1, 2, change - 1, change + hour - 1));
+    EXPECT(reads(back, sizeof back, change + hour, 1, change + hour, change + hour));
+    EXPECT(reads(twice, sizeof twice, change, 3, change - 2 * hour, change));
+    /* The refusals of "this is all" come first. */
+    EXPECT(refused(ahead, sizeof ahead, "B", INT64_MIN) == NZD_NOT_FOUND + 256 * 14);
+    EXPECT(refused(ahead, sizeof ahead - 1, "A", 0) == NZD_CUT_SHORT + 256 * 9);
+}
+
 /* Every number has words of its own. */
 static void words(void) {
     unsigned a, b;
-    for (a = 0; a <= 16; a++) {
+    for (a = 0; a <= 17; a++) {
         for (b = 0; b < a; b++) EXPECT(strcmp(nzd_words(a), nzd_words(b)) != 0);
     }
     EXPECT(nzd_words(16) == nzd_words(255));
@@ -89,6 +135,7 @@ int main(void) {
     }
     no_bytes();
     members();
+    local_times();
     words();
     if (failures) return 1;
     printf("0 %" PRId64 " %" PRId64 " %.*s\n", out.wall_ms, out.savings_ms, (int)out.name_length,

@@ -39,7 +39,12 @@ use Rattle.answers.specs.declared.Found.{Found}
 use Rattle.signed.proofs.IntegerLaws.{instant-finite}
 use Rattle.questions.proofs.NameLaws.{name-inside}
 use Rattle.replies.specs.Small.{SmallRead, SmallNumber, SmallText}
-use Rattle.capi.specs.Small.{SmallAnswer, SmallVersion}
+use Rattle.wall_times.specs.WallTime.{MapsTo}
+use Rattle.wall_times.specs.declared.Mapping.{Mapping}
+use Rattle.wall_times.specs.declared.Mapping.the-variants.{Instants, Refused as Unmapped}
+use Rattle.wall_times.specs.Facts.{Bounded}
+use Rattle.wall_times.proofs.MostLaws.{map-bounded}
+use Rattle.capi.specs.Small.{SmallAnswer, SmallMapping, SmallVersion}
 use Rattle.frames.proofs.NearLaws.{Near, walk-near}
 use Rattle.capi.proofs.PlaceLaws.{version-near}
 
@@ -88,3 +93,10 @@ module _ (bs id : List ℕ) (z : ℤ) (mark : Mark) (l : length bs < 2 ^ 63) whe
       (λ e. record { to = omega arith })
       (λ e. finish-small (eqb-false (instantOf z) 0 e) (walk (question id (instantOf z)) noPool bs) refl
       (walk-near (question id (instantOf z)) noPool bs))
+
+bounded-small : (m : Mapping) → Bounded m → SmallMapping m
+bounded-small (Instants n a b) h = record { to = omega (arith, h .to) }
+bounded-small (Unmapped n p) h = record { to = h .to }
+
+pub map-small : (f id : List ℕ) (local : ℤ) (m : Mapping) → MapsTo f id local m → SmallMapping m
+map-small f id local m h = bounded-small m (map-bounded f id local m h)

@@ -18,7 +18,10 @@ use Rattle.answers.specs.declared.Answer.the-variants.{In, Refused as Denied}
 use Rattle.rewrite.specs.Preferred.{rewriteOf, outputOf}
 use Rattle.rewrite.specs.declared.Rewritten.{Rewritten}
 use Rattle.rewrite.specs.declared.Rewritten.the-variants.{Length, Refused as Unwritten}
-use Rattle.replies.specs.Reply.{refusal, ofLength, Reply, numbers, refused}
+use Rattle.wall_times.specs.WallTime.{MapsTo}
+use Rattle.wall_times.specs.declared.Mapping.{Mapping}
+use Rattle.wall_times.specs.declared.Mapping.the-variants.{Instants, Refused as Unmapped}
+use Rattle.replies.specs.Reply.{refusal, ofLength, Reply, numbers, refused, Gives}
 use Rattle.replies.specs.Functions.{previousOf, momentOf}
 
 -- the whole-file check
@@ -46,6 +49,18 @@ markOf false = All
 abbrev pub answerReply : Answer → Reply
 answerReply (In x) = numbers (x .wall ∷ x .savings ∷ pos (x .name) ∷ pos (x .length) ∷ x .start ∷ x .end ∷ [])
 answerReply (Denied n p) = refused n p
+
+-- "how many instants in range read that way, with the earliest and the latest"
+abbrev pub mappingReply : Mapping → Reply
+mappingReply (Instants n a b) = numbers (pos n ∷ a ∷ b ∷ [])
+mappingReply (Unmapped n p) = refused n p
+
+-- the result r and the output e at the return of a local time's mapping, where the output was d. MapsTo leaves one mapping (map-one in
+-- wall_times)
+pub record MapsLocal (f id : List ℕ) (local : ℤ) (d : List ℤ) (r : ℕ) (e : List ℤ) : Type 0 where
+  pub mapping : Mapping
+  pub maps : MapsTo f id local mapping
+  pub gives : Gives (mappingReply mapping) d r e
 
 -- the version text's place and length
 abbrev pub versionReply : VersionText → Reply

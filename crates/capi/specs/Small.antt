@@ -5,6 +5,8 @@ use Rattle.field_checks.specs.declared.VersionText.{VersionText}
 use Rattle.field_checks.specs.declared.VersionText.the-variants.{Part as TextPart, Refused as NoText}
 use Rattle.answers.specs.declared.Answer.{Answer}
 use Rattle.answers.specs.declared.Answer.the-variants.{In, Refused as Denied}
+use Rattle.wall_times.specs.declared.Mapping.{Mapping}
+use Rattle.wall_times.specs.declared.Mapping.the-variants.{Instants, Refused as Unmapped}
 
 abbrev pub AnswerTo : Answer → Type 0
 AnswerTo (In x) = (x .name < 2 ^ 63) × (x .length < 2 ^ 63)
@@ -19,3 +21,10 @@ VersionTo (NoText n p) = p ≤ 4194304
 
 pub record SmallVersion (t : VersionText) : Type 0 where
   pub to : VersionTo t
+
+abbrev pub MappingTo : Mapping → Type 0
+MappingTo (Instants n a b) = n < 2 ^ 63
+MappingTo (Unmapped n p) = p ≤ 4194304
+
+pub record SmallMapping (m : Mapping) : Type 0 where
+  pub to : MappingTo m

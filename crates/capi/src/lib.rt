@@ -4,6 +4,7 @@ use answers::Mark;
 use field_checks::Verdict;
 use field_checks::VersionText;
 use rewrite::Rewritten;
+use wall_times::Mapping;
 ghost use mathlib.Core.Path.{_≡_};
 ghost use Rattle.counts.specs.Count.{readCount};
 ghost use Rattle.counts.specs.SignedCount.{readSignedCount, signedCountForm};
@@ -14,8 +15,8 @@ ghost use Rattle.field_checks.specs.Check.{checkOf, versionOf};
 ghost use Rattle.questions.specs.Question.{ask as askOf, askPlain};
 ghost use Rattle.replies.specs.Reply.{Gives, Puts};
 ghost use Rattle.replies.specs.Functions.{readReply, numberReply, textReply, momentReply, previousOf};
-ghost use Rattle.capi.specs.Functions.{verdictResult, Rewrites, markOf, answerReply, versionReply, integerForm, kindForm};
-ghost use Rattle.capi.specs.Small.{SmallAnswer, SmallVersion};
+ghost use Rattle.capi.specs.Functions.{verdictResult, Rewrites, markOf, answerReply, mappingReply, MapsLocal, versionReply, integerForm, kindForm};
+ghost use Rattle.capi.specs.Small.{SmallAnswer, SmallMapping, SmallVersion};
 
 // The preferred form of a whole file.
 #[no_mangle]
@@ -86,6 +87,29 @@ pub extern "C" fn nzd_ask_plain(file: &[u8], id: &[u8], ticks: i64, out: &mut [i
 {
     let a = questions::ask_plain(file, id, ticks);
     give_answer(a, out)
+}
+
+// The numbers of a mapping.
+fn give_mapping(m: Mapping, out: &mut [i64; 3]) -> u64
+    requires { ⌜ SmallMapping m ⌝ }
+    ensures { λ r. ⌜ Gives (mappingReply m) (now (out .entry)) r (now (out .exit)) ⌝ }
+{
+    match m {
+        Mapping::Instants(n, first, last) => {
+            *out = [n as i64, first, last];
+            0
+        }
+        Mapping::Refused(n, p) => replies::refusal(n, p),
+    }
+}
+
+// The instants that read as a local time.
+#[no_mangle]
+pub extern "C" fn nzd_map_local(file: &[u8], id: &[u8], local: i64, out: &mut [i64; 3]) -> u64
+    ensures { λ r. ⌜ MapsLocal (now (file .entry)) (now (id .entry)) local (now (out .entry)) r (now (out .exit)) ⌝ }
+{
+    let m = wall_times::map_local(file, id, local);
+    give_mapping(m, out)
 }
 
 // Place and length of the version text.

@@ -15,3 +15,4 @@ pub mod Worked
 pub mod ContentNumbers
 pub mod Numbers
 pub mod Places
+pub mod WallTimes

@@ -30,7 +30,6 @@ use Rattle.pool.specs.Pool.{Pool as PoolContent, parsePool, stringsOf}
 use Rattle.pool.proofs.PoolLaws.{pool-faulty}
 use Rattle.zones.specs.Content.{Zone}
 use Rattle.zones.specs.Parse.{parseZone}
-use Rattle.zones.specs.Lookup.{inZone}
 use Rattle.ids.specs.Ids.{among}
 use Rattle.frames.specs.Frame.{largest, once, order, zeros, version, sized, field, frame, Field}
 use Rattle.frames.specs.Machine.{Out, found, refused, cut, ended, Content, bad, answer, keep, Job, State, stateAt, fieldAt, verdict, onward, act, step, walk}
@@ -48,9 +47,9 @@ use Rattle.field_checks.proofs.WellFormedLaws.{good-well-formed}
 use Rattle.field_checks.specs.declared.Conclusion.the-variants.{Refused as Unfit, Bare, WithText}
 use Rattle.field_checks.specs.declared.Verdict.{Verdict}
 use Rattle.field_checks.specs.declared.Verdict.the-variants.{Good, Refused as Ill}
-use Rattle.answers.specs.Answers.{Pool, noPool, answered, waiting}
+use Rattle.answers.specs.Answers.{Pool, noPool, waiting}
 use Rattle.answers.specs.Numbers.{givenByAnswer}
-use Rattle.locate.specs.Asked.{poolSays, zoneSays, says}
+use Rattle.locate.specs.Asked.{poolSays, zoneSays, says, asking}
 use Rattle.questions.specs.Question.{answerAt, question, finish, ask}
 use Rattle.answers.specs.declared.Mark.{Mark}
 use Rattle.answers.specs.declared.Mark.the-variants.{More, All as Whole′}
@@ -300,27 +299,32 @@ ask-file n h = question-fault h
 ask-above : (i : ℕ) → Unit {0} → ltb 1 i ≡ true → OfQuestion 12
 ask-above i u e = no-zone refl
 
-module _ (id : List ℕ) (t : ℕ) where
-  abbrev Said : Content Pool Found → Type 0
-  Said = Says (question id t) OfQuestion (λ i. Unit {0}) ask-file ask-above
+-- the walk to the asked zone, whatever is made of it
+module _ {A : Type 0} (P : ℕ → Type 0) (of-file : (n : ℕ) → OfFile n → P n) (above : (i : ℕ) → Unit {0} → ltb 1 i ≡ true → P 12)
+    (h : Pool → Zone → A) (id : List ℕ) where
+  abbrev Said : Content Pool A → Type 0
+  Said = Says (asking h id) P (λ i. Unit {0}) of-file above
 
-  said : (y : Pool) (g : Field) → Said (says (answerAt t) id y g)
+  said : (y : Pool) (g : Field) → Said (says h id y g)
   unfolding says
   said y g =
-      one (eqb (g .id) 0) (poolSays g (parsePool (g .body))) (zoneSays (answerAt t) id y (parseZone (length (stringsOf (y .body))) (g .body)))
+      one (eqb (g .id) 0) (poolSays g (parsePool (g .body))) (zoneSays h id y (parseZone (length (stringsOf (y .body))) (g .body)))
       (by-pool (parsePool (g .body)) refl) (by-zone (parseZone (length (stringsOf (y .body))) (g .body)) (zone-numbers (length (stringsOf (y .body))) (g .body)))
     where
-      one : (t : Bool) (x z : Content Pool Found) → Said x → Said z → Said (pick t x z)
-      one true x z h k = h
-      one false x z h k = k
+      one : (t : Bool) (x z : Content Pool A) → Said x → Said z → Said (pick t x z)
+      one true x z a b = a
+      one false x z a b = b
 
       by-pool : (p : PoolContent) → parsePool (g .body) ≡ p → Said (poolSays g p)
       by-pool (got ts r) e = tt
-      by-pool (faultOf n) e = question-fault (of-text n (pool-faulty (g .body) n e))
+      by-pool (faultOf n) e = of-file n (of-text n (pool-faulty (g .body) n e))
 
-      by-zone : (p : Parsed Zone) → Fine p → Said (zoneSays (answerAt t) id y p)
-      by-zone (got z r) h = one (equal (getD (stringsOf (y .body)) (z .id) []) id) (answer (answered y (inZone t z))) (keep y) tt tt
-      by-zone (faultOf n) h = question-fault (of-content n h)
+      by-zone : (p : Parsed Zone) → Fine p → Said (zoneSays h id y p)
+      by-zone (got z r) f = one (equal (getD (stringsOf (y .body)) (z .id) []) id) (answer (h y z)) (keep y) tt tt
+      by-zone (faultOf n) f = of-file n (of-content n f)
+
+  pub asking-numbers : (bs : List ℕ) → Comes (asking h id) P (λ i. Unit {0}) of-file above (walk (asking h id) noPool bs)
+  asking-numbers bs = walk-number (asking h id) P (λ i. Unit {0}) of-file above said noPool bs (any bs)
 
 pub question-numbers : (bs id : List ℕ) (z : ℤ) (mark : Mark) → InTable OfQuestion (givenByAnswer (ask bs id z mark))
 unfolding ask
@@ -338,4 +342,4 @@ question-numbers bs id z mark = go (eqb (instantOf z) 0)
 
     go : (b : Bool) → InTable OfQuestion (givenByAnswer (pick b (No 14 0) (finish mark (walk (question id (instantOf z)) noPool bs))))
     go true = no-instant refl
-    go false = done (walk (question id (instantOf z)) noPool bs) (walk-number (question id (instantOf z)) OfQuestion (λ i. Unit {0}) ask-file ask-above (said id (instantOf z)) noPool bs (any bs))
+    go false = done (walk (question id (instantOf z)) noPool bs) (asking-numbers OfQuestion ask-file ask-above (answerAt (instantOf z)) id bs)

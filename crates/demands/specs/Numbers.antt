@@ -36,6 +36,14 @@ pub data OfQuestion (n : ℕ) : Type 0 where
   no-zone : n ≡ 12 → OfQuestion n
   no-instant : n ≡ 14 → OfQuestion n
 
+-- what a mapping of a local time refuses with: "Number 17 .. exactly if there is none ..; the refusals of a 'this is all' question, 14 aside,
+-- come first"
+pub data OfMapping (n : ℕ) : Type 0 where
+  mapping-cut : n ≡ 2 → OfMapping n
+  mapping-fault : OfFile n → OfMapping n
+  mapping-no-zone : n ≡ 12 → OfMapping n
+  mapping-none : n ≡ 17 → OfMapping n
+
 -- what is given back is an answer, or a refusal whose number has P
 abbrev pub InTable : (ℕ → Type 0) → GivenBack → Type 0
 InTable P (answering vs) = Unit {0}

@@ -121,7 +121,7 @@ fn short_interval(s: &[u8], at: usize, m: u64) -> Interval
 
 // An interval, as read_any_interval has it. One of twelve bytes, with its start in ticks, takes no call; its first byte tells, so that no
 // other loses time on it.
-fn read_interval(s: &[u8], at: usize, pool: u64, prev: u64) -> IntervalRead
+pub fn read_interval(s: &[u8], at: usize, pool: u64, prev: u64) -> IntervalRead
     requires { ⌜ at ≤ length (now s) ⌝ }
     ensures { λ r. ⌜ Stands (now (s .entry)) (parseInterval pool prev (drop at (now (s .entry)))) (ofInterval r) ⌝ }
 {

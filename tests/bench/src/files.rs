@@ -8,6 +8,7 @@ use second_reader::zone::{Interval, Rest, Zone};
 use second_reader::{Refusal, Transition};
 
 const TICKS_PER_HOUR: i64 = 36_000_000_000;
+const TICKS_PER_MS: i64 = 10_000;
 
 /// The content of a well-formed file.
 pub fn content(file: &[u8]) -> Result<FileContent, Refusal> {
@@ -45,6 +46,8 @@ pub struct Grown {
     pub last: Vec<u8>,
     /// An ID that the file has not, as like those that it has as can be.
     pub absent: Vec<u8>,
+    /// A local time to ask of the last zone, where that is measured.
+    pub local: Option<i64>,
 }
 
 /// Makes a file whose length grows with a factor of 1, 2, 4 or 8, up to the largest sizes.
@@ -56,7 +59,7 @@ pub struct Growing {
 }
 
 /// Files on which a reader with a cost that isn't linear would show it.
-pub const GROWING: [Growing; 10] = [
+pub const GROWING: [Growing; 11] = [
     Growing {
         name: "1,024 to 8,192 zones, IDs of 503 bytes that differ at the end",
         make: |factor| fixed_zones(1024 * factor, |number| format!("{}{number:04}", "x".repeat(499))),
@@ -110,7 +113,12 @@ pub const GROWING: [Growing; 10] = [
     },
     Growing {
         name: "one zone of 512 to 4,096 intervals",
-        make: |factor| grown(names(1), vec![listed(0, 512 * factor)], preferred),
+        make: |factor| Grown { local: Some(0), ..grown(names(1), vec![listed(0, 512 * factor)], preferred) },
+        well_formed: true,
+    },
+    Growing {
+        name: "one zone of 512 to 4,096 intervals, each with an instant that reads as the local time",
+        make: |factor| Grown { local: Some(0), ..grown(names(1), vec![going_back(0, 512 * factor)], preferred) },
         well_formed: true,
     },
     Growing {
@@ -119,7 +127,7 @@ pub const GROWING: [Growing; 10] = [
             let others = vec![(8, Vec::new()); 261_000 * factor];
             let pool = names(1).into_iter().map(String::into_bytes).collect();
             let content = FileContent { pool, zones: vec![fixed(0)], version: None, others };
-            Grown { file: preferred(&content), last: content.pool[0].clone(), absent: b"Zone".to_vec() }
+            Grown { file: preferred(&content), last: content.pool[0].clone(), absent: b"Zone".to_vec(), local: None }
         },
         well_formed: true,
     },
@@ -165,7 +173,8 @@ fn grown(pool: Vec<String>, zones: Vec<Zone>, write: fn(&FileContent) -> Vec<u8>
     if let Some(byte) = absent.last_mut() {
         *byte = b'?';
     }
-    Grown { file: write(&FileContent { pool, zones, version: None, others: Vec::new() }), last, absent }
+    let file = write(&FileContent { pool, zones, version: None, others: Vec::new() });
+    Grown { file, last, absent, local: None }
 }
 
 fn fixed(id: usize) -> Zone {
@@ -180,6 +189,18 @@ fn listed(id: usize, count: usize) -> Zone {
     };
     let hour = |number: usize| (number % 2) as i32 * 3_600_000;
     let interval = |number| Interval { start: start(number), name: 0, wall: hour(number), savings: hour(number) };
+    let intervals = (0..count).map(interval).collect();
+    Zone { id, rest: Rest::Listed { intervals, end: Transition::EndOfTime, tail: None } }
+}
+
+/// A zone whose clocks go back, from an interval to the next, by as many milliseconds as the interval has: each has an instant
+/// that reads as the local time 0.
+fn going_back(id: usize, count: usize) -> Zone {
+    let start = |number: usize| match number as i64 {
+        0 => Transition::StartOfTime,
+        number => Transition::Finite(number * TICKS_PER_MS),
+    };
+    let interval = |number| Interval { start: start(number), name: 0, wall: -(number as i32), savings: 0 };
     let intervals = (0..count).map(interval).collect();
     Zone { id, rest: Rest::Listed { intervals, end: Transition::EndOfTime, tail: None } }
 }

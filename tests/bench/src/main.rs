@@ -13,9 +13,9 @@ use second_reader::zone::{Rest, Zone};
 use std::process::ExitCode;
 use work::Work;
 
-/// 1950-01-01T00:00Z.
+/// 1950-01-01T00:00Z, and as a local time.
 const LISTED: i64 = -631_152_000 * 10_000_000;
-/// 2100-07-01T00:00Z.
+/// 2100-07-01T00:00Z, and as a local time.
 const IN_TAIL: i64 = 4_118_083_200 * 10_000_000;
 
 /// What is wanted of our time against the peer's.
@@ -78,22 +78,24 @@ fn realistic() -> Result<(), String> {
 }
 
 /// First, middle and last zone at a listed instant; of the zones with a tail the same at an instant in it; a zone that
-/// isn't there.
+/// isn't there. Then the same of local times, but for the absent zone.
 fn questions(content: &FileContent) -> Vec<(String, Work)> {
     let zones: Vec<&Zone> = content.zones.iter().collect();
     let has_tail = |zone: &&Zone| matches!(&zone.rest, Rest::Listed { tail: Some(_), .. });
     let with_tail: Vec<&Zone> = zones.iter().copied().filter(has_tail).collect();
-    let mut questions = Vec::new();
+    let (mut questions, mut locals) = (Vec::new(), Vec::new());
     for (kind, zones, ticks) in [("listed", &zones, LISTED), ("in the tail", &with_tail, IN_TAIL)] {
         let last = zones.len() - 1;
         for (place, number) in [("first", 0), ("middle", last / 2), ("last", last)] {
             let id = content.id(zones[number]).to_vec();
-            let what = format!("question, {place} zone, {kind} (`{}`)", String::from_utf8_lossy(&id));
-            questions.push((what, Work::Ask { id, ticks }));
+            let which = format!("{place} zone, {kind} (`{}`)", String::from_utf8_lossy(&id));
+            questions.push((format!("question, {which}"), Work::Ask { id: id.clone(), ticks }));
+            locals.push((format!("local time, {which}"), Work::MapLocal { id, local: ticks }));
         }
     }
     let absent = Work::Ask { id: b"No/Such_Zone".to_vec(), ticks: LISTED };
     questions.push(("question, absent zone".to_string(), absent));
+    questions.extend(locals);
     questions
 }
 
@@ -112,9 +114,13 @@ fn growing() -> Result<(), String> {
         let sizes = [1, 2, 4, 8].map(kind.make);
         let absent = |grown: &Grown| Work::Ask { id: grown.absent.clone(), ticks: LISTED };
         let last = |grown: &Grown| Work::Ask { id: grown.last.clone(), ticks: LISTED };
+        let local = |grown: &Grown| Some(Work::MapLocal { id: grown.last.clone(), local: grown.local? });
         let mut rows = vec![("question, absent zone", sizes.each_ref().map(absent))];
         if kind.well_formed {
             rows.push(("question, last zone", sizes.each_ref().map(last)));
+            if let [Some(one), Some(two), Some(four), Some(eight)] = sizes.each_ref().map(local) {
+                rows.push(("local time, last zone", [one, two, four, eight]));
+            }
             rows.push(("check", [(); 4].map(|()| Work::Check)));
             rows.push(("rewrite", [(); 4].map(|()| Work::Rewrite)));
         }

@@ -1,4 +1,4 @@
-//! What is measured: a check, a question or a rewrite, by the library and by the peer.
+//! What is measured: a check, a question, a local time or a rewrite, by the library and by the peer.
 
 use crate::measure::Piece;
 use nzd::{Bound, Mark};
@@ -8,6 +8,7 @@ use std::hint::black_box;
 pub enum Work {
     Check,
     Ask { id: Vec<u8>, ticks: i64 },
+    MapLocal { id: Vec<u8>, local: i64 },
     Rewrite,
 }
 
@@ -44,6 +45,17 @@ impl Work {
                     .map_err(peer_pair);
                 ours == theirs
             }
+            Work::MapLocal { id, local } => {
+                let numbers = |found: nzd::LocalInstants| match (found.earliest(), found.latest()) {
+                    (Some(earliest), Some(latest)) => Ok((found.count(), earliest, latest)),
+                    _ => Err((17, 0)),
+                };
+                let ours = nzd::map_local(file, id, *local).map_err(pair).and_then(numbers);
+                let theirs = peer::map_local(file, id, *local)
+                    .map(|found| (found.count as usize, found.earliest, found.latest))
+                    .map_err(peer_pair);
+                ours == theirs
+            }
             Work::Rewrite => {
                 let (mut ours, mut theirs) = (vec![0; file.len()], vec![0; file.len()]);
                 let given = nzd::rewrite(file, &mut ours).map_err(pair);
@@ -59,6 +71,10 @@ impl Work {
             Work::Ask { id, ticks } => [
                 piece(move || nzd::ask(black_box(file), black_box(id), *ticks, Mark::ThisIsAll)),
                 piece(move || peer::ask(black_box(file), black_box(id), *ticks, false)),
+            ],
+            Work::MapLocal { id, local } => [
+                piece(move || nzd::map_local(black_box(file), black_box(id), *local)),
+                piece(move || peer::map_local(black_box(file), black_box(id), *local)),
             ],
             Work::Rewrite => {
                 let (mut ours, mut theirs) = (vec![0; file.len()], vec![0; file.len()]);

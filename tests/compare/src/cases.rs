@@ -1,12 +1,13 @@
 //! Cases worked out by hand: examples of the papers and of the readings, and the largest sizes.
 
+use crate::local::{map, times};
 use crate::questions::{ask, prefixes};
 use crate::tally::{Difference, Tally};
 use crate::whole::whole;
-use second_reader::codes::encode_count;
+use second_reader::codes::{encode_count, encode_offset};
 use second_reader::file::read_file;
 use second_reader::generate::{instants, Prng};
-use second_reader::transition::{FIRST, LAST};
+use second_reader::transition::{FIRST, LAST, TICKS_PER_MS};
 
 /// The place just past a field is at most this.
 const LAST_END: usize = 4_194_304;
@@ -53,7 +54,7 @@ const FILES: [&str; 27] = [
 ];
 
 /// The data in hex of a zone behind a pool that holds "A" only.
-const ZONES: [&str; 43] = [
+const ZONES: [&str; 49] = [
     // Reading 3: hours where there is no instant before.
     "0002020000303080010030300100",
     "000201 8001 00 30 30 01",
@@ -107,7 +108,31 @@ const ZONES: [&str; 43] = [
     "000203 00003030 e09bd12a003030 808040003030 0100",
     "000203 00003030 808040003030 808040003030 0100",
     "000130",
+    // Local times, readings 3.2, 3.3 and 3.8: an hour ahead and behind, two readings and three.
+    "000132",
+    "00012e",
+    "00020200003232 80c2d72f 003030 0100",
+    "00020300003434 a6c1d72f 003232 e2c1d72f 003030 0100",
+    // An hour forward, and an hour back, to a tail of one offset.
+    "00020200003030 80c2d72f 003232 0100",
+    "00020100003232 e09bd12a 01 30 00 1c0a0132 00 1c030132 30",
 ];
+
+/// Local times at which those zones were worked out, and others that no zone reads.
+const LOCAL_TIMES: [i64; 9] = [
+    6_353_376_000_000_000,
+    6_353_411_999_999_999,
+    6_353_412_000_000_000,
+    FIRST,
+    LAST + 36_000_000_000,
+    FIRST - 36_000_000_000,
+    i64::MIN,
+    i64::MAX,
+    0,
+];
+
+/// A tail byte and a tail: no offset in winter, an hour less in summer.
+const TAIL: &str = "01 30 00 1c0a0132 00 1c030132 2e";
 
 pub fn hex(text: &str) -> Vec<u8> {
     let digits: Vec<u32> = text.chars().filter_map(|digit| digit.to_digit(16)).collect();
@@ -137,10 +162,22 @@ pub fn all(tally: &mut Tally, prng: &mut Prng) -> Result<(), Difference> {
             asked.extend([FIRST, LAST, 0].map(|ticks| (id.as_bytes().to_vec(), ticks)));
         }
         prefixes(tally, &file, &asked, 1, prng)?;
+        for local in LOCAL_TIMES {
+            for id in ["A", "B", ""] {
+                map(tally, &file, id.as_bytes(), local)?;
+            }
+        }
+        for length in 0..file.len() {
+            map(tally, &file[..length], b"A", 0)?;
+        }
         if let Ok(contents) = read_file(&file) {
             for (_, zone) in &contents.zones {
+                let id = &file[contents.pool[zone.id].clone()];
                 for ticks in instants(zone, prng) {
-                    ask(tally, &file, &file[contents.pool[zone.id].clone()], ticks)?;
+                    ask(tally, &file, id, ticks)?;
+                }
+                for (id, local) in times(zone, id, usize::MAX, prng) {
+                    map(tally, &file, &id, local)?;
                 }
             }
         }
@@ -197,6 +234,29 @@ fn largest(tally: &mut Tally) -> Result<(), Difference> {
         whole(tally, &file)?;
         for id in ["", "A"] {
             ask(tally, &file, id.as_bytes(), 0)?;
+            map(tally, &file, id.as_bytes(), 0)?;
+        }
+    }
+    many_instants(tally)
+}
+
+/// Zones of 1 to 4,096 intervals, of which each has an instant that reads as the local time: from one to the next clocks go back
+/// by as many milliseconds as pass.
+fn many_instants(tally: &mut Tally) -> Result<(), Difference> {
+    for intervals in [1, 2, 3, 100, 4095, 4096] {
+        let mut zone = [vec![0, 2], count(intervals), hex("00 00 30 30")].concat();
+        for number in 1..intervals as i64 {
+            zone.extend([&[2][..], &(number * TICKS_PER_MS).to_be_bytes(), &[0]].concat());
+            zone.extend(encode_offset(-number).unwrap_or_default());
+            zone.push(0x30);
+        }
+        let ends =
+            [hex("01 00"), [hex("02"), (intervals as i64 * TICKS_PER_MS).to_be_bytes().to_vec(), hex(TAIL)].concat()];
+        for end in ends {
+            let file = zone_file(&[&zone[..], &end].concat());
+            for local in [-1, 0, 1, TICKS_PER_MS] {
+                map(tally, &file, b"A", local)?;
+            }
         }
     }
     Ok(())

@@ -1,5 +1,6 @@
 //! Generated files, well formed and damaged.
 
+use crate::local::{map, times};
 use crate::questions::{ask, other_ids, prefixes, Question};
 use crate::tally::{Difference, Tally};
 use crate::whole::{check, whole};
@@ -12,6 +13,10 @@ use second_reader::transition::{FIRST, LAST};
 const EVERY_PREFIX: usize = 1500;
 /// How many instants of a zone are asked.
 const MOST_INSTANTS: usize = 60;
+/// How many local times of a zone are asked, and of one with many intervals, which takes the second reader long.
+const MOST_LOCAL_TIMES: usize = 60;
+const FEW_LOCAL_TIMES: usize = 12;
+const MANY_OFFSETS: usize = 200;
 
 /// One well-formed file, two damaged ones of it, and a short one of any bytes.
 pub fn round(tally: &mut Tally, seed: u64, number: u64) -> Result<(), Difference> {
@@ -29,11 +34,17 @@ pub fn round(tally: &mut Tally, seed: u64, number: u64) -> Result<(), Difference
         for (id, ticks) in &asked {
             ask(tally, &file, id, *ticks)?;
         }
+        let locals = local_times(&content, &asked, &mut prng);
+        for (id, local) in &locals {
+            map(tally, &file, id, *local)?;
+        }
         if file.len() <= EVERY_PREFIX {
             let few: Vec<Question> = (0..3).map(|_| prng.pick(&asked).clone()).collect();
             prefixes(tally, &file, &few, 1, &mut prng)?;
+            let (id, local) = prng.pick(&locals).clone();
             for length in 0..file.len() {
                 check(tally, &file[..length])?;
+                map(tally, &file[..length], &id, local)?;
             }
         }
     }
@@ -64,6 +75,17 @@ fn questions(content: &FileContent, prng: &mut Prng) -> Vec<Question> {
         asked.push((id.clone(), ticks));
     }
     asked
+}
+
+/// Local times of every zone, and some of other IDs.
+fn local_times(content: &FileContent, asked: &[Question], prng: &mut Prng) -> Vec<Question> {
+    let mut locals = Vec::new();
+    for zone in &content.zones {
+        let most = if zone.wall_offsets().len() < MANY_OFFSETS { MOST_LOCAL_TIMES } else { FEW_LOCAL_TIMES };
+        locals.extend(times(zone, content.id(zone), most, prng));
+    }
+    locals.extend((0..4).map(|_| prng.pick(asked).clone()));
+    locals
 }
 
 /// A file with two faults, of which the first in order counts: one, or a doubled zone, and a byte changed.

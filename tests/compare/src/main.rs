@@ -5,12 +5,13 @@
 //!
 //! A round takes one generated well-formed file and a damaged one; the same seed gives the same rounds. Each file that
 //! is named is compared besides. It prints how many comparisons were made and how often each number came up, and fails
-//! if one of 0 to 15 never did.
+//! if one of the library's never did.
 
 mod cases;
 mod codes;
 mod generated;
 mod lent;
+mod local;
 mod published;
 mod questions;
 mod sweeps;

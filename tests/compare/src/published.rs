@@ -1,5 +1,6 @@
 //! Files that were made elsewhere: the realistic ones, and any that is named.
 
+use crate::local::{map, times};
 use crate::questions::{ask, other_ids, prefixes, Question};
 use crate::tally::{Difference, Tally};
 use crate::whole::{check, whole};
@@ -31,6 +32,11 @@ pub fn file(tally: &mut Tally, file: &[u8], prng: &mut Prng) -> Result<(), Diffe
             for ticks in &all {
                 ask(tally, &short, id, *ticks)?;
             }
+            let locals = times(zone, id, usize::MAX, prng);
+            for (_, local) in &locals {
+                map(tally, &short, id, *local)?;
+            }
+            map(tally, file, id, prng.pick(&locals).1)?;
             asked.extend((0..2).map(|_| (id.to_vec(), *prng.pick(&all))));
             ids.push(id);
         }
@@ -42,8 +48,10 @@ pub fn file(tally: &mut Tally, file: &[u8], prng: &mut Prng) -> Result<(), Diffe
     let step = 1 + file.len() / PREFIXES;
     let few: Vec<Question> = (0..2).map(|_| prng.pick(&asked).clone()).collect();
     prefixes(tally, file, &few, step, prng)?;
+    let (id, local) = prng.pick(&asked);
     for length in (0..file.len()).step_by(step) {
         check(tally, &file[..length])?;
+        map(tally, &file[..length], id, *local)?;
     }
     Ok(())
 }

@@ -1,6 +1,7 @@
 //! Every value of a byte, an ID or a part of a rule, in its place in a small file.
 
 use crate::cases::{count, field, hex, zone_file};
+use crate::local::map;
 use crate::questions::ask;
 use crate::tally::{Difference, Tally};
 use crate::whole::{check, whole};
@@ -32,6 +33,7 @@ fn field_ids(tally: &mut Tally) -> Result<(), Difference> {
             let file = [&start[..], &field(one, &data(one)), &field(other, &data(other))].concat();
             check(tally, &file)?;
             ask(tally, &file, b"B", 0)?;
+            map(tally, &file, b"A", 0)?;
         }
         // As the first field.
         whole(tally, &[&[0; 4], &field(one, &[0])[..]].concat())?;
@@ -83,7 +85,9 @@ fn rule(tally: &mut Tally, rule: &[u8]) -> Result<(), Difference> {
     check(tally, &file)?;
     // Half years from 1999 on.
     for number in 0..12 {
-        ask(tally, &file, b"A", 9_200_000_000_000_000 + number * 157_000_000_000_000)?;
+        let ticks = 9_200_000_000_000_000 + number * 157_000_000_000_000;
+        ask(tally, &file, b"A", ticks)?;
+        map(tally, &file, b"A", ticks)?;
     }
     Ok(())
 }

@@ -5,8 +5,10 @@ use std::fmt::{self, Debug, Write};
 /// Number and place of a refusal, or what was given.
 pub type Outcome<T> = Result<T, (u8, u64)>;
 
-/// The numbers that the library gives.
-const NUMBERS: usize = 16;
+/// The numbers go up to below this.
+const NUMBERS: usize = 18;
+/// The number of a question line that isn't understood: the library gives all but this.
+const PROGRAM_ONLY: usize = 16;
 /// How many bytes of a file are shown with a difference.
 const SHOWN: usize = 4000;
 
@@ -66,13 +68,13 @@ impl Tally {
 
     /// The numbers that never came up.
     pub fn missing(&self) -> Vec<usize> {
-        (0..NUMBERS).filter(|&number| self.by_number[number] == 0).collect()
+        (0..NUMBERS).filter(|&number| number != PROGRAM_ONLY && self.by_number[number] == 0).collect()
     }
 }
 
 impl fmt::Display for Tally {
     fn fmt(&self, f: &mut fmt::Formatter<'_>) -> fmt::Result {
-        for (number, count) in self.by_number.iter().enumerate() {
+        for (number, count) in self.by_number.iter().enumerate().filter(|(number, _)| *number != PROGRAM_ONLY) {
             writeln!(f, "number {number:2}: {count}")?;
         }
         write!(f, "{} comparisons", self.comparisons)
@@ -86,12 +88,12 @@ mod tests {
     #[test]
     fn a_number_that_never_came_up_is_missing() {
         let mut tally = Tally::default();
-        assert_eq!(tally.missing(), (0..16).collect::<Vec<_>>());
+        assert_eq!(tally.missing(), (0..16).chain([17]).collect::<Vec<_>>());
         assert!(tally.same(&"", &[], Ok(1), Ok(1)).is_ok());
-        for number in (1..16).filter(|&number| number != 13) {
+        for number in (1..16).chain([17]).filter(|&number| number != 13) {
             assert!(tally.same::<()>(&"", &[], Err((number, 0)), Err((number, 0))).is_ok());
         }
-        assert_eq!((tally.missing(), tally.comparisons()), (vec![13], 15));
+        assert_eq!((tally.missing(), tally.comparisons()), (vec![13], 16));
     }
 
     #[test]

@@ -9,18 +9,20 @@
 mod codes;
 mod fields;
 mod ids;
+mod local;
 mod pool;
 mod rewrite;
 mod tail;
 mod whole;
 mod zone;
 
+pub use local::LocalInstants;
 pub use rewrite::rewrite;
 pub use whole::{check, version_text};
 
 use fields::Fields;
 use pool::Pool;
-use zone::{read_rest, Find};
+use zone::{read_rest, Find, Visit};
 
 /// Number and place of a refusal.
 #[derive(Clone, Copy, Debug, PartialEq, Eq)]
@@ -48,6 +50,7 @@ mod number {
     pub const SECOND_ZONE: u8 = 13;
     pub const INSTANT_RANGE: u8 = 14;
     pub const OUTPUT_SHORT: u8 = 15;
+    pub const NO_INSTANT: u8 = 17;
 }
 
 /// The first instant of year 1.
@@ -79,6 +82,20 @@ pub fn ask<'a>(file: &'a [u8], id: &[u8], ticks: i64, more: bool) -> Result<Answ
     if !(FIRST..=LAST).contains(&ticks) {
         return Err(Refusal { number: number::INSTANT_RANGE, place: 0 });
     }
+    let mut find = Find::new(ticks);
+    let pool = find_zone(file, id, more, &mut find)?;
+    Ok(find.answer(&pool))
+}
+
+/// The instants of the zone `id` that read as the local time `local`. The bytes are all there is.
+pub fn map_local(file: &[u8], id: &[u8], local: i64) -> Result<LocalInstants, Refusal> {
+    let mut found = local::Count::new(local);
+    find_zone(file, id, false, &mut found)?;
+    found.instants().ok_or(Refusal { number: number::NO_INSTANT, place: 0 })
+}
+
+/// Checks the pool and the zones up to the one of `id`, and shows that one to `visit`.
+fn find_zone<'a>(file: &'a [u8], id: &[u8], more: bool, visit: &mut impl Visit) -> Result<Pool<'a>, Refusal> {
     let cut = if more { number::NOT_YET } else { number::CUT_SHORT };
     let unseen = if more { number::NOT_YET } else { number::NOT_FOUND };
     let mut fields = Fields::new(file, cut)?;
@@ -91,22 +108,20 @@ pub fn ask<'a>(file: &'a [u8], id: &[u8], ticks: i64, more: bool) -> Result<Answ
             return Err(Refusal { number: number::NOT_FOUND, place: fields.place() });
         }
         let field = fields.field(field_id)?;
-        let mut find = Find::new(ticks);
-        let found = zone_of(field.data, &pool, id, &mut find).map_err(|number| field.refuse(number))?;
-        if found {
-            return Ok(find.answer(&pool));
+        if zone_of(field.data, &pool, id, visit).map_err(|number| field.refuse(number))? {
+            return Ok(pool);
         }
     }
     Err(Refusal { number: unseen, place: file.len() })
 }
 
-/// Checks a zone, and looks its interval up if it is the asked one.
-fn zone_of(data: &[u8], pool: &Pool, asked: &[u8], find: &mut Find) -> Result<bool, u8> {
+/// Checks a zone, and shows it to `visit` if it is the asked one.
+fn zone_of(data: &[u8], pool: &Pool, asked: &[u8], visit: &mut impl Visit) -> Result<bool, u8> {
     let mut cursor = codes::Cursor::new(data);
     let id = cursor.pool_number(pool.count())?;
     let found = pool.string(id) == asked;
     match found {
-        true => read_rest(cursor, id, pool.count(), find)?,
+        true => read_rest(cursor, id, pool.count(), visit)?,
         false => read_rest(cursor, id, pool.count(), &mut ())?,
     }
     Ok(found)

@@ -119,6 +119,11 @@ impl Tail {
         Ok(Tail { standard, standard_name, standard_rule, daylight_name, daylight_rule, savings })
     }
 
+    /// The wall offsets of its two rules.
+    pub fn wall_offsets(&self) -> [i32; 2] {
+        [self.standard, self.standard + self.savings]
+    }
+
     /// The interval that holds `ticks`, which is not before the tail's start, and its end.
     pub fn at(&self, tail_start: i64, ticks: i64) -> (Interval, i64) {
         let year = year_of(ticks);

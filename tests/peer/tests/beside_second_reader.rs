@@ -1,6 +1,8 @@
 //! The peer beside the second reader: equal numbers, places, answers and rewritten files.
 
-use second_reader::generate::{damaged, instants, plan, random_content, Damage, FileContent, Forms, Prng, Size};
+use second_reader::generate::{
+    damaged, instants, local_times, plan, random_content, Damage, FileContent, Forms, Prng, Size,
+};
 use second_reader::transition::{Transition, FIRST, LAST};
 use second_reader::{Mark, Refusal};
 use std::collections::BTreeSet;
@@ -28,6 +30,7 @@ fn ticks_of(bound: Transition) -> i64 {
 struct Seen {
     whole: BTreeSet<u8>,
     asked: BTreeSet<u8>,
+    local: BTreeSet<u8>,
 }
 
 fn same_question(file: &[u8], id: &[u8], ticks: i64, seen: &mut Seen) {
@@ -49,6 +52,29 @@ fn same_question(file: &[u8], id: &[u8], ticks: i64, seen: &mut Seen) {
         seen.asked.insert(expected.as_ref().map_or_else(|refusal| refusal.0, |_| 0));
         assert_eq!(given, expected, "{:02x?}, {id:?} at {ticks}, {mark:?}", &file[..file.len().min(2000)]);
     }
+}
+
+fn same_local(file: &[u8], id: &[u8], local: i64, seen: &mut Seen) {
+    let expected = second_reader::map_local(file, id, local)
+        .map(|found| (found.count as u32, found.earliest, found.latest))
+        .map_err(pair);
+    let given =
+        peer::map_local(file, id, local).map(|found| (found.count, found.earliest, found.latest)).map_err(peer_pair);
+    seen.local.insert(expected.as_ref().map_or_else(|refusal| refusal.0, |_| 0));
+    assert_eq!(given, expected, "{:02x?}, {id:?} at local time {local}", &file[..file.len().min(2000)]);
+}
+
+/// Local times of every zone, and of none.
+fn locals(content: &FileContent, prng: &mut Prng, most: usize) -> Vec<(Vec<u8>, i64)> {
+    let mut asked = vec![(b"No/Such_Zone".to_vec(), 0), (Vec::new(), i64::MIN)];
+    for zone in &content.zones {
+        let mut all = local_times(zone, prng);
+        while all.len() > most {
+            all.swap_remove(prng.below(all.len()));
+        }
+        asked.extend(all.into_iter().map(|local| (content.id(zone).to_vec(), local)));
+    }
+    asked
 }
 
 fn same_whole(file: &[u8], seen: &mut Seen) {
@@ -102,8 +128,12 @@ fn generated_files() {
             for (id, ticks) in questions(&content, &mut prng, 40) {
                 same_question(file, &id, ticks, &mut seen);
             }
+            for (id, local) in locals(&content, &mut prng, 20) {
+                same_local(file, &id, local, &mut seen);
+            }
         }
     }
+    assert_eq!(seen.local, BTreeSet::from([0, 2, 3, 4, 5, 6, 7, 8, 9, 10, 11, 12, 17]));
     assert_eq!(seen.whole, BTreeSet::from([0, 2, 3, 4, 5, 6, 7, 8, 9, 10, 11, 12, 13, 15]));
     assert_eq!(seen.asked, BTreeSet::from([0, 1, 2, 3, 4, 5, 6, 7, 8, 9, 10, 11, 12, 14]));
 }
@@ -118,11 +148,15 @@ fn every_prefix() {
         let kind = *prng.pick(&Damage::ALL);
         for file in [whole.bytes(), damaged(&whole, kind, &mut prng)] {
             let asked = questions(&content, &mut prng, 2);
+            let local = locals(&content, &mut prng, 2);
             for length in 0..=file.len().min(2000) {
                 let part = &file[..length];
                 same_whole(part, &mut seen);
                 for (id, ticks) in &asked {
                     same_question(part, id, *ticks, &mut seen);
+                }
+                for (id, ticks) in &local {
+                    same_local(part, id, *ticks, &mut seen);
                 }
             }
         }
@@ -141,6 +175,9 @@ fn realistic_files() {
             let id = &file[contents.pool[zone.id].clone()];
             for ticks in instants(zone, &mut prng).into_iter().step_by(7) {
                 same_question(&file, id, ticks, &mut seen);
+            }
+            for local in local_times(zone, &mut prng).into_iter().step_by(7) {
+                same_local(&file, id, local, &mut seen);
             }
         }
         same_question(&file, b"No/Such_Zone", 0, &mut seen);

@@ -3,7 +3,7 @@
 use crate::cases;
 use crate::Done;
 use second_reader::generate;
-use second_reader::{ask, file, lines, rewrite, version_text, Mark, Refusal};
+use second_reader::{ask, file, lines, map_local, rewrite, version_text, Mark, Refusal};
 use std::ffi::{OsStr, OsString};
 use std::fs;
 use std::io::{ErrorKind, Read};
@@ -39,6 +39,11 @@ pub(crate) fn run(arguments: &[OsString]) -> Result<Done, Misuse> {
             Some("all") => ask_file(file, zone, ticks, Mark::ThisIsAll),
             _ => Err(Misuse::Words("the mark is neither part nor all".to_string())),
         },
+        (Some("local"), [file, zone, local]) => {
+            let bytes = read(file)?;
+            let found = map_local(&bytes, zone.as_encoded_bytes(), number(local)?);
+            Ok(done(found.map(|found| format!("{} {} {}", found.count, found.earliest, found.latest).into_bytes())))
+        }
         (Some("version"), [file]) => {
             let bytes = read(file)?;
             Ok(done(version_text(&bytes).map(|part| bytes[part].to_vec())))

@@ -196,6 +196,19 @@ pub fn ask(bytes: &[u8], zone: &[u8], ticks: i64, mark: Mark) -> Result<Answer, 
     if !in_range(ticks) {
         return Err(Number::InstantRange.at(0));
     }
+    let (pool, zone) = find_zone(bytes, zone, mark)?;
+    let holding = zone.at(ticks);
+    Ok(Answer {
+        wall: holding.interval.wall,
+        savings: holding.interval.savings,
+        name: pool[holding.interval.name].clone(),
+        start: holding.interval.start,
+        end: holding.end,
+    })
+}
+
+/// The first zone that has the asked ID and the pool that it is read with, or a question's refusal, 14 aside.
+pub(crate) fn find_zone(bytes: &[u8], zone: &[u8], mark: Mark) -> Result<(Pool, Zone), Refusal> {
     let mut fields = Fields::new(bytes, mark)?;
     let mut pool = Pool::new();
     while let Some(id) = fields.id()? {
@@ -211,14 +224,7 @@ pub fn ask(bytes: &[u8], zone: &[u8], ticks: i64, mark: Mark) -> Result<Answer, 
         }
         let read = read_zone(field.data, pool.len()).map_err(refuse)?;
         if &bytes[pool[read.id].clone()] == zone {
-            let holding = read.at(ticks);
-            return Ok(Answer {
-                wall: holding.interval.wall,
-                savings: holding.interval.savings,
-                name: pool[holding.interval.name].clone(),
-                start: holding.interval.start,
-                end: holding.end,
-            });
+            return Ok((pool, read));
         }
     }
     Err(mark.unseen().at(bytes.len()))

@@ -13,6 +13,7 @@ mod data;
 pub mod file;
 pub mod generate;
 pub mod lines;
+pub mod local;
 pub mod number;
 pub mod pool;
 pub mod recurrence;
@@ -22,6 +23,7 @@ pub mod zone;
 
 pub use file::{ask, ask_plain, check, version_text, Answer, Mark};
 pub use lines::lines;
+pub use local::{map_local, LocalInstants};
 pub use number::{Number, Refusal};
 pub use rewrite::rewrite;
 pub use transition::Transition;

@@ -2,7 +2,7 @@
 
 use std::fmt;
 
-/// Why something was refused. The discriminant is the number of the table in 01.
+/// Why something was refused. The discriminant is the number of the table in 01, or of 02.
 #[derive(Clone, Copy, Debug, PartialEq, Eq, PartialOrd, Ord)]
 #[repr(u8)]
 pub enum Number {
@@ -39,6 +39,8 @@ pub enum Number {
     OutputShort = 15,
     /// "program only: question line not understood"
     BadLine = 16,
+    /// 02, Ask 3: "Number 17, place 0, exactly if there is none"
+    NoInstant = 17,
 }
 
 impl Number {
@@ -66,6 +68,7 @@ impl Number {
             Number::InstantRange => "the instant is outside years 1 to 9999",
             Number::OutputShort => "the output is too short",
             Number::BadLine => "the question line is not understood",
+            Number::NoInstant => "no instant reads that local time",
         }
     }
 
@@ -81,7 +84,7 @@ pub struct Refusal {
     /// The number of the table.
     pub number: Number,
     /// "Place: 0 for 3, 14, 15 and 16 and for a cut version; else the place of the faulty field's ID byte, or the
-    /// bytes' end where no field has begun."
+    /// bytes' end where no field has begun." 0 for 17 too.
     pub place: u64,
 }
 

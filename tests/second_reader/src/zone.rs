@@ -5,6 +5,7 @@ use crate::data::Data;
 use crate::number::Number;
 use crate::recurrence::{read_tail, Rule, Tail};
 use crate::transition::Transition;
+use std::collections::BTreeSet;
 
 /// "4,096 intervals a zone"
 pub const MOST_INTERVALS: usize = 4096;
@@ -148,6 +149,17 @@ impl Zone {
         let started = intervals.iter().filter(|interval| interval.start <= asked).count();
         let next = intervals.get(started).map(|later| later.start);
         Holding { interval: intervals[started - 1], end: next.unwrap_or(end) }
+    }
+
+    /// Every wall offset that the zone has at some time, or never: a tail's two are among them.
+    pub fn wall_offsets(&self) -> BTreeSet<i32> {
+        match &self.rest {
+            Rest::Fixed { offset, .. } => BTreeSet::from([*offset]),
+            Rest::Listed { intervals, tail, .. } => {
+                let in_tail = tail.iter().flat_map(|tail| [tail.standard, tail.daylight_wall()]);
+                intervals.iter().map(|interval| interval.wall).chain(in_tail).collect()
+            }
+        }
     }
 
     /// The zone's data with every transition "in the writer's form". All other codes have a single form.

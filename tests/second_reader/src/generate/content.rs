@@ -3,7 +3,7 @@
 use crate::generate::prng::Prng;
 use crate::pool::MOST_STRINGS;
 use crate::recurrence::{Mode, Rule, Tail};
-use crate::transition::{Transition, FIRST, LAST, TICKS_PER_HOUR, TICKS_PER_MINUTE};
+use crate::transition::{Transition, FIRST, LAST, TICKS_PER_HOUR, TICKS_PER_MINUTE, TICKS_PER_MS};
 use crate::zone::{Interval, Rest, Zone, MOST_INTERVALS};
 use crate::{calendar, codes};
 use std::collections::BTreeSet;
@@ -117,22 +117,28 @@ fn random_rest(prng: &mut Prng, pool_count: usize, size: Size) -> Rest {
         Size::Any if prng.one_in(20) => 60,
         _ => 1 + prng.below(5),
     };
+    // Intervals that are shorter than their offsets differ, so that a local time can be read at many instants.
+    let close = prng.one_in(5);
     let mut intervals: Vec<Interval> = Vec::new();
     let mut previous = Transition::StartOfTime;
     for number in 0..count {
         if number > 0 {
             // A long list takes small steps, so that it fits into the range.
-            match instant_after(prng, previous, count > 20) {
+            let next = match previous {
+                Transition::Finite(before) if close => close_after(prng, before),
+                _ => instant_after(prng, previous, count > 20),
+            };
+            match next {
                 Some(ticks) => previous = Transition::Finite(ticks),
                 None => break,
             }
         }
-        intervals.push(Interval {
-            start: previous,
-            name: prng.below(pool_count),
-            wall: random_offset(prng),
-            savings: random_offset(prng),
-        });
+        let wall = match intervals.last() {
+            Some(before) if close && !prng.one_in(4) => set_back(before, previous),
+            _ => None,
+        };
+        let wall = wall.unwrap_or_else(|| random_offset(prng));
+        intervals.push(Interval { start: previous, name: prng.below(pool_count), wall, savings: random_offset(prng) });
     }
     if !prng.one_in(3) {
         if let Some(ticks) = instant_after(prng, previous, false) {
@@ -167,6 +173,21 @@ fn instant_after(prng: &mut Prng, previous: Transition, small_steps: bool) -> Op
             _ => prng.range(low.min(LAST), LAST),
         })
         .find(|ticks| (low..=LAST).contains(ticks))
+}
+
+/// A finite instant some hours, minutes, milliseconds or ticks after another.
+fn close_after(prng: &mut Prng, before: i64) -> Option<i64> {
+    let unit = *prng.pick(&[TICKS_PER_HOUR, TICKS_PER_MINUTE, TICKS_PER_MS, 1]);
+    Some(before + prng.range(1, 12) * unit).filter(|ticks| *ticks <= LAST)
+}
+
+/// The wall offset by which clocks are set back, at `start`, to what they showed when the interval before began.
+fn set_back(before: &Interval, start: Transition) -> Option<i32> {
+    let (Transition::Finite(from), Transition::Finite(to)) = (before.start, start) else {
+        return None;
+    };
+    let wall = i64::from(before.wall) - (to - from) / TICKS_PER_MS;
+    (wall > -DAY_MS).then_some(wall as i32)
 }
 
 /// Offsets in every form, and the outermost of each.

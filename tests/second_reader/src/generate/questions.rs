@@ -3,7 +3,7 @@
 use crate::calendar;
 use crate::generate::content::FileContent;
 use crate::generate::prng::Prng;
-use crate::transition::{in_range, Transition, FIRST, LAST};
+use crate::transition::{in_range, Transition, FIRST, LAST, TICKS_PER_MS};
 use crate::zone::{Rest, Zone};
 
 /// Instants in range: at, one tick before and one tick after bounds of a zone's intervals, and a few others.
@@ -22,6 +22,18 @@ pub fn instants(zone: &Zone, prng: &mut Prng) -> Vec<i64> {
         }
     }
     bounds.iter().flat_map(|&bound| [bound - 1, bound, bound + 1]).filter(|&ticks| in_range(ticks)).collect()
+}
+
+/// Local times worth asking about: what clocks of the zone show at, before and after its bounds, and what they would show
+/// with another of its offsets; and a few that no clock shows.
+pub fn local_times(zone: &Zone, prng: &mut Prng) -> Vec<i64> {
+    let walls: Vec<i64> = zone.wall_offsets().into_iter().map(|wall| i64::from(wall) * TICKS_PER_MS).collect();
+    let mut locals = vec![i64::MIN, i64::MAX, FIRST - 1, LAST + 1, prng.range(i64::MIN, i64::MAX)];
+    for ticks in instants(zone, prng) {
+        let shown = ticks + i64::from(zone.at(ticks).interval.wall) * TICKS_PER_MS;
+        locals.extend([shown - 1, shown, ticks + prng.pick(&walls)]);
+    }
+    locals
 }
 
 /// Lines that aren't understood, or that are refused before any byte of the file is looked at.

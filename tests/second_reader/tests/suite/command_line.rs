@@ -52,6 +52,9 @@ fn commands_on_files() {
     prints(&["ask", &path("cut"), "Europe/Zurich", "0"], "", "1 20753\n", 1);
     prints(&["ask", &path("cut"), "Europe/Zurich", "0", "part"], "", "1 20753\n", 1);
     prints(&["ask", &path("cut"), "Europe/Zurich", "0", "all"], "", "2 20753\n", 1);
+    // Oslo, 2024-10-27 02:30 and 2024-03-31 02:30.
+    prints(&["local", EUROPE, "Europe/Oslo", "17299962000000000"], "", "0 2 17299890000000000 17299926000000000\n", 0);
+    prints(&["local", EUROPE, "Europe/Oslo", "17118522000000000"], "", "17 0\n", 1);
     prints(&["rewrite", EUROPE, &path("out")], "", "0 21993\n", 0);
     assert!(fs::read(dir.join("out")).ok() == fs::read(EUROPE).ok());
     prints(&["lines", EUROPE], "Europe/Oslo 0\nEurope/Oslo\n", "0 3600000 0 CET\n16 0\n", 0);
@@ -137,6 +140,8 @@ fn misuse_is_said_in_words() {
         &["ask", EUROPE, "Europe/Oslo"],
         &["ask", EUROPE, "Europe/Oslo", "x"],
         &["ask", EUROPE, "Europe/Oslo", "0", "some"],
+        &["local", EUROPE, "Europe/Oslo"],
+        &["local", EUROPE, "Europe/Oslo", "x"],
         &["generate", "1", "-1", "x"],
         &["code", "read", "count"],
         &["code", "read", "count", "0"],

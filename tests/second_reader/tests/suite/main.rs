@@ -15,3 +15,4 @@ mod readings;
 mod realistic;
 mod recurrences;
 mod rewriting;
+mod wall_time;

@@ -1,0 +1,4 @@
+pub mod Reads
+pub mod Tally
+pub mod Instants
+pub mod View

@@ -1,0 +1,4 @@
+pub mod WallTime
+pub mod Numbers
+pub mod Facts
+pub mod View

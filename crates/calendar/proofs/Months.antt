@@ -1,7 +1,7 @@
 -- Laws of the months: where each starts and ends, and their bounds. Assumes nothing.
 use mathlib.Core.Path.{_≡_, refl}
 use mathlib.Core.Bool.{Bool, true, false}
-use Prim.Native.Nat.{ℕ, _+_, _-_, _*_, _≤_, _<_}
+use Prim.Native.Nat.{ℕ, _+_, _-_, _*_, _/_, _≤_, _<_}
 use native.Mathlib.Omega.{arith}
 use lib.Dec.{eqb, ltb, leb}
 use lib.ListN.{getD}
@@ -24,6 +24,51 @@ length-ge m l h =
 
 pub before-le : (m : ℕ) → m < 13 → getD befores m 0 + getD lengths m 0 ≤ 365
 before-le m h = leb-true _ _ (below (λ m. leb (getD befores m 0 + getD lengths m 0) 365) 13 refl m h)
+
+-- the table of the days before a month, by closed arithmetic
+abbrev pub wholeMonths : ℕ → ℕ
+wholeMonths m = m - (m + 11) / 12
+
+abbrev pub fromMarch : ℕ → ℕ
+fromMarch m = (m + 9) / 12
+
+pub before-whole : (m : ℕ) → m < 13 → (367 * wholeMonths m + 5) / 12 ≡ getD befores m 0 + 2 * fromMarch m
+before-whole m h =
+    eqb-true _ _ (below (λ m. eqb ((367 * wholeMonths m + 5) / 12) (getD befores m 0 + 2 * fromMarch m)) 13 refl m h)
+
+pub from-march : (m : ℕ) → m < 13 → fromMarch m ≡ pick (ltb 2 m) 1 0
+from-march m h = eqb-true _ _ (below (λ m. eqb (fromMarch m) (pick (ltb 2 m) 1 0)) 13 refl m h)
+
+pub march-times : (m n : ℕ) → m < 13 → fromMarch m * n ≡ pick (ltb 2 m) n 0
+march-times m n h = rw (from-march m h) (go (ltb 2 m))
+  where
+    go : (t : Bool) → pick t 1 0 * n ≡ pick t n 0
+    go true = omega arith
+    go false = omega arith
+
+pub march-le : (m n : ℕ) → m < 13 → fromMarch m * n ≤ n
+march-le m n h = rw (march-times m n h) (go (ltb 2 m))
+  where
+    go : (t : Bool) → pick t n 0 ≤ n
+    go true = omega arith
+    go false = omega arith
+
+-- there is room for what is taken off
+pub march-room : (m n : ℕ) → m < 13 → n ≤ 2 → fromMarch m * n ≤ (367 * wholeMonths m + 5) / 12
+march-room m n h b = rw (before-whole m h) (rw (march-times m n h) (rw (from-march m h) (go (ltb 2 m))))
+  where
+    go : (t : Bool) → pick t n 0 ≤ getD befores m 0 + 2 * pick t 1 0
+    go true = omega arith
+    go false = omega arith
+
+pub before-closed : (k m : ℕ) → m < 13 → (367 * wholeMonths m + 5) / 12 - fromMarch m * (2 - leapDay k) ≡ daysBefore k m
+unfolding daysBefore
+before-closed k m h =
+    rw (before-whole m h) (rw (march-times m (2 - leapDay k) h) (rw (from-march m h) (go (ltb 2 m) (leapDay k) (leap-le k))))
+  where
+    go : (t : Bool) (l : ℕ) → l ≤ 1 → getD befores m 0 + 2 * pick t 1 0 - pick t (2 - l) 0 ≡ getD befores m 0 + pick t l 0
+    go true l h = omega arith
+    go false l h = omega arith
 
 -- the leap day is in February and before each later month
 not-equal : (a b : ℕ) → eqb a b ≡ false → a ≡ b → ⊥

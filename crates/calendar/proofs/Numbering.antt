@@ -4,7 +4,7 @@ use Prim.Native.Nat.{ℕ, zero, suc, _+_, _-_, _≤_, _<_}
 use native.Mathlib.Omega.{arith}
 use native.Mathlib.Numerals.{add-one}
 use borrow.Author.Tests.{lt-ltb, le-ltb, leb-true}
-use Rattle.calendar.specs.Calendar.{leapDay, monthLength, daysBefore, yearStart, dayNumber, Date, IsDate, dateNumber, nextDate, Numbering}
+use Rattle.calendar.specs.Calendar.{leapDay, monthLength, daysBefore, yearStart, dayNumber, Date, IsDate, dateNumber, nextDate, Taken, NextIsOneMore, Numbering}
 use Rattle.calendar.proofs.Months.{length-ge, month-ge}
 use Rattle.calendar.proofs.Dates.{next-date}
 
@@ -117,3 +117,37 @@ after-29 = refl
 pub after-31 : nextDate (date (2024 + 399) 12 31) ≡ date (2025 + 399) 1 1
 unfolding nextDate monthLength leapDay
 after-31 = refl
+
+-- 1900 had no leap day, 2000 had one
+pub after-28-1900 : nextDate (date (1900 + 399) 2 28) ≡ date (1900 + 399) 3 1
+unfolding nextDate monthLength leapDay
+after-28-1900 = refl
+
+pub after-28-2000 : nextDate (date (2000 + 399) 2 28) ≡ date (2000 + 399) 2 29
+unfolding nextDate monthLength leapDay
+after-28-2000 = refl
+
+-- ASK 4: the next date's number is one more, for every date that day_number takes
+pub next-is-one-more : (a : Date) → NextIsOneMore a
+next-is-one-more a = record { one-more = λ t u. next-date a (t .is-date) }
+
+-- it takes 29 February of a leap year, 31 December, and the dates after them
+pub taken-29 : Taken (date (2024 + 399) 2 29) × Taken (date (2024 + 399) 3 1)
+unfolding monthLength leapDay
+taken-29 = (
+  record { is-date = february-29; year-high = omega arith },
+  record {
+    is-date = record { month-low = omega arith; month-high = omega arith; day-low = omega arith; day-high = leb-true _ _ refl };
+    year-high = omega arith;
+  },
+)
+
+pub taken-31 : Taken (date (2024 + 399) 12 31) × Taken (date (2025 + 399) 1 1)
+unfolding monthLength leapDay
+taken-31 = (
+  record { is-date = december-31; year-high = omega arith },
+  record {
+    is-date = record { month-low = omega arith; month-high = omega arith; day-low = omega arith; day-high = leb-true _ _ refl };
+    year-high = omega arith;
+  },
+)

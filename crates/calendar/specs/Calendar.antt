@@ -72,6 +72,15 @@ pub record Numbering (f : Date → ℕ) : Type 0 where
   pub first : f (record { year = 0; month = 1; day = 1 }) ≡ 0
   pub next : (a : Date) → IsDate a → f (nextDate a) ≡ f a + 1
 
+-- the dates that day_number takes: "same results at every year it takes now"
+pub record Taken (a : Date) : Type 0 where
+  pub is-date : IsDate a
+  pub year-high : a .year < 20000
+
+-- Ask 4: "the next date's number, if it takes that too, is one more, leap days and year ends included"
+pub record NextIsOneMore (a : Date) : Type 0 where
+  pub one-more : Taken a → Taken (nextDate a) → dateNumber (nextDate a) ≡ dateNumber a + 1
+
 -- k is the year whose days hold n
 pub record InYear (n k : ℕ) : Type 0 where
   pub from : yearStart k ≤ n

@@ -6,8 +6,6 @@ ghost use Rattle.calendar.specs.Calendar.{leapDay, monthLength, daysBefo
 
 const LENGTHS: [u64; 13] = [0, 31, 28, 31, 30, 31, 30, 31, 31, 30, 31, 30, 31];
 
-const BEFORES: [u64; 13] = [0, 0, 31, 59, 90, 120, 151, 181, 212, 243, 273, 304, 334];
-
 // The leap days of a year: 0 or 1.
 fn leap_day(k: u64) -> u64
     requires { ⌜ k < 20000 ⌝ }
@@ -35,14 +33,15 @@ pub fn month_length(k: u64, m: u64) -> u64
     if m == 2 { n + leap_day(k) } else { n }
 }
 
-// The days of a year before a month.
+// The days of a year before a month, by closed arithmetic: twelve months of 367 days in all, rounded down, are 31, 30, 31, 30, 31, 30 ..,
+// and from March on two days fewer, or one in a leap year. No table, no branch on the month.
 fn days_before(k: u64, m: u64) -> u64
     requires { ⌜ (k < 20000) × (m < 13) ⌝ }
     ensures { λ r. ⌜ r ≡ daysBefore k m ⌝ }
 {
-    let i = m as usize;
-    let n = BEFORES[i];
-    if 2 < m { n + leap_day(k) } else { n }
+    let whole = m - (m + 11) / 12;
+    let from_march = (m + 9) / 12;
+    (367 * whole + 5) / 12 - from_march * (2 - leap_day(k))
 }
 
 // The day of 1 January.

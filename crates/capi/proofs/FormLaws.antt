@@ -23,7 +23,7 @@ use Rattle.transitions.specs.Transition.{countTo, isMoment, writeMoment, moment
 use Rattle.utf8.specs.Utf8.{utf8}
 use Rattle.texts.specs.Text.{writeText, textForm}
 use Rattle.replies.specs.Small.{SmallWrote}
-use Rattle.capi.specs.Functions.{integerForm}
+use Rattle.replies.specs.Functions.{integerForm}
 
 abbrev FormTo : Form → Type 0
 FormTo (bytes xs) = length xs ≤ 1029

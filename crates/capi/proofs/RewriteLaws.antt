@@ -1,5 +1,5 @@
 -- The length and the place that a rewrite gives fit one result. Assumes nothing.
-use mathlib.Core.Path.{_≡_, refl, sym, _∙_}
+use mathlib.Core.Path.{_≡_, refl, sym, subst⁻¹}
 use mathlib.Core.Bool.{Bool, true, false}
 use mathlib.Core.List.{List}
 use Prim.Native.Nat.{ℕ, _≤_}
@@ -16,29 +16,20 @@ use Rattle.rewrite.specs.Preferred.{preferred, given, rewriteOf}
 use Rattle.rewrite.specs.declared.Rewritten.{Rewritten}
 use Rattle.rewrite.specs.declared.Rewritten.the-variants.{Length, Refused}
 use Rattle.rewrite.proofs.Rewriting.{preferred-limit}
-use Rattle.capi.proofs.PlaceLaws.{check-near}
+use Rattle.capi.proofs.PlaceLaws.{check-small}
+use Rattle.file_replies.specs.Small.{SmallRewritten}
 
-abbrev NearBy : Rewritten → Type 0
-NearBy (Length n) = n ≤ 4194304
-NearBy (Refused n p) = p ≤ 4194304
-
-record Near (r : Rewritten) : Type 0 where
-  to : NearBy r
-
-rewrite-near : (f d : List ℕ) → Bytes f → Near (rewriteOf f d)
+rewrite-near : (f d : List ℕ) → Bytes f → SmallRewritten (rewriteOf f d)
 unfolding rewriteOf
 rewrite-near f d b = go (checkOf f) refl
   where
-    room : (t : Bool) → length (preferred f) ≤ 4194304 → Near (pick t (Length (length (preferred f))) (Refused 15 0))
+    room : (t : Bool) → length (preferred f) ≤ 4194304 → SmallRewritten (pick t (Length (length (preferred f))) (Refused 15 0))
     room true l = record { to = l }
     room false l = record { to = omega arith }
 
-    go : (v : Verdict) → v ≡ checkOf f → Near (given v (preferred f) d)
-    go (Ill n p) e = record { to = check-near f (Ill n p) n p e refl }
+    go : (v : Verdict) → v ≡ checkOf f → SmallRewritten (given v (preferred f) d)
+    go (Ill n p) e = record { to = check-small f (Ill n p) e .to }
     go Good e = room (leb (length (preferred f)) (length d)) (preferred-limit f (good-well-formed f (sym e)) b)
 
-pub length-near : (f d : List ℕ) (r : Rewritten) (n : ℕ) → Bytes f → r ≡ rewriteOf f d → r ≡ Length n → n ≤ 4194304
-length-near f d r n b e h = let k : Near (Length n) = rw (sym e ∙ h) at (rewrite-near f d b) in k .to
-
-pub place-near : (f d : List ℕ) (r : Rewritten) (n p : ℕ) → Bytes f → r ≡ rewriteOf f d → r ≡ Refused n p → p ≤ 4194304
-place-near f d r n p b e h = let k : Near (Refused n p) = rw (sym e ∙ h) at (rewrite-near f d b) in k .to
+pub rewrite-small : (f d : List ℕ) (r : Rewritten) → Bytes f → r ≡ rewriteOf f d → SmallRewritten r
+rewrite-small f d r b e = subst⁻¹ SmallRewritten e (rewrite-near f d b)

@@ -44,7 +44,7 @@ use Rattle.wall_times.specs.declared.Mapping.{Mapping}
 use Rattle.wall_times.specs.declared.Mapping.the-variants.{Instants, Refused as Unmapped}
 use Rattle.wall_times.specs.Facts.{Bounded}
 use Rattle.wall_times.proofs.MostLaws.{map-bounded}
-use Rattle.capi.specs.Small.{SmallAnswer, SmallMapping, SmallVersion}
+use Rattle.file_replies.specs.Small.{SmallAnswer, SmallMapping, SmallVersion}
 use Rattle.frames.proofs.NearLaws.{Near, walk-near}
 use Rattle.capi.proofs.PlaceLaws.{version-near}
 

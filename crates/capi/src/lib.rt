@@ -1,10 +1,4 @@
 // The functions for programs in C: thin over the proved ones, by numbers and slices alone. include/nzd.h says how they are called.
-use answers::Answer;
-use answers::Mark;
-use field_checks::Verdict;
-use field_checks::VersionText;
-use rewrite::Rewritten;
-use wall_times::Mapping;
 ghost use mathlib.Core.Path.{_≡_};
 ghost use Rattle.counts.specs.Count.{readCount};
 ghost use Rattle.counts.specs.SignedCount.{readSignedCount, signedCountForm};
@@ -14,19 +8,17 @@ ghost use Rattle.texts.specs.Text.{readText, textForm};
 ghost use Rattle.field_checks.specs.Check.{checkOf, versionOf};
 ghost use Rattle.questions.specs.Question.{ask as askOf, askPlain};
 ghost use Rattle.replies.specs.Reply.{Gives, Puts};
-ghost use Rattle.replies.specs.Functions.{readReply, numberReply, textReply, momentReply, previousOf};
-ghost use Rattle.capi.specs.Functions.{verdictResult, Rewrites, markOf, answerReply, mappingReply, MapsLocal, versionReply, integerForm, kindForm};
-ghost use Rattle.capi.specs.Small.{SmallAnswer, SmallMapping, SmallVersion};
+ghost use Rattle.replies.specs.Functions.{readReply, numberReply, textReply, momentReply, previousOf, integerForm};
+ghost use Rattle.file_replies.specs.Functions.{verdictResult, markOf, answerReply, versionReply};
+ghost use Rattle.capi.specs.Functions.{Rewrites, MapsLocal, kindForm};
 
 // The preferred form of a whole file.
 #[no_mangle]
 pub extern "C" fn nzd_rewrite(file: &[u8], out: &mut [u8]) -> u64
     ensures { λ r. ⌜ Rewrites (now (file .entry)) (now (out .entry)) r (now (out .exit)) ⌝ }
 {
-    match rewrite::rewrite(file, out) {
-        Rewritten::Length(n) => 256 * (n as u64),
-        Rewritten::Refused(n, p) => replies::refusal(n, p),
-    }
+    let r = rewrite::rewrite(file, out);
+    file_replies::rewritten_result(r)
 }
 
 // The check of a whole file.
@@ -34,40 +26,8 @@ pub extern "C" fn nzd_rewrite(file: &[u8], out: &mut [u8]) -> u64
 pub extern "C" fn nzd_check(file: &[u8]) -> u64
     ensures { λ r. ⌜ r ≡ verdictResult (checkOf (now (file .entry))) ⌝ }
 {
-    match checks::check(file) {
-        Verdict::Good => 0,
-        Verdict::Refused(n, p) => replies::refusal(n, p),
-    }
-}
-
-fn mark_of(more: bool) -> Mark
-    ensures { λ r. ⌜ r ≡ markOf more ⌝ }
-{
-    if more {
-        return Mark::More;
-    }
-    Mark::All
-}
-
-// The numbers of an answer.
-fn give_answer(a: Answer, out: &mut [i64; 6]) -> u64
-    requires { ⌜ SmallAnswer a ⌝ }
-    ensures { λ r. ⌜ Gives (answerReply a) (now (out .entry)) r (now (out .exit)) ⌝ }
-{
-    match a {
-        Answer::In(x) => {
-            *out = [
-                x.wall,
-                x.savings,
-                x.name as i64,
-                x.length as i64,
-                x.start,
-                x.end,
-            ];
-            0
-        }
-        Answer::Refused(n, p) => replies::refusal(n, p),
-    }
+    let v = checks::check(file);
+    file_replies::verdict_result(v)
 }
 
 // The marked question.
@@ -75,9 +35,9 @@ fn give_answer(a: Answer, out: &mut [i64; 6]) -> u64
 pub extern "C" fn nzd_ask(file: &[u8], id: &[u8], ticks: i64, more: bool, out: &mut [i64; 6]) -> u64
     ensures { λ r. ⌜ Gives (answerReply (askOf (now (file .entry)) (now (id .entry)) ticks (markOf more))) (now (out .entry)) r (now (out .exit)) ⌝ }
 {
-    let mark = mark_of(more);
+    let mark = file_replies::mark_of(more);
     let a = questions::ask(file, id, ticks, mark);
-    give_answer(a, out)
+    file_replies::give_answer(a, out)
 }
 
 // The plain question.
@@ -86,21 +46,7 @@ pub extern "C" fn nzd_ask_plain(file: &[u8], id: &[u8], ticks: i64, out: &mut [i
     ensures { λ r. ⌜ Gives (answerReply (askPlain (now (file .entry)) (now (id .entry)) ticks)) (now (out .entry)) r (now (out .exit)) ⌝ }
 {
     let a = questions::ask_plain(file, id, ticks);
-    give_answer(a, out)
-}
-
-// The numbers of a mapping.
-fn give_mapping(m: Mapping, out: &mut [i64; 3]) -> u64
-    requires { ⌜ SmallMapping m ⌝ }
-    ensures { λ r. ⌜ Gives (mappingReply m) (now (out .entry)) r (now (out .exit)) ⌝ }
-{
-    match m {
-        Mapping::Instants(n, first, last) => {
-            *out = [n as i64, first, last];
-            0
-        }
-        Mapping::Refused(n, p) => replies::refusal(n, p),
-    }
+    file_replies::give_answer(a, out)
 }
 
 // The instants that read as a local time.
@@ -109,21 +55,7 @@ pub extern "C" fn nzd_map_local(file: &[u8], id: &[u8], local: i64, out: &mut [i
     ensures { λ r. ⌜ MapsLocal (now (file .entry)) (now (id .entry)) local (now (out .entry)) r (now (out .exit)) ⌝ }
 {
     let m = wall_times::map_local(file, id, local);
-    give_mapping(m, out)
-}
-
-// Place and length of the version text.
-fn give_version(t: VersionText, out: &mut [i64; 2]) -> u64
-    requires { ⌜ SmallVersion t ⌝ }
-    ensures { λ r. ⌜ Gives (versionReply t) (now (out .entry)) r (now (out .exit)) ⌝ }
-{
-    match t {
-        VersionText::Part(a, n) => {
-            *out = [a as i64, n as i64];
-            0
-        }
-        VersionText::Refused(n, p) => replies::refusal(n, p),
-    }
+    file_replies::give_mapping(m, out)
 }
 
 // The version text.
@@ -132,7 +64,7 @@ pub extern "C" fn nzd_version_text(file: &[u8], out: &mut [i64; 2]) -> u64
     ensures { λ r. ⌜ Gives (versionReply (versionOf (now (file .entry)))) (now (out .entry)) r (now (out .exit)) ⌝ }
 {
     let t = checks::version_text(file);
-    give_version(t, out)
+    file_replies::give_version(t, out)
 }
 
 #[no_mangle]
@@ -185,10 +117,7 @@ pub extern "C" fn nzd_read_transition(
 pub extern "C" fn nzd_write_count(v: i64, out: &mut [u8]) -> u64
     ensures { λ r. ⌜ Puts (integerForm v) (now (out .entry)) r (now (out .exit)) ⌝ }
 {
-    if v < 0 {
-        return 7;
-    }
-    let w = counts::write_count(v as u64, out);
+    let w = replies::write_integer(v, out);
     replies::written(w)
 }
 

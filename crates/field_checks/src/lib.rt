@@ -96,7 +96,7 @@ fn take_zone(
     requires { ⌜ (a ≤ e) × (e ≤ length (now s)) × Indexed (now s) k (now index) ⌝ }
     ensures { λ r. ⌜ TookZone (now (s .entry)) k a e (now (index .entry)) (now (seen .entry)) (now (marks .entry)) (now (seen .exit)) (now (marks .exit)) r ⌝ }
 {
-    let v = zones::check(&s[a..e], k.count as u64);
+    let v = lookups::check(&s[a..e], k.count as u64);
     match v {
         ZoneVerdict::Refused(n) => Taken::Refused(n),
         ZoneVerdict::Good(id) => {

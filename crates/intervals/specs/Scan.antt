@@ -1,4 +1,4 @@
--- What one walk over the intervals keeps for an instant. The code's way, tied to the zone's intervals by zones' `answer-is` (proofs/LookupLaws.antt).
+-- What one walk over the intervals keeps for an instant. The code's way, tied to the zone's intervals by lookups' `answer-is` (proofs/LookupLaws.antt).
 use Prim.Native.Nat.{ℕ}
 use mathlib.Core.List.{List, [], _∷_}
 use lib.Dec.{ltb}

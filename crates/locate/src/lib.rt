@@ -93,7 +93,7 @@ fn judge(pool: &[u8], starts: &[u32], count: usize, d: &[u8], id: &[u8]) -> Judg
             if strings::has_id(pool, starts, k, id) {
                 return Judged::Here;
             }
-            match zones::check(d, count as u64) {
+            match lookups::check(d, count as u64) {
                 ZoneVerdict::Refused(n) => Judged::Fault(n),
                 ZoneVerdict::Good(_) => Judged::Keep,
             }

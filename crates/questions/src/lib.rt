@@ -29,7 +29,7 @@ fn ask_with(s: &[u8], d: usize, e: usize, id: &[u8], t: u64, starts: &mut [u32])
         Located::Found(v) => {
             let from = v.start;
             let to = v.past;
-            match zones::find(&s[from..to], v.count as u64, t) {
+            match lookups::find(&s[from..to], v.count as u64, t) {
                 ZoneAnswer::Refused(n) => Outcome::Refused(n, v.place),
                 ZoneAnswer::In(x) => Outcome::Answered(answers::answered(&s[d..e], &*starts, d, x)),
             }

@@ -2,12 +2,14 @@
 use Prim.Native.Nat.{ℕ}
 use mathlib.Core.Bool.{Bool}
 use mathlib.Core.List.{[], _∷_}
-use lib.IntN.{ℤ, pos}
+use lib.IntN.{ℤ, pos, negsuc}
 use lib.Dec.{eqb}
 use Rattle.base.specs.Pick.{pick}
 use Rattle.base.specs.Moment.{startOfTime, endOfTime}
+use Rattle.base.specs.Writing.{Form, unfit}
 use Rattle.base.specs.declared.Read.{Read}
 use Rattle.base.specs.declared.Read.the-variants.{Value, Refused as Unread}
+use Rattle.counts.specs.Count.{countForm}
 use Rattle.signed.specs.Instant.{instantOf, ticksOf, noMoment, orNone}
 use Rattle.signed.specs.declared.Number.{Number}
 use Rattle.signed.specs.declared.Number.the-variants.{Value as Signed, Refused as NoNumber}
@@ -47,3 +49,8 @@ previousOf finite z = pick finite (instantOf z) 0
 unfoldable pub momentOf : ℕ → ℤ → ℕ
 momentOf kind z =
     pick (eqb kind 0) startOfTime (pick (eqb kind 1) endOfTime (pick (eqb kind 2) (orNone (instantOf z)) noMoment))
+
+-- "7 for a number the code can't carry": a count is not below 0
+abbrev pub integerForm : ℤ → Form
+integerForm (pos n) = countForm n
+integerForm (negsuc n) = unfit 7

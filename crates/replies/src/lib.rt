@@ -5,8 +5,9 @@ use signed::Number;
 use texts::Text;
 ghost use mathlib.Core.Path.{_≡_};
 ghost use Prim.Native.Nat.{_≤_};
+ghost use Rattle.base.specs.Writing.{Writes};
 ghost use Rattle.replies.specs.Reply.{refusal as refusalOf, writtenOf, Gives};
-ghost use Rattle.replies.specs.Functions.{readReply, numberReply, textReply, momentReply, previousOf, momentOf};
+ghost use Rattle.replies.specs.Functions.{readReply, numberReply, textReply, momentReply, previousOf, momentOf, integerForm};
 ghost use Rattle.replies.specs.Small.{SmallRead, SmallNumber, SmallText, SmallWrote};
 
 // Number and place in one result.
@@ -26,6 +27,16 @@ pub fn written(w: Wrote) -> u64
         Wrote::Length(n) => 256 * (n as u64),
         Wrote::Refused(k) => k as u64,
     }
+}
+
+// Writes a count of a number that may be below 0.
+pub fn write_integer(v: i64, out: &mut [u8]) -> Wrote
+    ensures { λ r. ⌜ Writes (integerForm v) (now (out .entry)) r (now (out .exit)) ⌝ }
+{
+    if v < 0 {
+        return Wrote::Refused(7);
+    }
+    counts::write_count(v as u64, out)
 }
 
 // Value and length of a code without a sign.

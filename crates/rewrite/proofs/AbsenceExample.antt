@@ -22,7 +22,8 @@ use Rattle.pieces.specs.Content.{parsePieces, afterFlag as pastFlag, afterId as
 use Rattle.field_checks.specs.Check.{poolKept, newId, zoneKept, textKept, judged, concluded, conclusion, WellFormed}
 use Rattle.field_checks.proofs.WellFormedLaws.{good-well-formed}
 use Rattle.rewrite.specs.Kept.{fixedZone}
-use Rattle.rewrite.specs.Preferred.{contents, content, printField, printFields, printFile, preferred}
+use Rattle.rewrite.specs.Preferred.{contents, content, printFields, printFile, preferred}
+use Rattle.preferred_fields.specs.Field.{printField}
 use Rattle.rewrite.proofs.Example.{small, small-bytes}
 use Rattle.rewrite.proofs.AbsenceLaws.{files-apart}
 

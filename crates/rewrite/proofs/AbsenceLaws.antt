@@ -34,7 +34,8 @@ use Rattle.frames.specs.Frame.{Field}
 use Rattle.frames.specs.Fields.{fields}
 use Rattle.pieces.specs.Content.{Content, contentOf, print}
 use Rattle.rewrite.specs.Kept.{fixedZone, AbsenceKept}
-use Rattle.rewrite.specs.Preferred.{FieldContent, contentIn, contents, content}
+use Rattle.rewrite.specs.Preferred.{contentIn, contents, content}
+use Rattle.preferred_fields.specs.Field.{FieldContent}
 use Rattle.rewrite.proofs.CodeLaws.{Front, byte-front, sum-front}
 use Rattle.rewrite.proofs.IntervalsLaws.{NameFront, name-front}
 use Rattle.rewrite.proofs.ZoneLaws.{zone-kept}

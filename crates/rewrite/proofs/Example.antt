@@ -32,7 +32,8 @@ use Rattle.pieces.specs.Content.{parseWall, pieceEnd, afterMoment, parsePiece, 
 use Rattle.pieces.specs.Content.{afterId as pastId, parseHead, afterHead, parseContent, contentOf, printPieces, print}
 use Rattle.field_checks.specs.Check.{poolKept, newId, zoneKept, textKept, judged, concluded, conclusion, WellFormed}
 use Rattle.field_checks.proofs.WellFormedLaws.{good-well-formed}
-use Rattle.rewrite.specs.Preferred.{contents, content, printField, printFields, printFile, preferred}
+use Rattle.rewrite.specs.Preferred.{contents, content, printFields, printFile, preferred}
+use Rattle.preferred_fields.specs.Field.{printField}
 
 -- 00 00 00 00; 00 05 01 03 55 54 43; field 1, of 40 bytes: 00 02 04, start of time, 1970-01-01T00:00Z by ticks, 4,344 hours later by
 -- minutes since 1800, 4,416 hours later by ticks, end of time; 02 02 01 41

@@ -19,7 +19,8 @@ use Rattle.base.specs.All.{All}
 use Rattle.base.proofs.AllLaws.{all-head, all-tail}
 use Rattle.frames.proofs.HeadLaws.{headed-whole}
 use Rattle.frames.proofs.ChainLaws.{Chain, listing-chain}
-use Rattle.rewrite.specs.Preferred.{contents, content, printField, printFields, printFile, preferred}
+use Rattle.rewrite.specs.Preferred.{contents, content, printFields, printFile, preferred}
+use Rattle.preferred_fields.specs.Field.{printField}
 use Rattle.rewrite.proofs.KeptLaws.{preferredData, FieldKept}
 
 -- the length of a field's head, "ID byte, size as a count", for n bytes of data

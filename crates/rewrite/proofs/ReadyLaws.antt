@@ -19,13 +19,14 @@ use Rattle.field_checks.specs.declared.Verdict.the-variants.{Good, Refused as I
 use Rattle.pieces.specs.Content.{contentOf}
 use Rattle.pieces.specs.View.{HasContent, Put}
 use Rattle.pieces.proofs.PutLaws.{InTwo}
-use Rattle.rewrite.specs.Preferred.{contents, content, printField, printFields, printFile, preferred, rewriteOf, outputOf}
+use Rattle.rewrite.specs.Preferred.{contents, content, printFields, printFile, preferred, rewriteOf, outputOf}
+use Rattle.preferred_fields.specs.Field.{printField, fieldWith}
 use Rattle.rewrite.specs.declared.Rewritten.the-variants.{Length, Refused as Unwritten}
 use Rattle.frames.specs.Covers.{Covers}
 use Rattle.frames.proofs.CoverLaws.{listing-covers}
 use Rattle.field_checks.specs.File.{AsZone}
 use Rattle.field_checks.proofs.ZoneIdLaws.{zones-read}
-use Rattle.rewrite.specs.View.{Readable, Rewritable, IsField, fieldWith, partOf}
+use Rattle.rewrite.specs.View.{Readable, Rewritable, IsField, partOf}
 use Rattle.rewrite.specs.declared.Extent.{Extent}
 use Rattle.rewrite.proofs.ZoneLaws.{zone-kept}
 use Rattle.rewrite.proofs.KeptLaws.{field-bytes}

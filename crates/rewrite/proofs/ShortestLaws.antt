@@ -18,7 +18,8 @@ use Rattle.frames.specs.Fields.{FieldOf, fields}
 use Rattle.frames.proofs.ChainLaws.{Chain, listing-chain}
 use Rattle.frames.proofs.CoverLaws.{starts-zero}
 use Rattle.field_checks.specs.Check.{WellFormed}
-use Rattle.rewrite.specs.Preferred.{contents, content, preferred, printField, printFields, printFile}
+use Rattle.rewrite.specs.Preferred.{contents, content, preferred, printFields, printFile}
+use Rattle.preferred_fields.specs.Field.{printField}
 use Rattle.frames.specs.Covers.{Covers}
 use Rattle.rewrite.proofs.KeptLaws.{preferredData, FieldKept}
 use Rattle.rewrite.proofs.MovedLaws.{headFor, printed-size, printed-within}

@@ -4,20 +4,15 @@ use mathlib.Core.List.{List, [], _∷_, _++_}
 use lib.ListN.{length, drop}
 use lib.Dec.{leb}
 use Rattle.base.specs.Pick.{pick}
-use Rattle.counts.specs.Count.{writeCount}
 use Rattle.frames.specs.Frame.{Field}
 use Rattle.frames.specs.Fields.{fields}
-use Rattle.pieces.specs.Content.{Content, contentOf, print}
+use Rattle.pieces.specs.Content.{contentOf}
+use Rattle.preferred_fields.specs.Field.{FieldContent, printField}
 use Rattle.field_checks.specs.Check.{checkOf}
 use Rattle.field_checks.specs.declared.Verdict.{Verdict}
 use Rattle.field_checks.specs.declared.Verdict.the-variants.{Good, Refused as Ill}
 use Rattle.rewrite.specs.declared.Rewritten.{Rewritten}
 use Rattle.rewrite.specs.declared.Rewritten.the-variants.{Length, Refused}
-
--- a field by its ID and what its data say
-pub record FieldContent : Type 0 where
-  pub id : ℕ
-  pub content : Content
 
 abbrev pub contentIn : Field → FieldContent
 contentIn g = record { id = g .id; content = contentOf (g .id) (g .body) }
@@ -30,10 +25,6 @@ contents (g ∷ gs) = contentIn g ∷ contents gs
 -- instant or mark they name": f and h have where content f ≡ content h
 abbrev pub content : List ℕ → List FieldContent
 content f = contents (fields f)
-
--- "Field: ID byte, size as a count, data"; "each size to match"
-unfoldable pub printField : FieldContent → List ℕ
-printField c = c .id ∷ (writeCount (length (print (c .content))) ++ print (c .content))
 
 unfoldable pub printFields : List FieldContent → List ℕ
 printFields [] = []

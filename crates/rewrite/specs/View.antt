@@ -7,9 +7,8 @@ use Rattle.frames.specs.Frame.{Field}
 use Rattle.frames.specs.Fields.{FieldOf, fields}
 use Rattle.frames.specs.Covers.{Covers}
 use Rattle.base.specs.All.{All}
-use Rattle.pieces.specs.Content.{contentOf}
 use Rattle.pieces.specs.View.{HasContent}
-use Rattle.rewrite.specs.Preferred.{FieldContent, preferred}
+use Rattle.rewrite.specs.Preferred.{preferred}
 use Rattle.rewrite.specs.declared.Extent.{Extent}
 
 -- the data of every zone have a content
@@ -26,10 +25,6 @@ pub record Rewritable (f : List ℕ) : Type 0 where
 -- r is the field of f at a place, where there is one
 pub record IsField (f : List ℕ) (at : ℕ) (r : Extent) : Type 0 where
   pub means : (g : Field) → FieldOf f g → g .place ≡ at → (r .id ≡ g .id) × (r .start ≡ g .start) × (r .end ≡ g .past)
-
--- a field by its ID and data
-abbrev pub fieldWith : ℕ → List ℕ → FieldContent
-fieldWith i d = record { id = i; content = contentOf i d }
 
 abbrev pub partOf : List ℕ → Extent → List ℕ
 partOf f r = take (r .end - r .start) (drop (r .start) f)

@@ -4,8 +4,8 @@ use denote.Ref.{now}
 use mir.Facts.{toZ-ofZ}
 use Rattle.questions.specs.Question.{askPlain}
 use Rattle.replies.proofs.ReplyLaws.{gives-as}
-use Rattle.capi.specs.Small.{SmallAnswer}
-use Rattle.capi.specs.Functions.{answerReply}
+use Rattle.file_replies.specs.Small.{SmallAnswer}
+use Rattle.file_replies.specs.Functions.{answerReply}
 use Rattle.capi.proofs.SmallLaws.{ask-small}
 use borrow.Author.Needs.{needs}
 use Rattle.capi.proofs.nzd_ask_plain.Statement.{statement}

@@ -1,18 +1,15 @@
-use mathlib.Core.Path.{sym, ap, _∙_}
+use mathlib.Core.Path.{ap, _∙_}
 use borrow.Author.Needs.{needs}
-use Rattle.capi.specs.Functions.{verdictResult}
-use Rattle.capi.proofs.PlaceLaws.{check-near}
+use Rattle.file_replies.specs.Functions.{verdictResult}
+use Rattle.capi.proofs.PlaceLaws.{check-small}
 use Rattle.capi.proofs.nzd_check.Statement.{statement}
 use Rattle.capi.proofs.nzd_check.Tie as tie
 
-refusal-requires : tie.Need-refusal-requires
-refusal-requires c κs = check-near _ _ _ _ (c .before .before .before .check .ensures) (c .before .n .given .1)
+verdict-result-requires : tie.Need-verdict-result-requires
+verdict-result-requires c κs = check-small _ _ (c .check .ensures)
 
 returns : tie.Need-returns
-returns c = ap verdictResult (sym (c .enum-told .given .1) ∙ c .before .before .check .ensures)
-
-returns-2 : tie.Need-returns-2
-returns-2 c = c .refusal .ensures ∙ ap verdictResult (sym (c .before .before .n .given .1) ∙ c .before .before .before .before .check .ensures)
+returns c = c .verdict-result .ensures ∙ ap verdictResult (c .before .check .ensures)
 
 pub nzd-check-spec : {M : Type 1} → statement M
-nzd-check-spec = tie.close (tie.spec (λ c κs. search needs) (λ c. search needs) (λ c. search needs) refusal-requires returns returns-2)
+nzd-check-spec = tie.close (tie.spec (λ c κs. search needs) verdict-result-requires returns)

@@ -1,6 +1,6 @@
 use mathlib.Core.Path.{ap}
 use native.Mathlib.Omega.{arith}
-use Rattle.capi.specs.Functions.{versionReply}
+use Rattle.file_replies.specs.Functions.{versionReply}
 use Rattle.replies.proofs.ReplyLaws.{gives-as}
 use Rattle.capi.proofs.SmallLaws.{version-small}
 use borrow.Author.Needs.{needs}

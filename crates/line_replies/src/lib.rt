@@ -1,0 +1,51 @@
+// The reply to one question line, from a file: 01, "One whole file".
+ghost use mathlib.Core.Path.{_≡_};
+ghost use Prim.Native.Nat.{_≤_};
+ghost use lib.ListN.{length};
+ghost use Rattle.base.specs.Writing.{bytes, wrote, placed};
+ghost use Rattle.line_replies.specs.Output.{replyOf, lineOf, askedBy};
+use answers::Answer;
+use answers::Mark;
+use base::Wrote;
+use lines::Kind;
+use lines::Line;
+
+// The line that the program writes for a question line, with the file s. It has at most 65,583 bytes: a name of at most 65,536, two
+// numbers of at most 21, and five more.
+pub fn reply(s: &[u8], line: &[u8], out: &mut [u8]) -> Wrote
+    ensures { λ r. ⌜ (r ≡ wrote (bytes (replyOf (now (s .entry)) (now (line .entry)))) (now (out .entry))) × (now (out .exit) ≡ placed (bytes (replyOf (now (s .entry)) (now (line .entry)))) (now (out .entry))) ⌝ }
+    ensures { λ r. ⌜ length (replyOf (now (s .entry)) (now (line .entry))) ≤ 65583 ⌝ }
+{
+    if 65536 < s.len() {
+        return answer_lines::write_refusal(4, 0, out);
+    }
+    match lines::parse_line(line) {
+        Line::Ask(n, t, kind) => write_line(s, ask(s, &line[..n], t, kind), out),
+        Line::Unclear => answer_lines::write_refusal(16, 0, out),
+    }
+}
+
+fn ask(s: &[u8], zone: &[u8], t: i64, kind: Kind) -> Answer
+    ensures { λ r. ⌜ r ≡ askedBy (now (s .entry)) (now (zone .entry)) t kind ⌝ }
+{
+    match kind {
+        Kind::Plain => questions::ask_plain(s, zone, t),
+        Kind::Part => questions::ask(s, zone, t, Mark::More),
+        Kind::All => questions::ask(s, zone, t, Mark::All),
+    }
+}
+
+fn write_line(s: &[u8], answer: Answer, out: &mut [u8]) -> Wrote
+    ensures { λ r. ⌜ (r ≡ wrote (bytes (lineOf (now (s .entry)) answer)) (now (out .entry))) × (now (out .exit) ≡ placed (bytes (lineOf (now (s .entry)) answer)) (now (out .entry))) ⌝ }
+    ensures { λ r. ⌜ (length (now (s .entry)) ≤ 65536 → length (lineOf (now (s .entry)) answer) ≤ 65583) ⌝ }
+{
+    match answer {
+        Answer::In(found) => answer_lines::write_answer(
+            found.wall,
+            found.savings,
+            answers::name_of(s, found),
+            out,
+        ),
+        Answer::Refused(number, place) => answer_lines::write_refusal(number, place as u64, out),
+    }
+}

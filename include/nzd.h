@@ -21,8 +21,8 @@
  * pointer is not followed and may be null. A pointer to a struct is never null. out overlaps nothing else that is lent.
  * No function keeps a pointer, allocates, or has state, so any number of threads may call them.
  *
- * Stack, measured and not proved: up to 104 KB for nzd_check, nzd_version_text and nzd_rewrite, 39 KB for nzd_ask,
- * nzd_ask_plain and nzd_map_local, below 1 KB for a small code.
+ * Stack, measured and not proved: up to 71 KB for nzd_check, nzd_version_text and nzd_rewrite, 63 KB for nzd_ask_named,
+ * 39 KB for nzd_ask, nzd_ask_plain and nzd_map_local, below 1 KB for a small code.
  */
 #ifndef NZD_H
 #define NZD_H
@@ -54,11 +54,13 @@ enum nzd_number {
     NZD_BAD_DATA = 9,             /* unknown zone or tail flag, data ending early, or data left over */
     NZD_BAD_INTERVAL = 10,        /* interval count 0, or a start or end that is not allowed */
     NZD_BAD_RECURRENCE = 11,      /* a recurrence or a tail sum is out of its ranges */
-    NZD_NOT_FOUND = 12,           /* no such zone, or no version text */
+    NZD_NOT_FOUND = 12,           /* no such zone, no zone or alias of an alias' target, or no version text */
     NZD_SECOND_ZONE = 13,         /* a second zone with the same ID (never given by a question) */
     NZD_INSTANT_OUT_OF_RANGE = 14,/* the asked instant is outside years 1 to 9999 */
     NZD_OUTPUT_TOO_SHORT = 15,
-    NZD_NO_INSTANT = 17           /* no instant reads as the local time, as where clocks went forward over it */
+    NZD_NO_INSTANT = 17,          /* no instant reads as the local time, as where clocks went forward over it */
+    NZD_TOO_MANY_STEPS = 18,      /* the eighth target of an alias is again only an alias */
+    NZD_SECOND_ALIAS = 19         /* a second alias with the same bytes in field 3 */
 };
 
 /* The number of a result. */
@@ -96,6 +98,8 @@ static inline const char *nzd_words(unsigned number) {
     case NZD_INSTANT_OUT_OF_RANGE: return "the instant is outside years 1 to 9999";
     case NZD_OUTPUT_TOO_SHORT: return "the output is too short";
     case NZD_NO_INSTANT: return "no instant reads as that local time";
+    case NZD_TOO_MANY_STEPS: return "an alias leads over more than eight others, or in a circle";
+    case NZD_SECOND_ALIAS: return "a second alias has the same name";
     default: return "a number that this header does not know";
     }
 }
@@ -130,6 +134,17 @@ uint64_t nzd_ask(const uint8_t *file, size_t n, const uint8_t *id, size_t id_n, 
 
 /* The same with more: the plain question expects more. Of a file that is all there, call nzd_ask without more. */
 uint64_t nzd_ask_plain(const uint8_t *file, size_t n, const uint8_t *id, size_t id_n, int64_t ticks,
+                       struct nzd_answer *out);
+
+/*
+ * Asks by name: the zone with the ID name or, where no zone has it, the zone that the alias name leads to in the alias
+ * dictionary, field 3. An alias may lead to an alias, over eight targets at most; a zone's ID wins over the same bytes as
+ * an alias. A zone ID is answered at its zone, as by nzd_ask, without fields 2 and 3; for any other name both are
+ * checked, and the answer is that of the zone itself. With more a name that no zone has is 1 until field 3 is whole or
+ * an ID above 3 has begun; what is then given stays as it is, 12 and 18 included. Other refusals are those of nzd_ask;
+ * the place of 18, 19 and of a 12 found in field 3 is that field's ID byte.
+ */
+uint64_t nzd_ask_named(const uint8_t *file, size_t n, const uint8_t *name, size_t name_n, int64_t ticks, bool more,
                        struct nzd_answer *out);
 
 /* The instants at which clocks of a zone show a local time. */

@@ -28,7 +28,7 @@ pub enum Number {
     BadInterval,
     /// 11: a recurrence or a tail sum is out of its ranges.
     BadRecurrence,
-    /// 12: the file has no such zone, or no version text.
+    /// 12: the file has no such zone, an alias leads to none, or there is no version text.
     NotFound,
     /// 13: a second zone has the same ID.
     SecondZone,
@@ -39,12 +39,16 @@ pub enum Number {
     /// 17: no instant reads as the local time, as where clocks went forward over it. No error has it:
     /// [`map_local`](crate::map_local) gives [`LocalInstants::None`](crate::LocalInstants::None).
     NoInstant,
+    /// 18: the eighth target of an alias is again only an alias, as where aliases lead in a circle.
+    TooManySteps,
+    /// 19: a second alias in field 3 has the same bytes.
+    SecondAlias,
     /// A number that this version of the wrapper has no name for.
     Other(u8),
 }
 
 /// The numbers that have a name, in words. 16 is a number of the program `zone_query` only.
-const NUMBERS: [(u8, Number, &str); 16] = [
+const NUMBERS: [(u8, Number, &str); 18] = [
     (1, Number::NotYet, "not yet: more bytes are needed"),
     (2, Number::CutShort, "cut short"),
     (3, Number::WrongVersion, "the version is not 0"),
@@ -61,6 +65,8 @@ const NUMBERS: [(u8, Number, &str); 16] = [
     (14, Number::InstantOutOfRange, "the instant is outside years 1 to 9999"),
     (15, Number::OutputTooShort, "the output is too short"),
     (17, Number::NoInstant, "no instant reads as that local time"),
+    (18, Number::TooManySteps, "an alias leads over more than eight others, or in a circle"),
+    (19, Number::SecondAlias, "a second alias has the same name"),
 ];
 
 impl Number {
@@ -124,20 +130,21 @@ mod tests {
         for number in 1..=255u8 {
             let error = decode(u64::from(number) + 256 * 1000).expect_err("a refusal");
             assert_eq!((error.number.value(), error.place), (number, 1000));
-            assert_eq!(matches!(error.number, Number::Other(_)), number == 16 || number > 17);
+            assert_eq!(matches!(error.number, Number::Other(_)), number == 16 || number > 19);
         }
         assert_eq!((Number::of(1), Number::of(12)), (Number::NotYet, Number::NotFound));
         assert_eq!((Number::of(15), Number::of(17)), (Number::OutputTooShort, Number::NoInstant));
+        assert_eq!((Number::of(18), Number::of(19)), (Number::TooManySteps, Number::SecondAlias));
     }
 
     #[test]
     fn every_number_has_a_meaning_of_its_own() {
-        let meanings: BTreeSet<&str> = (1..=18).map(|number| Number::of(number).meaning()).collect();
-        // 16 and 18 have no name.
-        assert_eq!(meanings.len(), 17);
+        let meanings: BTreeSet<&str> = (1..=20).map(|number| Number::of(number).meaning()).collect();
+        // 16 and 20 have no name.
+        assert_eq!(meanings.len(), 19);
         let error = Error { number: Number::CutShort, place: 11 };
         assert_eq!(error.to_string(), "cut short (number 2, place 11)");
-        let error = Error { number: Number::Other(18), place: 0 };
-        assert_eq!(error.to_string(), "a number that this version of the wrapper does not know (number 18, place 0)");
+        let error = Error { number: Number::Other(20), place: 0 };
+        assert_eq!(error.to_string(), "a number that this version of the wrapper does not know (number 20, place 0)");
     }
 }

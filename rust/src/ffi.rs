@@ -18,6 +18,15 @@ mod c {
             more: bool,
             out: *mut [i64; 6],
         ) -> u64;
+        pub fn nzd_ask_named(
+            file: *const u8,
+            n: usize,
+            name: *const u8,
+            name_n: usize,
+            ticks: i64,
+            more: bool,
+            out: *mut [i64; 6],
+        ) -> u64;
         pub fn nzd_ask_plain(
             file: *const u8,
             n: usize,
@@ -64,6 +73,11 @@ pub fn check(file: &[u8]) -> u64 {
 /// `nzd_ask`.
 pub fn ask(file: &[u8], id: &[u8], ticks: i64, more: bool, out: &mut [i64; 6]) -> u64 {
     unsafe { c::nzd_ask(file.as_ptr(), file.len(), id.as_ptr(), id.len(), ticks, more, out) }
+}
+
+/// `nzd_ask_named`.
+pub fn ask_named(file: &[u8], name: &[u8], ticks: i64, more: bool, out: &mut [i64; 6]) -> u64 {
+    unsafe { c::nzd_ask_named(file.as_ptr(), file.len(), name.as_ptr(), name.len(), ticks, more, out) }
 }
 
 /// `nzd_ask_plain`.

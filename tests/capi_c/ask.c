@@ -36,6 +36,9 @@ static void no_bytes(void) {
     EXPECT(nzd_ask_plain(NULL, 0, NULL, 0, 0, &answer) == NZD_NOT_YET);
     EXPECT(nzd_ask(file, sizeof file, NULL, 0, 0, false, &answer) == NZD_NOT_FOUND + 256 * 17);
     EXPECT(nzd_ask_plain(file, sizeof file, NULL, 0, 0, &answer) == NZD_NOT_YET + 256 * 17);
+    EXPECT(nzd_ask_named(NULL, 0, NULL, 0, 0, true, &answer) == NZD_NOT_YET);
+    EXPECT(nzd_ask_named(NULL, 0, NULL, 0, 0, false, &answer) == NZD_CUT_SHORT);
+    EXPECT(nzd_ask_named(file, sizeof file, NULL, 0, 0, false, &answer) == NZD_NOT_FOUND + 256 * 17);
     EXPECT(nzd_map_local(NULL, 0, NULL, 0, 0, &local) == NZD_CUT_SHORT);
     EXPECT(nzd_map_local(file, sizeof file, NULL, 0, 0, &local) == NZD_NOT_FOUND + 256 * 17);
     EXPECT(nzd_version_text(NULL, 0, &text) == NZD_CUT_SHORT);
@@ -73,6 +76,32 @@ static void members(void) {
     EXPECT(nzd_ask_plain(file, sizeof file, NULL, 0, NZD_LAST_INSTANT + 1, &answer) == NZD_INSTANT_OUT_OF_RANGE);
     EXPECT(nzd_ask(file, sizeof file, NULL, 0, NZD_FIRST_INSTANT, false, &answer) == NZD_NOT_FOUND + 256 * 17);
     EXPECT(nzd_ask_plain(file, sizeof file, NULL, 0, NZD_FIRST_INSTANT - 1, &answer) == NZD_INSTANT_OUT_OF_RANGE);
+}
+
+/* The number and place of a named question, which leaves out as found where it is refused. */
+static uint64_t named(const uint8_t *s, size_t n, const char *name, bool more) {
+    struct nzd_answer out = {-1, -2, -3, -4, -5, -6};
+    uint64_t r = nzd_ask_named(s, n, (const uint8_t *)name, strlen(name), 0, more, &out);
+    if (r == NZD_ANSWERED) EXPECT(out.wall_ms == 0 && out.name_place == 8 && out.name_length == 1);
+    else EXPECT(out.wall_ms == -1 && out.name_length == -4 && out.end == -6);
+    return r;
+}
+
+/* Names, in files with strings "A" and "B" and a zone "A": "B" leads to "A", to itself, stands twice, and has not come. */
+static void names(void) {
+    static const uint8_t alias[] = {0, 0, 0, 0, 0, 5, 2, 1, 'A', 1, 'B', 1, 3, 0, 1, 0x30, 3, 3, 1, 1, 0};
+    static const uint8_t circle[] = {0, 0, 0, 0, 0, 5, 2, 1, 'A', 1, 'B', 1, 3, 0, 1, 0x30, 3, 3, 1, 1, 1};
+    static const uint8_t twice[] = {0, 0, 0, 0, 0, 5, 2, 1, 'A', 1, 'B', 1, 3, 0, 1, 0x30, 3, 5, 2, 1, 0, 1, 0};
+    EXPECT(named(alias, sizeof alias, "B", true) == NZD_ANSWERED);
+    EXPECT(named(alias, sizeof alias, "A", true) == NZD_ANSWERED);
+    EXPECT(named(alias, 16, "A", true) == NZD_ANSWERED);
+    EXPECT(named(alias, sizeof alias, "C", true) == NZD_NOT_FOUND + 256 * 16);
+    EXPECT(named(alias, sizeof alias - 1, "B", true) == NZD_NOT_YET + 256 * 16);
+    EXPECT(named(alias, sizeof alias - 1, "B", false) == NZD_CUT_SHORT + 256 * 16);
+    EXPECT(named(circle, sizeof circle, "B", true) == NZD_TOO_MANY_STEPS + 256 * 16);
+    EXPECT(named(twice, sizeof twice, "B", true) == NZD_SECOND_ALIAS + 256 * 16);
+    EXPECT(nzd_check(circle, sizeof circle) == NZD_ANSWERED);
+    EXPECT(nzd_check(twice, sizeof twice) == NZD_SECOND_ALIAS + 256 * 16);
 }
 
 /* Whether these are the instants of a local time in the zone "A". */
@@ -120,7 +149,7 @@ static void local_times(void) {
 /* Every number has words of its own. */
 static void words(void) {
     unsigned a, b;
-    for (a = 0; a <= 17; a++) {
+    for (a = 0; a <= 19; a++) {
         for (b = 0; b < a; b++) EXPECT(strcmp(nzd_words(a), nzd_words(b)) != 0);
     }
     EXPECT(nzd_words(16) == nzd_words(255));
@@ -135,6 +164,7 @@ int main(void) {
     }
     no_bytes();
     members();
+    names();
     local_times();
     words();
     if (failures) return 1;

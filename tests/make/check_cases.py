@@ -183,7 +183,7 @@ for more in (b"", b"\x80\x00", pool(b"A")[1:]):
     case(Z + b"\x00" + more, b"UTC", 0, "5 23", UTC_ANSWER)
 TEXT = field(2, text(b"2025b"))
 for id_ in range(2, 8):
-    data = text(b"x") if id_ == 2 else b"x"
+    data = {2: text(b"x"), 3: b"\x00"}.get(id_, b"x")
     once = Z + field(id_, data)
     case(once, b"UTC", 0, "0 0", UTC_ANSWER, "0 26 1" if id_ == 2 else "12 %d" % len(once))
     for more in (field(id_, data), bytes([id_]) + b"\x80\x00"):
@@ -266,7 +266,7 @@ for s in (b"", b"2025b", "2025 b\n\u20ac".encode(), b"x" * 127, b"x" * 128):
     f = field(2, text(s))
     place = len(Z) + len(f) - len(s)
     case(Z + f, b"UTC", 0, "0 0", UTC_ANSWER, "0 %d %d" % (place, len(s)))
-    case(Z + f + field(3, b"ab") + field(8, b"") + field(8, b""), b"A", 0, "0 0", "12 23", "0 %d %d" % (place, len(s)))
+    case(Z + f + field(3, b"\x01\x01\x00") + field(8, b"") + field(8, b""), b"A", 0, "0 0", "12 23", "0 %d %d" % (place, len(s)))
     case(V + pool() + f, b"A", 0, "0 0", "12 7", "0 %d %d" % (place - 16, len(s)))
     case(Z + f + field(3, b"ab")[:-1], b"A", 0, "2 %d" % (23 + len(f)), "12 23", "2 %d" % (23 + len(f)))
     case(Z + f + b"\x01", b"A", 0, "5 %d" % (23 + len(f)), "12 23", "5 %d" % (23 + len(f)))
@@ -279,11 +279,14 @@ for number, h in ((9, ""), (9, "80"), (9, "01"), (9, "0541"), (9, "02ff"), (9, "
 # fields 2 to 9 and 255, with data and without, none, some and all of them
 ALL = Z + TEXT
 for id_ in (3, 4, 5, 6, 7, 8, 9, 255):
-    ALL += field(id_, b"\xff" * (id_ % 11))
+    ALL += field(id_, b"\x00" if id_ == 3 else b"\xff" * (id_ % 11))
     case(ALL, b"UTC", 0, "0 0", UTC_ANSWER, "0 26 5")
     case(ALL[:-1], b"A", 0, None, "12 23")
     if id_ < 255:
-        case(Z + field(id_, b""), b"A", 0, "0 0", "12 23", "12 25")
+        if id_ == 3:
+            case(Z + field(id_, b""), b"A", 0, "9 23", "12 23", "9 23")
+        else:
+            case(Z + field(id_, b""), b"A", 0, "0 0", "12 23", "12 25")
 case(P + TEXT, b"UTC", 0, "0 0", "12 17", "0 20 5")
 
 # ---- 13: a second zone with the same ID bytes; a question never gives it, and the first zone answers
@@ -390,7 +393,7 @@ for intervals, good in ((4096, True), (4097, False)):
 # a field that ends at 4,194,304 and one past it, of an ID above 1
 UNIT = bytes(range(64))
 for past in (0, 1):
-    for id_ in (3, 255):
+    for id_ in (4, 255):
         size = MOST + past - 23 - 5
         head, behind = Z + bytes([id_]) + count(size), UNIT[:size % 64]
         said = "4 23" if past else "0 0"

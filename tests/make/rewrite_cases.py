@@ -272,13 +272,19 @@ for strings, last in ((130, 129), (8192, 8191)):
     good((big, fixed(last, 0, 128)), unit=ZEROS)
 
 SHAPE = zone(0, LONG)[1]                # a zone in ticks: elsewhere it is copied
-ODD = (b"", b"\x00", b"\xff" * 3, hex_("8080808080"), SHAPE, hex_("0104000130000104"), b"\x02" * 9)
+ODD = (b"\x00", b"\x00", b"\xff" * 3, hex_("8080808080"), SHAPE, hex_("0104000130000104"), b"\x02" * 9)
 for id_ in range(3, 10):
     good((AB, zone(0, LONG), plain(id_, ODD[id_ - 3])))
+# the alias dictionary is copied where it is good, and checked before
+for data in (b"\x01\x01\x00", b"\x02\x01\x00\x00\x01"):
+    good((AB, fixed(0), plain(3, data)))
+for data, number in ((b"", 9), (b"\x01\x01\x00\x00", 9), (b"\x01\x01\x09", 8), (b"\x80\x00", 7), (b"\x02\x01\x00\x01", 19)):
+    source = files(AB, fixed(0))[0]
+    refused(source + field(3, data), "%d %d" % (number, len(source)))
 for data in (b"\x05" + b"2025b", b"\x00", b"\x03\xe2\x82\xac", b"\x09" + b"\x02" * 9):
     good((AB, zone(0, LONG), plain(2, data)))
 good((AB, zone(0, LONG), plain(255, SHAPE)))
-good((AB, plain(2, b"\x01x"), plain(3, SHAPE), plain(4, SHAPE)))
+good((AB, plain(2, b"\x01x"), plain(4, SHAPE), plain(5, SHAPE)))
 ALL = [plain(2, b"\x01x")] + [plain(id_, ODD[id_ - 3]) for id_ in range(3, 10)]
 ALL += [plain(9, b"9"), plain(254, b""), plain(255, SHAPE), plain(255, b""), plain(255, b"\x01")]
 good((AB, zone(0, LONG), *ALL))
@@ -329,20 +335,20 @@ def sized(size, shrinks, id_=0):
 UNIT = hex_("8001003030")
 for size, shrinks in ((127, [1]), (127, [2]), (127, [7]), (127, [7, 7, 7]), (126, [1]), (126, [2]), (121, [7]), (128, [1]), (128, [7]),
                       (126, []), (127, []), (128, []), (100, [7] * 10)):
-    good((AB, sized(size, shrinks), plain(3, b"\x01\x00")))
+    good((AB, sized(size, shrinks), plain(4, b"\x01\x00")))
 for size, shrinks in ((16383, [1]), (16383, [2]), (16383, [7, 7]), (16382, [1]), (16380, [2, 2]), (16384, [1]), (16384, [6, 7]),
                       (16383, []), (16384, []), (16300, [7] * 20)):
     both = (AB, sized(size, shrinks), plain(9, b"\x01\x00"))
     n = len(files(*both)[1])
     good(both, (n - 1, n, n + 1, n + 9) if sum(shrinks) == 1 else (n + 3,), unit=UNIT)
-good((AB, sized(127, [1]), sized(127, [2], 1), plain(3, b"\x07" * 130)))
+good((AB, sized(127, [1]), sized(127, [2], 1), plain(4, b"\x07" * 130)))
 # the most intervals
 most = [(START, "mark"), (BASE, T)] + [(BASE + 128 * k * HOUR, T if k < 3 else H) for k in range(1, 4095)]
 good((AB, zone(0, most + [(END, "mark")])), unit=UNIT)
 good((AB, zone(0, most + [(most[-1][0] + 127 * HOUR, T)])), unit=UNIT)
 # fields of more than 2,097,151 bytes move to the front
 for size in (2097151, 2097152, 3000000):
-    both = (AB, sized(127, [1]), plain(3, b"\xfe\x01\x02" * (size // 3) + b"\x05" * (size % 3)))
+    both = (AB, sized(127, [1]), plain(4, b"\xfe\x01\x02" * (size // 3) + b"\x05" * (size % 3)))
     n = len(files(*both)[1])
     good(both, (n,) if size != 2097152 else (n - 1, n, n + 3), unit=b"\xfe\x01\x02")
 
@@ -364,7 +370,7 @@ GOOD = files(AB, zone(0, LONG[:2] + [(END, "mark")]))[0]
 AT = len(GOOD)
 for s, said in ((b"", "2 0"), (V[:3], "2 0"), (GOOD[:-1], "2 11"), (GOOD[:12], "2 11"), (b"\x01" + GOOD[1:], "3 0"), (V[:3] + b"\x80" + GOOD[4:], "3 0"), (V, "6 4"),
                 (V + GOOD[11:], "6 4"), (GOOD + GOOD[11:], "13 %d" % AT), (GOOD + hex_("010401013000") + GOOD[11:] + b"\x03", "13 %d" % (AT + 6)),
-                (GOOD + hex_("03000200"), "5 %d" % (AT + 2)), (GOOD + hex_("07000700"), "5 %d" % (AT + 2))):
+                (GOOD + hex_("04000200"), "5 %d" % (AT + 2)), (GOOD + hex_("07000700"), "5 %d" % (AT + 2))):
     refused(s, said)
 for number, h in ((2, "01"), (2, "0104" "010130"), (2, "0201"), (2, "ff80"), (4, "03" "80808002"), (4, "0104" "01028120"), (4, "0203" "8108ff"), (5, "0001" "00"),
                   (7, "038000"), (7, "0104" "01016000"), (7, "010a" "010201" "00003030" "7f0000"), (7, "010a" "010201" "00003030" "800100"),
@@ -381,7 +387,7 @@ for t, code in ((LAST - 128 * HOUR + 1, count(128)), (LAST, b"\x02" + (LAST + 1)
     data = hex_("010202" "00003030") + forms(t, START)[T] + hex_("003030") + code + b"\x00"
     refused(GOOD + field(1, data), "7 %d" % AT)
 # every cut of a file that shrinks, in just the room of the whole preferred file
-WHOLE = (pool(b"A"), zone(0, LONG[:2] + [(END, "mark")]), plain(3, b"\x01"))
+WHOLE = (pool(b"A"), zone(0, LONG[:2] + [(END, "mark")]), plain(4, b"\x01"))
 source, wanted = files(*WHOLE)
 ends = {len(files(*WHOLE[:k])[0]): k for k in range(4)}
 for k in range(len(source)):

@@ -33,7 +33,9 @@ use Rattle.field_checks.specs.declared.VersionText.{VersionText}
 use Rattle.field_checks.specs.declared.VersionText.the-variants.{Part as TextPart, Refused as NoText}
 use Rattle.field_checks.proofs.VersionLaws.{text-of-field}
 use Rattle.answers.specs.Answers.{Pool, noPool}
-use Rattle.questions.specs.Question.{question, finish, ask}
+use Rattle.questions.specs.Question.{answerAt, question, finish, ask}
+use Rattle.named_questions.specs.Named.{Known, nothing, naming, askNamed}
+use Rattle.named_questions.proofs.NameLaws.{name-inside as named-inside}
 use Rattle.answers.specs.declared.Mark.{Mark}
 use Rattle.answers.specs.declared.Found.{Found}
 use Rattle.signed.proofs.IntegerLaws.{instant-finite}
@@ -93,6 +95,22 @@ module _ (bs id : List ℕ) (z : ℤ) (mark : Mark) (l : length bs < 2 ^ 63) whe
       (λ e. record { to = omega arith })
       (λ e. finish-small (eqb-false (instantOf z) 0 e) (walk (question id (instantOf z)) noPool bs) refl
       (walk-near (question id (instantOf z)) noPool bs))
+
+  named-finish-small : (instantOf z ≡ 0 → ⊥) → (o : Out Known Found) → walk (naming (answerAt (instantOf z)) id) nothing bs ≡ o → Near o → SmallAnswer (finish mark o)
+  named-finish-small h (found x p) e k =
+      let i = named-inside bs id (instantOf z) (instant-finite (instantOf z) z refl h) x p e in
+      record { to = (omega arith, omega arith) }
+  named-finish-small h (refused n p) e k = record { to = k .to }
+  named-finish-small h (cut p) e k = record { to = k .to }
+  named-finish-small h (ended m p) e k = record { to = k .to }
+
+  pub named-small : SmallAnswer (askNamed bs id z mark)
+  unfolding askNamed
+  named-small =
+      pick-holds SmallAnswer (eqb (instantOf z) 0)
+      (λ e. record { to = omega arith })
+      (λ e. named-finish-small (eqb-false (instantOf z) 0 e) (walk (naming (answerAt (instantOf z)) id) nothing bs) refl
+      (walk-near (naming (answerAt (instantOf z)) id) nothing bs))
 
 bounded-small : (m : Mapping) → Bounded m → SmallMapping m
 bounded-small (Instants n a b) h = record { to = omega (arith, h .to) }

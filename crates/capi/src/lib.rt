@@ -7,6 +7,7 @@ ghost use Rattle.transitions.specs.Transition.{readMoment};
 ghost use Rattle.texts.specs.Text.{readText, textForm};
 ghost use Rattle.field_checks.specs.Check.{checkOf, versionOf};
 ghost use Rattle.questions.specs.Question.{ask as askOf, askPlain};
+ghost use Rattle.named_questions.specs.Named.{askNamed};
 ghost use Rattle.replies.specs.Reply.{Gives, Puts};
 ghost use Rattle.replies.specs.Functions.{readReply, numberReply, textReply, momentReply, previousOf, integerForm};
 ghost use Rattle.file_replies.specs.Functions.{verdictResult, markOf, answerReply, versionReply};
@@ -46,6 +47,22 @@ pub extern "C" fn nzd_ask_plain(file: &[u8], id: &[u8], ticks: i64, out: &mut [i
     ensures { λ r. ⌜ Gives (answerReply (askPlain (now (file .entry)) (now (id .entry)) ticks)) (now (out .entry)) r (now (out .exit)) ⌝ }
 {
     let a = questions::ask_plain(file, id, ticks);
+    file_replies::give_answer(a, out)
+}
+
+// The named question.
+#[no_mangle]
+pub extern "C" fn nzd_ask_named(
+    file: &[u8],
+    name: &[u8],
+    ticks: i64,
+    more: bool,
+    out: &mut [i64; 6],
+) -> u64
+    ensures { λ r. ⌜ Gives (answerReply (askNamed (now (file .entry)) (now (name .entry)) ticks (markOf more))) (now (out .entry)) r (now (out .exit)) ⌝ }
+{
+    let mark = file_replies::mark_of(more);
+    let a = named_questions::ask_named(file, name, ticks, mark);
     file_replies::give_answer(a, out)
 }
 

@@ -11,18 +11,12 @@ ghost use mathlib.Core.Path.{_≡_};
 ghost use Prim.Native.Nat.{_≤_};
 ghost use lib.ListN.{length};
 ghost use Rattle.field_checks.specs.Check.{conclusion, checkOf, versionOf};
-ghost use Rattle.field_checks.specs.Cursor.{Indexed, Stepped};
+ghost use Rattle.field_checks.specs.Cursor.{Indexed, Ordered, Stepped};
 
 // The frame at a cursor.
-fn step(
-    s: &[u8],
-    c: Cursor,
-    index: &mut [u32; 8192],
-    seen: &mut [u32; 8192],
-    marks: &mut [u16; 16384],
-) -> Turn
-    requires { ⌜ (c .at ≤ length (now s)) × Indexed (now s) (c .kept) (now index) ⌝ }
-    ensures { λ r. ⌜ Stepped (now (s .entry)) c (now (index .entry)) (now (seen .entry)) (now (marks .entry)) (now (index .exit)) (now (seen .exit)) (now (marks .exit)) r ⌝ }
+fn step(s: &[u8], c: Cursor, index: &mut [u32; 8192], order: &mut [u16; 8192]) -> Turn
+    requires { ⌜ (c .at ≤ length (now s)) × Indexed (now s) (c .kept) (now index) × Ordered (now s) (c .kept) (now order) ⌝ }
+    ensures { λ r. ⌜ Stepped (now (s .entry)) c (now (index .entry)) (now (order .entry)) (now (index .exit)) (now (order .exit)) r ⌝ }
 {
     let at = c.at;
     let kept = c.kept;
@@ -38,7 +32,7 @@ fn step(
         }),
         Frame::Whole(i, h, n) => {
             let e = at + (h + n);
-            let t = field_checks::take_field(s, kept, i, at + h, e, index, seen, marks);
+            let t = field_checks::take_field(s, kept, i, at + h, e, index, order);
             match t {
                 Taken::Refused(m) => Turn::Done(Conclusion::Refused(m, at)),
                 Taken::Keep(k) => Turn::Next(Cursor {
@@ -56,8 +50,7 @@ fn walk(s: &[u8]) -> Conclusion
     ensures { λ r. ⌜ r ≡ conclusion (now (s .entry)) ⌝ }
 {
     let mut index = [0u32; 8192];
-    let mut seen = [0u32; 8192];
-    let mut marks = [0u16; 16384];
+    let mut order = [0u16; 8192];
     let mut c = Cursor {
         at: 0,
         prev: 0,
@@ -65,12 +58,13 @@ fn walk(s: &[u8]) -> Conclusion
             start: 0,
             end: 0,
             count: 0,
+            zones: 0,
             text: 0,
             len: 0,
         },
     };
     loop {
-        let t = step(s, c, &mut index, &mut seen, &mut marks);
+        let t = step(s, c, &mut index, &mut order);
         match t {
             Turn::Done(x) => {
                 return x;

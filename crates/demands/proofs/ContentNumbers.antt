@@ -1,12 +1,12 @@
--- The numbers with which a field's contents are refused: 4, or 7 to 11. Assumes nothing.
+-- The numbers with which a field's contents are refused: 4, or 7 to 11; 19 in field 3. Assumes nothing.
 use mathlib.Core.Path.{_≡_, refl, sym}
 use mathlib.Core.Bool.{Bool, true, false}
-use mathlib.Core.List.{List, [], _∷_}
+use mathlib.Core.List.{List, [], _∷_, _++_}
 use mathlib.Core.Logic.{_⊎_, inl, inr}
 use Prim.Native.Nat.{ℕ, zero, suc, _+_, _*_, _%_}
 use native.Mathlib.Omega.{arith}
 use lib.Dec.{ltb, leb, eqb}
-use lib.ListN.{length, drop}
+use lib.ListN.{length, getD, drop}
 use Rattle.base.specs.Pick.{pick, both}
 use Rattle.base.specs.Parsed.{Parsed, got, bad, bind, behindCode, parse, parseByte, ended, prepend, many, behind}
 use Rattle.base.specs.Moment.{finite, endOfTime}
@@ -28,6 +28,9 @@ use Rattle.tails.specs.Tail.{standardOf, tailOf, afterStandardName, afterOffset
 use Rattle.zones.specs.Parse.{zoneOf, afterTail, parseTailed, afterTailByte, afterEnd, afterIntervals, afterCount, parseListed}
 use Rattle.zones.specs.Content.{untailed, tailed, absent, present, fixed, listed}
 use Rattle.zones.specs.Parse.{fixedOf, afterFixedOffset, parseFixed, afterFlag, afterId, parseZone}
+use Rattle.ids.specs.Ids.{among}
+use Rattle.aliases.specs.Dictionary.{Dictionary, keys}
+use Rattle.aliases.specs.Field.{afterKey, parseEntry, parseEntries, allEntries, parseAliases}
 use Rattle.demands.specs.Numbers.{OfContent, too-large, faulty}
 
 -- a code is refused with 7 or 9
@@ -211,3 +214,39 @@ zone-numbers pool s =
         (either (both (ltb (behind startOf endOfTime is) e) (ltb e endOfTime)) (parseTailed pool id is e r) (bad 10)
         (row (parseTail pool e r) (afterTail id is e) (tail pool e r) (λ t q. end (record { id = id; body = listed is e (tailed t) }) q)) ten)
         nine)
+
+-- field 3: besides, 19
+abbrev pub FineAliases : {A : Type 0} → Parsed A → Type 0
+FineAliases (got a r) = Unit {0}
+FineAliases (bad n) = OfContent n ⊎ (n ≡ 19)
+
+weaken : {A : Type 0} (p : Parsed A) → Fine p → FineAliases p
+weaken (got a r) h = tt
+weaken (bad n) h = inl h
+
+alias-row : {A B : Type 0} (p : Parsed A) (k : A → List ℕ → Parsed B) → FineAliases p → ((a : A) (r : List ℕ) → FineAliases (k a r)) → FineAliases (bind p k)
+alias-row (got a r) k h f = f a r
+alias-row (bad n) k h f = h
+
+alias-key : {A : Type 0} (t : Bool) (y : Parsed A) → FineAliases y → FineAliases (pick t (bad 19) y)
+alias-key true y k = inr refl
+alias-key false y k = k
+
+module _ (ts : List (List ℕ)) where
+  alias-entry : (pre : Dictionary) (s : List ℕ) → FineAliases (parseEntry ts pre s)
+  unfolding parseEntry afterKey
+  alias-entry pre s =
+      alias-row (parseName (length ts) s) _ (weaken (parseName (length ts) s) (name (length ts) s)) (λ k r.
+      alias-key (among (getD ts k []) (keys pre)) _
+      (alias-row (parseName (length ts) r) _ (weaken (parseName (length ts) r) (name (length ts) r)) (λ j q. tt)))
+
+  alias-entries : (n : ℕ) (pre : Dictionary) (s : List ℕ) → FineAliases (parseEntries ts n pre s)
+  unfolding parseEntries
+  alias-entries zero pre s = tt
+  alias-entries (suc n) pre s = alias-row (parseEntry ts pre s) _ (alias-entry pre s) (λ e r. alias-entries n (pre ++ (e ∷ [])) r)
+
+  pub aliases-numbers : (d : List ℕ) → FineAliases (parseAliases ts d)
+  unfolding parseAliases allEntries
+  aliases-numbers d =
+      alias-row (parse readCount d) (allEntries ts) (weaken (parse readCount d) (code readCount d (groups-codes 4 7 d))) (λ n s.
+      alias-row (parseEntries ts n [] s) ended (alias-entries n [] s) (λ es r. weaken (ended es r) (end es r)))

@@ -16,3 +16,8 @@ pub mod ContentNumbers
 pub mod Numbers
 pub mod Places
 pub mod WallTimes
+pub mod NamedBeside
+pub mod NamedExact
+pub mod NamedTarget
+pub mod NamedNumbers
+pub mod NamedExample

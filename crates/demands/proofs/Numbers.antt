@@ -31,12 +31,14 @@ use Rattle.pool.proofs.PoolLaws.{pool-faulty}
 use Rattle.zones.specs.Content.{Zone}
 use Rattle.zones.specs.Parse.{parseZone}
 use Rattle.ids.specs.Ids.{among}
+use Rattle.aliases.specs.Dictionary.{Dictionary}
+use Rattle.aliases.specs.Field.{parseAliases}
 use Rattle.frames.specs.Frame.{largest, once, order, zeros, version, sized, field, frame, Field}
 use Rattle.frames.specs.Machine.{Out, found, refused, cut, ended, Content, bad, answer, keep, Job, State, stateAt, fieldAt, verdict, onward, act, step, walk}
 use Rattle.frames.specs.declared.Frame.{Frame}
 use Rattle.frames.specs.declared.Frame.the-variants.{End, Cut, Refused, Version, Whole}
-use Rattle.field_checks.specs.Check.{TextPlace, nowhere, placed, Memory, start, withId, withText, poolIn, poolKept, newId, zoneIn, zoneKept, textIn, textKept, judged, job}
-use Rattle.field_checks.specs.Check.{Kind, poolField, zoneField, textField, otherField, kindOf, contentBy}
+use Rattle.field_checks.specs.Check.{TextPlace, nowhere, placed, Memory, start, withId, withText, poolIn, poolKept, newId, zoneIn, zoneKept, textIn, textKept, aliasesIn, aliasesKept, judged, job}
+use Rattle.field_checks.specs.Check.{Kind, poolField, zoneField, textField, aliasField, otherField, kindOf, contentBy}
 use Rattle.field_checks.specs.Check.{concluded, concludes, conclusion, verdictOf, checkOf, textGiven, versionOf, WellFormed}
 use Rattle.field_checks.specs.Numbers.{givenByVerdict, givenByVersionText}
 use Rattle.field_checks.specs.declared.Conclusion.{Conclusion}
@@ -55,16 +57,16 @@ use Rattle.answers.specs.declared.Mark.{Mark}
 use Rattle.answers.specs.declared.Mark.the-variants.{More, All as Whole′}
 use Rattle.answers.specs.declared.Found.{Found}
 use Rattle.answers.specs.declared.Answer.the-variants.{Refused as No}
-use Rattle.demands.specs.Numbers.{OfContent, too-large, faulty, OfFile, OfCheck, check-cut, check-fault, second-zone, InTable}
+use Rattle.demands.specs.Numbers.{OfContent, too-large, faulty, OfFile, OfCheck, check-cut, check-fault, second-zone, second-key, InTable}
 use Rattle.demands.specs.Numbers.{OfRewrite, rewrite-check, no-room, OfVersion, version-check, no-text}
 use Rattle.demands.specs.Numbers.{OfQuestion, not-yet, question-cut, question-fault, no-zone, no-instant}
-use Rattle.demands.proofs.ContentNumbers.{Fine, zone-numbers}
+use Rattle.demands.proofs.ContentNumbers.{Fine, zone-numbers, FineAliases, aliases-numbers}
 
-of-content : (n : ℕ) → OfContent n → OfFile n
+pub of-content : (n : ℕ) → OfContent n → OfFile n
 of-content n (too-large e) = record { low = omega arith; high = omega arith }
 of-content n (faulty l h) = record { low = omega arith; high = h }
 
-of-text : (n : ℕ) → Faulty n → OfFile n
+pub of-text : (n : ℕ) → Faulty n → OfFile n
 of-text n (inl e) = record { low = omega arith; high = omega arith }
 of-text n (inr h) = record { low = omega (arith, h .0); high = omega (arith, h .1) }
 
@@ -73,7 +75,7 @@ all-drop zero xs a = a
 all-drop (suc n) [] a = a
 all-drop (suc n) (x ∷ xs) a = all-drop n xs (all-tail a)
 
-any : (xs : List ℕ) → All (λ (b : ℕ). Unit {0}) xs
+pub any : (xs : List ℕ) → All (λ (b : ℕ). Unit {0}) xs
 any [] = all-none
 any (x ∷ xs) = all-also tt (any xs)
 
@@ -167,7 +169,7 @@ module _ {M A : Type 0} (J : Job M A) (P R : ℕ → Type 0) (of-file : (n : ℕ
     unfolding walk
     walk-number m bs a = steps (suc (length bs)) (stateAt 0 bs false 0 m) a
 
--- the check: its job's own numbers are those of contents, and 13
+-- the check: its job's own numbers are those of contents, 13 and 19
 check-file : (n : ℕ) → OfFile n → OfCheck n
 check-file n h = check-fault h
 
@@ -209,6 +211,15 @@ kept-text m a d = go (readText d) refl
     go (Untext n) e = check-fault (of-text n (text-faulty d n e))
     go (Part b n) e = two b n (eqb (b + n) (length d))
 
+kept-aliases : (m : Memory) (d : List ℕ) → Kept (aliasesKept m d)
+unfolding aliasesKept
+kept-aliases m d = go (parseAliases (m .pool) d) (aliases-numbers (m .pool) d)
+  where
+    go : (p : Parsed Dictionary) → FineAliases p → Kept (aliasesIn m p)
+    go (got es r) h = tt
+    go (faultOf n) (inl h) = check-fault (of-content n h)
+    go (faultOf n) (inr h) = second-key h
+
 kept : (m : Memory) (g : Field) → Kept (job .content m g)
 unfolding judged
 kept m g = go (kindOf (g .id))
@@ -217,6 +228,7 @@ kept m g = go (kindOf (g .id))
     go poolField = kept-pool m (g .body)
     go zoneField = kept-zone m (g .body)
     go textField = kept-text m (g .start) (g .body)
+    go aliasField = kept-aliases m (g .body)
     go otherField = tt
 
 bytes-all : (f : List ℕ) → Bytes f → All (λ b. b ≤ 255) f
@@ -251,7 +263,7 @@ conclusion-numbers f b = go (walk job start f) (walk-number job OfCheck (λ i. i
     go (cut p) h = check-cut refl
     go (ended m p) h = last (m .text) p
 
--- A CHECK GIVES 0, 2 TO 11 OR 13, and nothing else
+-- A CHECK GIVES 0, 2 TO 11, 13 OR 19, and nothing else
 verdict-numbers : (x : Conclusion) → Ends x → InTable OfCheck (givenByVerdict (verdictOf x))
 verdict-numbers (Unfit n p) h = h
 verdict-numbers (Bare p) h = tt
@@ -269,8 +281,9 @@ check-zero f b e = good-well-formed f (go (checkOf f) (check-numbers f b) e)
     go (Ill n p) (check-cut q) e = absurd (omega arith)
     go (Ill n p) (check-fault q) e = absurd (omega (arith, q .low))
     go (Ill n p) (second-zone q) e = absurd (omega arith)
+    go (Ill n p) (second-key q) e = absurd (omega arith)
 
--- THE VERSION TEXT GIVES 0, 2 TO 11, 12 OR 13
+-- THE VERSION TEXT GIVES 0, 2 TO 11, 12, 13 OR 19
 pub version-numbers : (f : List ℕ) → Bytes f → InTable OfVersion (givenByVersionText (versionOf f))
 version-numbers f b = go (conclusion f) (conclusion-numbers f b)
   where
@@ -279,7 +292,7 @@ version-numbers f b = go (conclusion f) (conclusion-numbers f b)
     go (Bare p) h = no-text refl
     go (WithText a n) h = tt
 
--- A REWRITE GIVES 0, 2 TO 11, 13 OR 15, whatever the output
+-- A REWRITE GIVES 0, 2 TO 11, 13, 15 OR 19, whatever the output
 pub rewrite-numbers : (f d : List ℕ) → Bytes f → InTable OfRewrite (givenByRewritten (rewriteOf f d))
 unfolding rewriteOf
 rewrite-numbers f d b = go (checkOf f) (check-numbers f b)
@@ -293,7 +306,7 @@ rewrite-numbers f d b = go (checkOf f) (check-numbers f b)
     go Good h = by-room (leb (length (preferred f)) (length d))
 
 -- A QUESTION GIVES 0 TO 12 OR 14, whatever the bytes, and never 13
-ask-file : (n : ℕ) → OfFile n → OfQuestion n
+pub ask-file : (n : ℕ) → OfFile n → OfQuestion n
 ask-file n h = question-fault h
 
 ask-above : (i : ℕ) → Unit {0} → ltb 1 i ≡ true → OfQuestion 12
@@ -302,10 +315,10 @@ ask-above i u e = no-zone refl
 -- the walk to the asked zone, whatever is made of it
 module _ {A : Type 0} (P : ℕ → Type 0) (of-file : (n : ℕ) → OfFile n → P n) (above : (i : ℕ) → Unit {0} → ltb 1 i ≡ true → P 12)
     (h : Pool → Zone → A) (id : List ℕ) where
-  abbrev Said : Content Pool A → Type 0
+  abbrev pub Said : Content Pool A → Type 0
   Said = Says (asking h id) P (λ i. Unit {0}) of-file above
 
-  said : (y : Pool) (g : Field) → Said (says h id y g)
+  pub said : (y : Pool) (g : Field) → Said (says h id y g)
   unfolding says
   said y g =
       one (eqb (g .id) 0) (poolSays g (parsePool (g .body))) (zoneSays h id y (parseZone (length (stringsOf (y .body))) (g .body)))

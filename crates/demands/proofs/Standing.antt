@@ -8,9 +8,9 @@ use lib.Dec.{eqb}
 use Rattle.base.specs.Pick.{pick}
 use Rattle.base.proofs.Tests.{never}
 use Rattle.signed.specs.Instant.{instantOf}
-use Rattle.frames.specs.Machine.{Out, found, refused, cut, ended, final, walk}
+use Rattle.frames.specs.Machine.{Out, found, refused, cut, ended, final, Job, walk}
 use Rattle.frames.proofs.GrowthLaws.{walk-stable}
-use Rattle.answers.specs.Answers.{numberOf, Pool, noPool}
+use Rattle.answers.specs.Answers.{numberOf, noPool}
 use Rattle.questions.specs.Question.{question, finish, ask}
 use Rattle.answers.specs.declared.Mark.{Mark}
 use Rattle.answers.specs.declared.Mark.the-variants.{More}
@@ -18,36 +18,37 @@ use Rattle.answers.specs.declared.Found.{Found}
 use Rattle.answers.specs.declared.Answer.the-variants.{Refused}
 
 -- what is not "not yet" is settled
-settled : (o : Out Pool Found) → (numberOf (finish More o) ≡ 1 → ⊥) → final o ≡ true
+settled : {M : Type 0} (o : Out M Found) → (numberOf (finish More o) ≡ 1 → ⊥) → final o ≡ true
 settled (found x p) h = refl
 settled (refused n p) h = refl
 settled (cut p) h = absurd (h refl)
 settled (ended m p) h = absurd (h refl)
 
 -- and the mark does not matter then
-unmarked : (mark : Mark) (o : Out Pool Found) → final o ≡ true → finish mark o ≡ finish More o
+unmarked : {M : Type 0} (mark : Mark) (o : Out M Found) → final o ≡ true → finish mark o ≡ finish More o
 unmarked mark (found x p) h = refl
 unmarked mark (refused n p) h = refl
 unmarked mark (cut p) h = never h refl
 unmarked mark (ended m p) h = never h refl
 
 -- what waits is "not yet"
-pub waits : (o : Out Pool Found) → final o ≡ false → numberOf (finish More o) ≡ 1
+pub waits : {M : Type 0} (o : Out M Found) → final o ≡ false → numberOf (finish More o) ≡ 1
 waits (found x p) h = never refl h
 waits (refused n p) h = never refl h
 waits (cut p) h = refl
 waits (ended m p) h = refl
 
+-- of any job that answers as a question does, behind 14
+pub standing-job : {M : Type 0} (J : Job M Found) (m : M) (bs more : List ℕ) (mark : Mark) (t : Bool)
+    → (numberOf (pick t (Refused 14 0) (finish More (walk J m bs))) ≡ 1 → ⊥)
+    → pick t (Refused 14 0) (finish mark (walk J m (bs ++ more))) ≡ pick t (Refused 14 0) (finish More (walk J m bs))
+standing-job J m bs more mark true h = refl
+standing-job J m bs more mark false h =
+    let s = settled (walk J m bs) h in
+    rw (walk-stable J m bs more s) (unmarked mark (walk J m bs) s)
+
 -- "Take any bytes, any zone name and any instant, asked with more expected. If that gives anything but 'not yet', then whatever bytes
 -- follow, the bytes so lengthened give the same answer or refusal, asked with more expected or as all there is."
 pub standing : (bs more id : List ℕ) (z : ℤ) (mark : Mark) → (numberOf (ask bs id z More) ≡ 1 → ⊥) → ask (bs ++ more) id z mark ≡ ask bs id z More
 unfolding ask
-standing bs more id z mark = go (eqb (instantOf z) 0)
-  where
-    go : (t : Bool) → (numberOf (pick t (Refused 14 0) (finish More (walk (question id (instantOf z)) noPool bs))) ≡ 1 → ⊥)
-        → pick t (Refused 14 0) (finish mark (walk (question id (instantOf z)) noPool (bs ++ more)))
-        ≡ pick t (Refused 14 0) (finish More (walk (question id (instantOf z)) noPool bs))
-    go true h = refl
-    go false h =
-        let s = settled (walk (question id (instantOf z)) noPool bs) h in
-        rw (walk-stable (question id (instantOf z)) noPool bs more s) (unmarked mark (walk (question id (instantOf z)) noPool bs) s)
+standing bs more id z mark = standing-job (question id (instantOf z)) noPool bs more mark (eqb (instantOf z) 0)

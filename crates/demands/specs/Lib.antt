@@ -7,3 +7,4 @@ pub mod Same
 pub mod Whole
 pub mod Rewrites
 pub mod Places
+pub mod Named

@@ -18,6 +18,7 @@ pub data OfCheck (n : ℕ) : Type 0 where
   check-cut : n ≡ 2 → OfCheck n
   check-fault : OfFile n → OfCheck n
   second-zone : n ≡ 13 → OfCheck n
+  second-key : n ≡ 19 → OfCheck n
 
 -- "Rewriting, and reading the version text, check all first; then 15 or 12"
 pub data OfRewrite (n : ℕ) : Type 0 where
@@ -35,6 +36,12 @@ pub data OfQuestion (n : ℕ) : Type 0 where
   question-fault : OfFile n → OfQuestion n
   no-zone : n ≡ 12 → OfQuestion n
   no-instant : n ≡ 14 → OfQuestion n
+
+-- what a named question refuses with: besides, 18 and 19
+pub data OfNamed (n : ℕ) : Type 0 where
+  named-question : OfQuestion n → OfNamed n
+  too-many-steps : n ≡ 18 → OfNamed n
+  named-second-key : n ≡ 19 → OfNamed n
 
 -- what a mapping of a local time refuses with: "Number 17 .. exactly if there is none ..; the refusals of a 'this is all' question, 14 aside,
 -- come first"

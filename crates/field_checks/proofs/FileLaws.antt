@@ -24,6 +24,7 @@ use Rattle.texts.specs.declared.Text.the-variants.{Part, Refused as Untext}
 use Rattle.texts.proofs.TextLaws.{held}
 use Rattle.pool.specs.Pool.{Pool, readStrings, allStrings, counted, parsePool, stringsOf}
 use Rattle.ids.specs.Ids.{among}
+use Rattle.aliases.proofs.PairLaws.{pairs-good}
 use Rattle.frames.specs.Frame.{Field}
 use Rattle.frames.specs.Machine.{Content, bad, keep}
 use Rattle.frames.specs.Fields.{Listing, fields, pass, over}
@@ -31,10 +32,10 @@ use Rattle.frames.proofs.CoverLaws.{ordered-some, framed-listing, listing-frame
 use Rattle.frames.proofs.PassLaws.{pass-head}
 use Rattle.frames.proofs.PartLaws.{walk-ended}
 use Rattle.frames.proofs.WalkLaws.{walk-pass}
-use Rattle.field_checks.specs.Check.{placed, Memory, start, withPool, withId, withText, poolIn, poolKept, newId, zoneKept, textIn, textKept, judged}
+use Rattle.field_checks.specs.Check.{placed, Memory, start, withPool, withId, withText, poolIn, poolKept, newId, zoneKept, textIn, textKept, aliasesKept, judged}
 use Rattle.field_checks.specs.Check.{job, WellFormed, filePool, HasId}
-use Rattle.field_checks.specs.File.{ZoneData, AsZone, TextData, AsText, IsFile}
-use Rattle.field_checks.proofs.ZoneIdLaws.{one-zone, zones-read}
+use Rattle.field_checks.specs.File.{ZoneData, AsZone, TextData, AsText, AliasData, AsAliases, IsFile}
+use Rattle.field_checks.proofs.ZoneIdLaws.{one-zone, zones-read, aliases-read}
 
 -- THE CHECK KEEPS EVERY FIELD OF SUCH A FILE
 -- one of the fields pre has the ID x
@@ -97,31 +98,45 @@ module _ (ts : List (List ℕ)) (pre : List Field) (m : Memory) (k : Known ts pr
           let m′ = withText m (placed (g .start + a) n) in
           (m′, rw (ne-eqb (g .id) 0 (λ e. omega arith), ne-eqb (g .id) 1 (λ e. omega arith), eq-eqb (g .id) 2 i, e, eq-eqb (a + n) (length (g .body)) s), known-on m′ refl refl)
 
-  other-kept : 2 < g .id → Kept
-  unfolding judged
-  other-kept l = (m, rw (ne-eqb (g .id) 0 (λ e. omega arith), ne-eqb (g .id) 1 (λ e. omega arith), ne-eqb (g .id) 2 (λ e. omega arith)), known-on m refl refl)
+  aliases-kept : g .id ≡ 3 → AliasData ts (g .body) → Kept
+  unfolding judged aliasesKept
+  aliases-kept i d = (
+    m,
+    rw (ne-eqb (g .id) 0 (λ e. omega arith), ne-eqb (g .id) 1 (λ e. omega arith), ne-eqb (g .id) 2 (λ e. omega arith), eq-eqb (g .id) 3 i, k .pool, pairs-good ts (g .body) (d .entries) (d .pairs)),
+    known-on m refl refl,
+  )
 
-  field-kept : 0 < g .id → AsZone ts g → AsText g → ((x : List ℕ) → Seen ts x pre → HasId ts x g → ⊥) → Kept
-  field-kept p z t a = by-one (eqb (g .id) 1) refl (eqb (g .id) 2) refl
+  other-kept : 3 < g .id → Kept
+  unfolding judged
+  other-kept l = (
+    m,
+    rw (ne-eqb (g .id) 0 (λ e. omega arith), ne-eqb (g .id) 1 (λ e. omega arith), ne-eqb (g .id) 2 (λ e. omega arith), ne-eqb (g .id) 3 (λ e. omega arith)),
+    known-on m refl refl,
+  )
+
+  field-kept : 0 < g .id → AsZone ts g → AsText g → AsAliases ts g → ((x : List ℕ) → Seen ts x pre → HasId ts x g → ⊥) → Kept
+  field-kept p z t d a = by-id (eqb (g .id) 1) refl (eqb (g .id) 2) refl (eqb (g .id) 3) refl
     where
-      by-one : (u : Bool) → eqb (g .id) 1 ≡ u → (v : Bool) → eqb (g .id) 2 ≡ v → Kept
-      by-one true e v q = let i = eqb-true (g .id) 1 e in zone-kept i (z i) a
-      by-one false e true q = let i = eqb-true (g .id) 2 q in text-kept i (t i)
-      by-one false e false q =
+      by-id : (u : Bool) → eqb (g .id) 1 ≡ u → (v : Bool) → eqb (g .id) 2 ≡ v → (w : Bool) → eqb (g .id) 3 ≡ w → Kept
+      by-id true e v q w r = let i = eqb-true (g .id) 1 e in zone-kept i (z i) a
+      by-id false e true q w r = let i = eqb-true (g .id) 2 q in text-kept i (t i)
+      by-id false e false q true r = let i = eqb-true (g .id) 3 r in aliases-kept i (d i)
+      by-id false e false q false r =
           let n = eqb-false (g .id) 1 e in
           let o = eqb-false (g .id) 2 q in
+          let l = eqb-false (g .id) 3 r in
           other-kept (omega arith)
 
 module _ (ts : List (List ℕ)) where
-  pass-kept : (pre gs : List Field) (m : Memory) → Known ts pre m → All (λ g. 0 < g .id) gs → All (AsZone ts) gs → All AsText gs
+  pass-kept : (pre gs : List Field) (m : Memory) → Known ts pre m → All (λ g. 0 < g .id) gs → All (AsZone ts) gs → All AsText gs → All (AsAliases ts) gs
       → ((cs : List Field) (g : Field) (bs : List Field) (h : Field) (is : List Field) (x : List ℕ) → pre ++ gs ≡ cs ++ g ∷ (bs ++ h ∷ is)
       → HasId ts x g → HasId ts x h → ⊥)
       → (m′ : Memory) × (pass (job .content) m gs ≡ next m′)
   unfolding pass
-  pass-kept pre [] m k p z t a = (m, refl)
-  pass-kept pre (g ∷ gs) m k p z t a =
-      let n = field-kept ts pre m k g (all-head p) (all-head z) (all-head t) one in
-      let r = pass-kept (pre ++ g ∷ []) gs (n .0) (n .2) (all-tail p) (all-tail z) (all-tail t)
+  pass-kept pre [] m k p z t d a = (m, refl)
+  pass-kept pre (g ∷ gs) m k p z t d a =
+      let n = field-kept ts pre m k g (all-head p) (all-head z) (all-head t) (all-head d) one in
+      let r = pass-kept (pre ++ g ∷ []) gs (n .0) (n .2) (all-tail p) (all-tail z) (all-tail t) (all-tail d)
       (λ cs g′ bs h is x e. a cs g′ bs h is x (sym (append-assoc pre (g ∷ []) gs) ∙ e)) in
       (r .0, rw (n .1) (r .1))
     where
@@ -136,7 +151,7 @@ file-well-formed f b g =
     let l = framed-listing f b (g .first) (g .others) (g .framed) in
     let m : Memory = withPool start (g .strings) in
     let r = pass-kept (g .strings) [] (g .others) m (record { pool = refl; seen = λ x e. never e refl }) (ordered-some 0 (g .others) (g .framed .ordered))
-    (g .zones) (g .texts) (g .apart) in
+    (g .zones) (g .texts) (g .aliases) (g .apart) in
     let c : job .content start (g .first) ≡ keep m = rw (eq-eqb (g .first .id) 0 (g .framed .is-first), g .pool) in
     record {
       memory = r .0;
@@ -200,6 +215,7 @@ well-formed-file f w = go (fields f) refl
           strings = stringsOf (g .body);
           pool = pool-is (s .0) g (s .1) (r .is-first);
           zones = all-tail (rw (p, e) at (zones-read f w));
+          aliases = all-tail (rw (p, e) at (aliases-read f w));
           texts = all-tail (pass-texts (g ∷ gs) start (w .memory) k);
           apart = λ gs₁ g′ hs h is x t m n. one-zone f w (g ∷ gs₁) g′ hs h is x (e ∙ ap (λ (l : List Field). g ∷ l) t) (subst⁻¹ (λ (ss : List (List ℕ)). HasId ss x g′) p m) (subst⁻¹ (λ (ss : List (List ℕ)). HasId ss x h) p n);
         }

@@ -5,20 +5,23 @@ use Prim.Native.Nat.{ℕ}
 use lib.Dec.{eqb}
 use borrow.Author.Tests.{eqb-true}
 use Rattle.base.specs.Pick.{pick}
-use Rattle.field_checks.specs.Check.{Kind, poolField, zoneField, textField, otherField, kindOf}
+use Rattle.field_checks.specs.Check.{Kind, poolField, zoneField, textField, aliasField, otherField, kindOf}
 
 -- the ID of a field of a kind
 abbrev pub KindId : ℕ → Kind → Type 0
 KindId i poolField = i ≡ 0
 KindId i zoneField = i ≡ 1
 KindId i textField = i ≡ 2
+KindId i aliasField = i ≡ 3
 KindId i otherField = Unit {0}
 
 pub kind-id : (i : ℕ) → KindId i (kindOf i)
-kind-id i = go (eqb i 0) (eqb i 1) (eqb i 2) refl refl refl
+kind-id i = go (eqb i 0) (eqb i 1) (eqb i 2) (eqb i 3) refl refl refl refl
   where
-    go : (p q r : Bool) → eqb i 0 ≡ p → eqb i 1 ≡ q → eqb i 2 ≡ r → KindId i (pick p poolField (pick q zoneField (pick r textField otherField)))
-    go true q r e f g = eqb-true i 0 e
-    go false true r e f g = eqb-true i 1 f
-    go false false true e f g = eqb-true i 2 g
-    go false false false e f g = tt
+    go : (p q r s : Bool) → eqb i 0 ≡ p → eqb i 1 ≡ q → eqb i 2 ≡ r → eqb i 3 ≡ s
+        → KindId i (pick p poolField (pick q zoneField (pick r textField (pick s aliasField otherField))))
+    go true q r s e f g h = eqb-true i 0 e
+    go false true r s e f g h = eqb-true i 1 f
+    go false false true s e f g h = eqb-true i 2 g
+    go false false false true e f g h = eqb-true i 3 h
+    go false false false false e f g h = tt

@@ -4,7 +4,7 @@ use mathlib.Core.Bool.{Bool, true, false}
 use mathlib.Core.List.{List}
 use Prim.Native.Nat.{ℕ, _+_, _-_, _≤_, _<_}
 use native.Mathlib.Omega.{arith}
-use lib.ListN.{length, take, drop, replicate, length-drop}
+use lib.ListN.{length, take, drop, replicate, length-drop, length-replicate}
 use lib.Seq.{drop-drop}
 use native.Mathlib.Nat.{pos-of-ne-zero}
 use borrow.Author.Tests.{eq-eqb, ne-eqb, lt-ltb, le-ltb, ltb-false}
@@ -45,14 +45,14 @@ module _ (k : Kept) (p : ℕ) (o : p ≡ 4 → ⊥) where
   text-unseen q = rw (eq-eqb (k .text) 0 q, ne-eqb p 4 o)
 
 -- what the definition says where the code refuses, or keeps
-module _ (s ix fl mk : List ℕ) where
-  says-bad : (x : Content Memory ⊥) (m : ℕ) → Says s ix fl mk x (Refused m) → x ≡ bad m
+module _ (s ix od : List ℕ) where
+  says-bad : (x : Content Memory ⊥) (m : ℕ) → Says s ix od x (Refused m) → x ≡ bad m
   says-bad (bad n) m h = ap bad (sym h)
   says-bad (answer v) m h = absurd v
   says-bad (keep y) m h = absurd h
 
-  says-keep : (x : Content Memory ⊥) (k : Kept) → Says s ix fl mk x (Keep k)
-      → (y : Memory) × (x ≡ keep y) × Indexed s k ix × Stands s k fl mk y
+  says-keep : (x : Content Memory ⊥) (k : Kept) → Says s ix od x (Keep k)
+      → (y : Memory) × (x ≡ keep y) × Indexed s k ix × Stands s k od y
   says-keep (bad n) k h = absurd h
   says-keep (answer v) k h = absurd v
   says-keep (keep y) k h = (y, refl, h .0, h .1)
@@ -62,7 +62,7 @@ zero-first : (seen : Bool) (prev i : ℕ) → order seen prev i ≡ 0 → i ≡ 
 zero-first true prev i o z = absurd (omega (arith, order-follows prev i o .some))
 zero-first false prev i o z = refl
 
-module _ (s : List ℕ) (c : Cursor) (ix fl mk : List ℕ) (f : Frame)
+module _ (s : List ℕ) (c : Cursor) (ix od : List ℕ) (f : Frame)
     (h : f ≡ frame 255 (c .at) (seenAt (c .at)) (c .prev) (take (length s - c .at) (drop (c .at) s))) where
   abbrev rest : List ℕ
   rest = drop (c .at) s
@@ -73,17 +73,17 @@ module _ (s : List ℕ) (c : Cursor) (ix fl mk : List ℕ) (f : Frame)
   here : (x : Frame) → f ≡ x → x ≡ frame 255 (c .at) seen (c .prev) rest
   here x q = sym q ∙ h ∙ ap (frame 255 (c .at) seen (c .prev)) (part-from (c .at) s)
 
-  pub step-end : (x : Conclusion) → f ≡ End → x ≡ concluded (textOf (c .kept)) (c .at) → Stepped s c ix fl mk ix fl mk (Done x)
+  pub step-end : (x : Conclusion) → f ≡ End → x ≡ concluded (textOf (c .kept)) (c .at) → Stepped s c ix od ix od (Done x)
   step-end x q e =
       record {
         means = λ y hd.
             rw (from-end job (c .at) rest seen (c .prev) y (here End q)) (e ∙ ap (λ (t : TextPlace). concluded t (c .at)) (sym (hd .stands .text)));
       }
 
-  pub step-cut : f ≡ Cut → Stepped s c ix fl mk ix fl mk (Done (Ill 2 (c .at)))
+  pub step-cut : f ≡ Cut → Stepped s c ix od ix od (Done (Ill 2 (c .at)))
   step-cut q = record { means = λ y hd. rw (from-cut job (c .at) rest seen (c .prev) y (here Cut q)) refl }
 
-  pub step-refused : (n : ℕ) → f ≡ Unframed n → Stepped s c ix fl mk ix fl mk (Done (Ill n (c .at)))
+  pub step-refused : (n : ℕ) → f ≡ Unframed n → Stepped s c ix od ix od (Done (Ill n (c .at)))
   step-refused n q =
       record { means = λ y hd. rw (from-refused job (c .at) rest seen (c .prev) y n (here (Unframed n) q)) refl }
 
@@ -98,7 +98,7 @@ module _ (s : List ℕ) (c : Cursor) (ix fl mk : List ℕ) (f : Frame)
       omega (arith, version-room 255 (c .at) seen (c .prev) rest (here Version q) .1, length-drop (c .at) s)
 
   pub step-version : f ≡ Version
-      → Stepped s c ix fl mk ix fl mk (Next (record { at = c .at + 4; prev = 0; kept = c .kept }))
+      → Stepped s c ix od ix od (Next (record { at = c .at + 4; prev = 0; kept = c .kept }))
   step-version q =
       record {
         means = λ y hd.
@@ -145,22 +145,22 @@ module _ (s : List ℕ) (c : Cursor) (ix fl mk : List ℕ) (f : Frame)
         → job .content y (fieldAt (c .at) rest i n m) ≡ x
     content-is y x e = ap (judged y i (c .at + n)) body-part ∙ e
 
-    module _ (ix′ fl′ mk′ : List ℕ) (r : Taken)
-        (t : TookField s (c .kept) i (c .at + n) (c .at + (n + m)) ix fl mk ix′ fl′ mk′ r) where
-      pub step-bad : (k : ℕ) → r ≡ Refused k → Stepped s c ix fl mk ix′ fl′ mk′ (Done (Ill k (c .at)))
+    module _ (ix′ od′ : List ℕ) (r : Taken)
+        (t : TookField s (c .kept) i (c .at + n) (c .at + (n + m)) ix od ix′ od′ r) where
+      pub step-bad : (k : ℕ) → r ≡ Refused k → Stepped s c ix od ix′ od′ (Done (Ill k (c .at)))
       step-bad k e =
           record {
             means = λ y hd.
-                let w = says-bad s ix′ fl′ mk′ _ k (rw e at (t .means y (hd .stands) (λ z. hd .fresh (first-zero z)))) in
+                let w = says-bad s ix′ od′ _ k (rw e at (t .means y (hd .stands) (λ z. hd .fresh (first-zero z)))) in
                 rw (from-bad job (c .at) rest seen (c .prev) y i n m (here (Whole i n m) q) k (content-is y (bad k) w)) refl;
           }
 
       pub step-keep : (k : Kept) → r ≡ Keep k
-          → Stepped s c ix fl mk ix′ fl′ mk′ (Next (record { at = c .at + (n + m); prev = i; kept = k }))
+          → Stepped s c ix od ix′ od′ (Next (record { at = c .at + (n + m); prev = i; kept = k }))
       step-keep k e =
           record {
             means = λ y hd.
-                let w = says-keep s ix′ fl′ mk′ _ k (rw e at (t .means y (hd .stands) (λ z. hd .fresh (first-zero z)))) in
+                let w = says-keep s ix′ od′ _ k (rw e at (t .means y (hd .stands) (λ z. hd .fresh (first-zero z)))) in
                 let l = field-fits (hd .inside) in
                 let p = ends-past (hd .place) in
                 record {
@@ -181,16 +181,16 @@ module _ (s : List ℕ) (c : Cursor) (ix fl mk : List ℕ) (f : Frame)
           }
 
 -- the walk has come to a cursor
-pub record Walking (s : List ℕ) (c : Cursor) (ix fl mk : List ℕ) : Type 0 where
+pub record Walking (s : List ℕ) (c : Cursor) (ix od : List ℕ) : Type 0 where
   pub memory : Memory
-  pub holds : Represents s c ix fl mk memory
+  pub holds : Represents s c ix od memory
   pub same : conclusion s ≡ concludes (from job (stateOf s c memory))
 
 abbrev pub nothing : Kept
-nothing = record { start = 0; end = 0; count = 0; text = 0; len = 0 }
+nothing = record { start = 0; end = 0; count = 0; zones = 0; text = 0; len = 0 }
 
 pub walking-start : (s : List ℕ)
-    → Walking s (record { at = 0; prev = 0; kept = nothing }) (replicate 8192 0) (replicate 8192 0) (replicate 16384 0)
+    → Walking s (record { at = 0; prev = 0; kept = nothing }) (replicate 8192 0) (replicate 8192 0)
 unfolding conclusion walk startsIn readGroups
 walking-start s =
     record {
@@ -200,22 +200,22 @@ walking-start s =
             inside = omega arith;
             indexed =
                 record { first = omega arith; last = omega arith; ready = record { begins = refl }; count = refl };
-            stands = record { strings = refl; ids = keeps-none _; text = refl };
+            stands = record { strings = refl; ids = keeps-none _ _ (length-replicate {A = ℕ} 8192 0); text = refl };
             place = λ z. absurd (omega arith);
-            fresh = λ z. record { flags = refl; marks = refl; ids = refl };
+            fresh = λ z. refl;
           };
       same = refl;
     }
 
-module _ (s : List ℕ) (c : Cursor) (ix fl mk ix′ fl′ mk′ : List ℕ) (t : Turn) (w : Walking s c ix fl mk)
-    (h : Stepped s c ix fl mk ix′ fl′ mk′ t) where
+module _ (s : List ℕ) (c : Cursor) (ix od ix′ od′ : List ℕ) (t : Turn) (w : Walking s c ix od)
+    (h : Stepped s c ix od ix′ od′ t) where
   pub walking-done : (x : Conclusion) → t ≡ Done x → x ≡ conclusion s
   walking-done x q = (rw q at (h .means (w .memory) (w .holds))) ∙ sym (w .same)
 
-  onward-is : (d : Cursor) → t ≡ Next d → Onward s c (w .memory) d ix′ fl′ mk′
+  onward-is : (d : Cursor) → t ≡ Next d → Onward s c (w .memory) d ix′ od′
   onward-is d q = rw q at (h .means (w .memory) (w .holds))
 
-  pub walking-next : (d : Cursor) → t ≡ Next d → Walking s d ix′ fl′ mk′
+  pub walking-next : (d : Cursor) → t ≡ Next d → Walking s d ix′ od′
   walking-next d q =
       let o = onward-is d q in
       record { memory = o .memory; holds = o .holds; same = w .same ∙ ap concludes (o .same) }

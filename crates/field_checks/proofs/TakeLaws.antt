@@ -16,7 +16,7 @@ use Rattle.pool.specs.Pool.{Pool, parsePool, checked, stringsIn, stringsOf}
 use Rattle.pool.specs.Index.{startsOf, roomOf}
 use Rattle.pool.specs.declared.Checked.{Checked}
 use Rattle.pool.specs.declared.Checked.the-variants.{Strings, Refused as Unpooled}
-use Rattle.pool.proofs.PoolLaws.{ready}
+use Rattle.pool.proofs.PoolLaws.{few, ready}
 use Rattle.zones.specs.Content.{Zone}
 use Rattle.zones.specs.Parse.{parseZone}
 use Rattle.zones.specs.Lookup.{verdictOf}
@@ -24,9 +24,14 @@ use Rattle.zones.specs.declared.ZoneVerdict.{ZoneVerdict}
 use Rattle.zones.specs.declared.ZoneVerdict.the-variants.{Good, Refused as Unzoned}
 use Rattle.zones.proofs.SoundLaws.{zone-sound}
 use Rattle.ids.specs.Memory.{Taken as TakenId}
-use Rattle.ids.proofs.MemoryLaws.{keeps-none}
-use Rattle.field_checks.specs.Check.{Memory, poolIn, poolKept, newId, zoneIn, zoneKept, textKept, judged}
-use Rattle.field_checks.specs.Cursor.{part, poolOf, Indexed, Stands, Fresh, Says, TookPool, TookZone, TookText, TookField}
+use Rattle.ids.proofs.MemoryLaws.{sorted-most, keeps-none}
+use Rattle.aliases.specs.Dictionary.{Dictionary}
+use Rattle.aliases.specs.Field.{parseAliases}
+use Rattle.aliases.specs.View.{verdictOf as aliasVerdict}
+use Rattle.aliases.specs.declared.Verdict.{Verdict as AliasVerdict}
+use Rattle.aliases.specs.declared.Verdict.the-variants.{Good as GoodAliases, Refused as Unaliased}
+use Rattle.field_checks.specs.Check.{Memory, poolIn, poolKept, newId, zoneIn, zoneKept, textKept, aliasesIn, aliasesKept, judged}
+use Rattle.field_checks.specs.Cursor.{part, poolOf, Indexed, Stands, Ordered, Says, TookPool, TookZone, TookText, TookAliases, TookField}
 use Rattle.field_checks.specs.declared.Kept.{Kept}
 use Rattle.field_checks.specs.declared.Taken.{Taken}
 use Rattle.field_checks.specs.declared.Taken.the-variants.{Refused, Keep}
@@ -40,22 +45,22 @@ module _ (s : List ℕ) (k : Kept) (a e : ℕ) (ix ix′ : List ℕ) (c : Checke
     (h : (c ≡ checked (parsePool (part s a e))) × (ix′ ≡ sets ix 0 (startsOf (part s a e)))) where
   pub pool-refused : (n : ℕ) → c ≡ Unpooled n → TookPool s k a e ix ix′ (Refused n)
   unfolding poolKept
-  pool-refused n q = record { means = λ fl mk y st fr. go fl mk y (parsePool (part s a e)) (sym q ∙ h .0) }
+  pool-refused n q = record { means = λ od y st fr. go od y (parsePool (part s a e)) (sym q ∙ h .0) }
     where
-      go : (fl mk : List ℕ) (y : Memory) (p : Pool) → Unpooled n ≡ checked p → Says s ix′ fl mk (poolIn y p) (Refused n)
-      go fl mk y (faulty m) r = cc
-      go fl mk y (got ts q) r = clash cc
+      go : (od : List ℕ) (y : Memory) (p : Pool) → Unpooled n ≡ checked p → Says s ix′ od (poolIn y p) (Refused n)
+      go od y (faulty m) r = cc
+      go od y (got ts q) r = clash cc
 
   pub pool-kept : (n : ℕ) → c ≡ Strings n → a ≤ e → e ≤ length s → roomOf (part s a e) ≤ length ix
-      → TookPool s k a e ix ix′ (Keep (record { start = a; end = e; count = n; text = k .text; len = k .len }))
+      → TookPool s k a e ix ix′ (Keep (record { start = a; end = e; count = n; zones = 0; text = k .text; len = k .len }))
   unfolding poolKept
-  pool-kept n q l₁ l₂ l₃ = record { means = λ fl mk y st fr. go fl mk y st fr (parsePool (part s a e)) refl (sym q ∙ h .0) }
+  pool-kept n q l₁ l₂ l₃ = record { means = λ od y st fr. go od y st fr (parsePool (part s a e)) refl (sym q ∙ h .0) }
     where
-      go : (fl mk : List ℕ) (y : Memory) → Stands s k fl mk y → Fresh fl mk y → (p : Pool) → parsePool (part s a e) ≡ p
+      go : (od : List ℕ) (y : Memory) → Stands s k od y → y .ids ≡ [] → (p : Pool) → parsePool (part s a e) ≡ p
           → Strings n ≡ checked p
-          → Says s ix′ fl mk (poolIn y p) (Keep (record { start = a; end = e; count = n; text = k .text; len = k .len }))
-      go fl mk y st fr (faulty m) i r = clash cc
-      go fl mk y st fr (got ts u) i r =
+          → Says s ix′ od (poolIn y p) (Keep (record { start = a; end = e; count = n; zones = 0; text = k .text; len = k .len }))
+      go od y st fr (faulty m) i r = clash cc
+      go od y st fr (got ts u) i r =
           let w : stringsOf (part s a e) ≡ ts = ap stringsIn i in
           let j : n ≡ length ts = cc in (
             record {
@@ -64,28 +69,31 @@ module _ (s : List ℕ) (k : Kept) (a e : ℕ) (ix ix′ : List ℕ) (c : Checke
               ready = ready (part s a e) ix ix′ l₃ (h .1);
               count = j ∙ sym (ap length w);
             },
-            record { strings = sym w; ids = rw (fr .flags, fr .marks, fr .ids) (keeps-none _); text = st .text },
+            record { strings = sym w; ids = rw fr (keeps-none _ od (st .ids .sorted .room)); text = st .text },
           )
 
+pub zones-most : (s : List ℕ) (k : Kept) (od : List ℕ) → Ordered s k od → k .zones ≤ 8192
+zones-most s k od o = omega (arith, sorted-most _ _ _ o, few (poolOf s k))
+
 -- a field 1, by what the check of the zone gives
-module _ (s : List ℕ) (k : Kept) (a e : ℕ) (ix fl mk : List ℕ) (ind : Indexed s k ix) (v : ZoneVerdict)
+module _ (s : List ℕ) (k : Kept) (a e : ℕ) (ix od : List ℕ) (ind : Indexed s k ix) (v : ZoneVerdict)
     (h : v ≡ verdictOf (parseZone (k .count) (part s a e))) where
-  as-count : (y : Memory) → Stands s k fl mk y → v ≡ verdictOf (parseZone (length (y .pool)) (part s a e))
+  as-count : (y : Memory) → Stands s k od y → v ≡ verdictOf (parseZone (length (y .pool)) (part s a e))
   as-count y st =
       let z : k .count ≡ length (y .pool) = ind .count ∙ ap length (sym (st .strings)) in
       h ∙ ap (λ (n : ℕ). verdictOf (parseZone n (part s a e))) z
 
-  pub zone-refused : (n : ℕ) → v ≡ Unzoned n → TookZone s k a e ix fl mk fl mk (Refused n)
+  pub zone-refused : (n : ℕ) → v ≡ Unzoned n → TookZone s k a e ix od od (Refused n)
   unfolding zoneKept
   zone-refused n q = record { means = λ y st. go y (parseZone (length (y .pool)) (part s a e)) (sym q ∙ as-count y st) }
     where
-      go : (y : Memory) (p : Parsed Zone) → Unzoned n ≡ verdictOf p → Says s ix fl mk (zoneIn y p) (Refused n)
+      go : (y : Memory) (p : Parsed Zone) → Unzoned n ≡ verdictOf p → Says s ix od (zoneIn y p) (Refused n)
       go y (faulty m) r = cc
       go y (got z q) r = clash cc
 
   module _ (id : ℕ) (q : v ≡ Good id) where
-    pub zone-id : id < k .count
-    zone-id = go (parseZone (k .count) (part s a e)) refl (sym q ∙ h)
+    counted : id < k .count
+    counted = go (parseZone (k .count) (part s a e)) refl (sym q ∙ h)
       where
         go : (p : Parsed Zone) → parseZone (k .count) (part s a e) ≡ p → Good id ≡ verdictOf p → id < k .count
         go (faulty m) i r = clash cc
@@ -93,10 +101,13 @@ module _ (s : List ℕ) (k : Kept) (a e : ℕ) (ix fl mk : List ℕ) (ind : Inde
             let w : id ≡ z .id = cc in
             rw w (zone-sound (k .count) (part s a e) z u i .0 .id-ok)
 
+    pub zone-id : id < length (stringsOf (poolOf s k))
+    zone-id = omega (arith, counted, ind .count)
+
     abbrev bytes : List ℕ
     bytes = getD (stringsOf (poolOf s k)) id []
 
-    zone-new : (y : Memory) → Stands s k fl mk y → zoneKept y (part s a e) ≡ newId y bytes
+    zone-new : (y : Memory) → Stands s k od y → zoneKept y (part s a e) ≡ newId y bytes
     unfolding zoneKept
     zone-new y st = go (parseZone (length (y .pool)) (part s a e)) (sym q ∙ as-count y st)
       where
@@ -106,26 +117,26 @@ module _ (s : List ℕ) (k : Kept) (a e : ℕ) (ix fl mk : List ℕ) (ind : Inde
             let w : z .id ≡ id = cc in
             ap (newId y) (ap₂ (λ (ts : List (List ℕ)) (n : ℕ). getD ts n []) (st .strings) w)
 
-    module _ (fl′ mk′ : List ℕ) (b : Bool) (t : TakenId (stringsOf (poolOf s k)) bytes fl mk fl′ mk′ b) where
-      pub zone-second : b ≡ true → TookZone s k a e ix fl mk fl′ mk′ (Refused 13)
+    module _ (od′ : List ℕ) (b : Bool) (t : TakenId (stringsOf (poolOf s k)) bytes od (k .zones) od′ b) where
+      pub zone-second : b ≡ true → TookZone s k a e ix od od′ (Refused 13)
       unfolding newId
       zone-second f =
           record { means = λ y st. rw (zone-new y st, sym (t .said (y .ids) (st .ids)) ∙ f) refl }
 
-      pub zone-first : b ≡ false → TookZone s k a e ix fl mk fl′ mk′ (Keep k)
+      pub zone-first : b ≡ false → TookZone s k a e ix od od′ (Keep (record { start = k .start; end = k .end; count = k .count; zones = k .zones + 1; text = k .text; len = k .len }))
       unfolding newId
       zone-first f =
           record {
             means = λ y st.
                 rw (zone-new y st, sym (t .said (y .ids) (st .ids)) ∙ f)
-                (ind, record { strings = st .strings; ids = rw f at (t .kept (y .ids) (st .ids)); text = st .text });
+                (record { first = ind .first; last = ind .last; ready = ind .ready; count = ind .count }, record { strings = st .strings; ids = rw f at (t .kept (y .ids) (st .ids)); text = st .text });
           }
 
 -- field 2, by what reading its text gives
 module _ (s : List ℕ) (k : Kept) (a e : ℕ) (l₁ : a ≤ e) (l₂ : e ≤ length s) (t : Text) (h : t ≡ readText (part s a e)) where
   pub text-refused : (n : ℕ) → t ≡ Untext n → TookText s k a e (Refused n)
   unfolding textKept
-  text-refused n q = record { means = λ ix fl mk y ind st. rw (sym h ∙ q) refl }
+  text-refused n q = record { means = λ ix od y ind st. rw (sym h ∙ q) refl }
 
   module _ (b n : ℕ) (q : t ≡ Part b n) where
     pub text-inside : b + n ≤ e - a
@@ -136,37 +147,64 @@ module _ (s : List ℕ) (k : Kept) (a e : ℕ) (l₁ : a ≤ e) (l₂ : e ≤ le
 
     pub text-over : (b + n ≡ e - a → ⊥) → TookText s k a e (Refused 9)
     unfolding textKept
-    text-over o = record { means = λ ix fl mk y ind st. rw (sym h ∙ q, part-length s a e l₂, ne-eqb (b + n) (e - a) o) refl }
+    text-over o = record { means = λ ix od y ind st. rw (sym h ∙ q, part-length s a e l₂, ne-eqb (b + n) (e - a) o) refl }
 
     pub text-whole : b + n ≡ e - a
-        → TookText s k a e (Keep (record { start = k .start; end = k .end; count = k .count; text = a + b; len = n }))
+        → TookText s k a e (Keep (record { start = k .start; end = k .end; count = k .count; zones = k .zones; text = a + b; len = n }))
     unfolding textKept
     text-whole o =
         record {
-          means = λ ix fl mk y ind st.
+          means = λ ix od y ind st.
               rw (sym h ∙ q, part-length s a e l₂, eq-eqb (b + n) (e - a) o) (
                 record { first = ind .first; last = ind .last; ready = ind .ready; count = ind .count },
                 record { strings = st .strings; ids = st .ids; text = rw (ne-eqb (a + b) 0 not-first) },
               );
         }
 
+-- field 3, by what its check gives
+module _ (s : List ℕ) (k : Kept) (a e : ℕ) (ix : List ℕ) (ind : Indexed s k ix) (v : AliasVerdict)
+    (h : v ≡ aliasVerdict (parseAliases (stringsOf (poolOf s k)) (part s a e))) where
+  as-strings : (od : List ℕ) (y : Memory) → Stands s k od y → v ≡ aliasVerdict (parseAliases (y .pool) (part s a e))
+  as-strings od y st = h ∙ ap (λ (ts : List (List ℕ)). aliasVerdict (parseAliases ts (part s a e))) (sym (st .strings))
+
+  pub aliases-refused : (n : ℕ) → v ≡ Unaliased n → TookAliases s k a e ix (Refused n)
+  unfolding aliasesKept
+  aliases-refused n q = record { means = λ od y st. go od y (parseAliases (y .pool) (part s a e)) (sym q ∙ as-strings od y st) }
+    where
+      go : (od : List ℕ) (y : Memory) (p : Parsed Dictionary) → Unaliased n ≡ aliasVerdict p → Says s ix od (aliasesIn y p) (Refused n)
+      go od y (faulty m) r = cc
+      go od y (got es u) r = clash cc
+
+  pub aliases-kept : v ≡ GoodAliases → TookAliases s k a e ix (Keep k)
+  unfolding aliasesKept
+  aliases-kept q = record { means = λ od y st. go od y st (parseAliases (y .pool) (part s a e)) (sym q ∙ as-strings od y st) }
+    where
+      go : (od : List ℕ) (y : Memory) → Stands s k od y → (p : Parsed Dictionary) → GoodAliases ≡ aliasVerdict p → Says s ix od (aliasesIn y p) (Keep k)
+      go od y st (faulty m) r = clash cc
+      go od y st (got es u) r = (ind, st)
+
 -- a field by its ID
-module _ (s : List ℕ) (k : Kept) (i a e : ℕ) (ix fl mk : List ℕ) where
-  pub field-pool : (r : Taken) (ix′ : List ℕ) → i ≡ 0 → Indexed s k ix → TookPool s k a e ix ix′ r → TookField s k i a e ix fl mk ix′ fl mk r
+module _ (s : List ℕ) (k : Kept) (i a e : ℕ) (ix od : List ℕ) where
+  pub field-pool : (r : Taken) (ix′ : List ℕ) → i ≡ 0 → Indexed s k ix → TookPool s k a e ix ix′ r → TookField s k i a e ix od ix′ od r
   unfolding judged
   field-pool r ix′ q ind t =
-      record { means = λ y st fr. rw (eq-eqb i 0 q) (t .means fl mk y st (fr q)) }
+      record { means = λ y st fr. rw (eq-eqb i 0 q) (t .means od y st (fr q)) }
 
   module _ (n₀ : i ≡ 0 → ⊥) where
-    pub field-zone : (r : Taken) (fl′ mk′ : List ℕ) → i ≡ 1 → TookZone s k a e ix fl mk fl′ mk′ r → TookField s k i a e ix fl mk ix fl′ mk′ r
+    pub field-zone : (r : Taken) (od′ : List ℕ) → i ≡ 1 → TookZone s k a e ix od od′ r → TookField s k i a e ix od ix od′ r
     unfolding judged
-    field-zone r fl′ mk′ q t = record { means = λ y st fr. rw (ne-eqb i 0 n₀, eq-eqb i 1 q) (t .means y st) }
+    field-zone r od′ q t = record { means = λ y st fr. rw (ne-eqb i 0 n₀, eq-eqb i 1 q) (t .means y st) }
 
     module _ (n₁ : i ≡ 1 → ⊥) (ind : Indexed s k ix) where
-      pub field-text : (r : Taken) → i ≡ 2 → TookText s k a e r → TookField s k i a e ix fl mk ix fl mk r
+      pub field-text : (r : Taken) → i ≡ 2 → TookText s k a e r → TookField s k i a e ix od ix od r
       unfolding judged
-      field-text r q t = record { means = λ y st fr. rw (ne-eqb i 0 n₀, ne-eqb i 1 n₁, eq-eqb i 2 q) (t .means ix fl mk y ind st) }
+      field-text r q t = record { means = λ y st fr. rw (ne-eqb i 0 n₀, ne-eqb i 1 n₁, eq-eqb i 2 q) (t .means ix od y ind st) }
 
-      pub field-other : (i ≡ 2 → ⊥) → TookField s k i a e ix fl mk ix fl mk (Keep k)
-      unfolding judged
-      field-other n₂ = record { means = λ y st fr. rw (ne-eqb i 0 n₀, ne-eqb i 1 n₁, ne-eqb i 2 n₂) (ind, st) }
+      module _ (n₂ : i ≡ 2 → ⊥) where
+        pub field-aliases : (r : Taken) → i ≡ 3 → TookAliases s k a e ix r → TookField s k i a e ix od ix od r
+        unfolding judged
+        field-aliases r q t = record { means = λ y st fr. rw (ne-eqb i 0 n₀, ne-eqb i 1 n₁, ne-eqb i 2 n₂, eq-eqb i 3 q) (t .means od y st) }
+
+        pub field-other : (i ≡ 3 → ⊥) → TookField s k i a e ix od ix od (Keep k)
+        unfolding judged
+        field-other n₃ = record { means = λ y st fr. rw (ne-eqb i 0 n₀, ne-eqb i 1 n₁, ne-eqb i 2 n₂, ne-eqb i 3 n₃) (ind, st) }

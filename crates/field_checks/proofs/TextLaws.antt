@@ -14,9 +14,12 @@ use Rattle.base.specs.Run.{next}
 use Rattle.base.specs.Numbers.{answering, refusing}
 use Rattle.base.specs.All.{All, all-none, all-also}
 use Rattle.base.proofs.AllLaws.{all-head, all-tail, all-right}
+use Rattle.base.specs.Parsed.{Parsed, got, bad as faulty}
 use Rattle.texts.specs.Text.{readText}
 use Rattle.texts.specs.declared.Text.{Text}
 use Rattle.texts.specs.declared.Text.the-variants.{Part, Refused as Untext}
+use Rattle.aliases.specs.Dictionary.{Dictionary}
+use Rattle.aliases.specs.Field.{parseAliases}
 use Rattle.frames.specs.Frame.{Field}
 use Rattle.frames.specs.Machine.{Content, bad, keep}
 use Rattle.frames.specs.Fields.{FieldOf, fields, pass}
@@ -25,10 +28,12 @@ use Rattle.frames.proofs.ChainLaws.{Chain, listing-chain, chain-fields}
 use Rattle.frames.proofs.CoverLaws.{chain-ordered}
 use Rattle.frames.proofs.PassLaws.{pass-first, pass-head}
 use Rattle.frames.proofs.PartLaws.{walk-ended}
-use Rattle.field_checks.specs.Check.{TextPlace, nowhere, placed, Memory, start, withText, textIn, textKept, judged, job, concluded, conclusion}
+use Rattle.field_checks.specs.Check.{TextPlace, nowhere, placed, Memory, start, withText, textIn, textKept, aliasesIn, aliasesKept, judged, job, concluded, conclusion}
+use Rattle.field_checks.specs.Check.{Kind, poolField, zoneField, textField, aliasField, otherField, kindOf, contentBy}
 use Rattle.field_checks.specs.Check.{textGiven, versionOf, WellFormed}
 use Rattle.field_checks.specs.Numbers.{givenByVersionText}
 use Rattle.field_checks.specs.Version.{GivesText, ReadsText}
+use Rattle.field_checks.proofs.KindLaws.{KindId, kind-id}
 use Rattle.field_checks.proofs.VersionLaws.{InField, Came, earlier, among, pass-text, text-bytes}
 use Rattle.field_checks.proofs.WellFormedLaws.{some-field}
 use Rattle.base.proofs.Tests.{clash}
@@ -51,14 +56,27 @@ kept-text m m′ g i e =
         by false s k = clash cc
 
 -- and no field behind it does
-other-content : (m : Memory) (g : Field) → 2 < g .id → job .content m g ≡ keep m
-unfolding judged
-other-content m g l = rw (ne-eqb (g .id) 0 (λ e. omega arith), ne-eqb (g .id) 1 (λ e. omega arith), ne-eqb (g .id) 2 (λ e. omega arith))
+later-keeps : (m m′ : Memory) (g : Field) → 2 < g .id → job .content m g ≡ keep m′ → m ≡ m′
+unfolding judged aliasesKept
+later-keeps m m′ g l e = go (kindOf (g .id)) (kind-id (g .id)) e
+  where
+    aliases : (p : Parsed Dictionary) → aliasesIn m p ≡ keep m′ → m ≡ m′
+    aliases (faulty n) h = clash cc
+    aliases (got es r) h = cc
+
+    go : (k : Kind) → KindId (g .id) k → contentBy k m (g .start) (g .body) ≡ keep m′ → m ≡ m′
+    go poolField i h = absurd (omega arith)
+    go zoneField i h = absurd (omega arith)
+    go textField i h = absurd (omega arith)
+    go aliasField i h = aliases (parseAliases (m .pool) (g .body)) h
+    go otherField i h = cc
 
 later-text : (gs : List Field) (m m′ : Memory) → All (λ g. 2 < g .id) gs → pass (job .content) m gs ≡ next m′ → m′ .text ≡ m .text
 unfolding pass
 later-text [] m m′ a h = let z : m ≡ m′ = cc in sym (ap (λ (y : Memory). y .text) z)
-later-text (g ∷ gs) m m′ a h = later-text gs m m′ (all-tail a) (rw (other-content m g (all-head a)) at h)
+later-text (g ∷ gs) m m′ a h =
+    let s = pass-head (job .content) m m′ g gs h in
+    later-text gs (s .0) m′ (all-tail a) (rw (s .1) at h) ∙ ap (λ (y : Memory). y .text) (sym (later-keeps m (s .0) g (all-head a) (s .1)))
 
 above-two : (prev : ℕ) (gs : List Field) → 2 ≤ prev → InOrder prev gs → All (λ g. 2 < g .id) gs
 above-two prev [] l o = all-none

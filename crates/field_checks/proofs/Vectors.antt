@@ -13,11 +13,13 @@ use Rattle.places.specs.Name.{judgeName, parseName}
 use Rattle.pool.specs.Pool.{allStrings, counted}
 use Rattle.base.specs.Equal.{equal}
 use Rattle.ids.specs.Ids.{among}
+use Rattle.aliases.specs.Dictionary.{keys}
+use Rattle.aliases.specs.Field.{afterKey, parseEntry, parseEntries, allEntries, parseAliases}
 use Rattle.zones.specs.Parse.{zoneOf, afterFixedOffset, parseFixed, afterFlag, afterId, parseZone}
 use Rattle.frames.specs.Frame.{order, zeros, version, sized, field, frame}
 use Rattle.frames.specs.Machine.{act, step, walk}
 use Rattle.frames.specs.Fields.{scan, listing}
-use Rattle.field_checks.specs.Check.{poolKept, newId, zoneKept, textKept, judged, concluded, conclusion, checkOf, versionOf, WellFormed}
+use Rattle.field_checks.specs.Check.{poolKept, newId, zoneKept, textKept, aliasesKept, judged, concluded, conclusion, checkOf, versionOf, WellFormed}
 use Rattle.field_checks.specs.declared.Verdict.the-variants.{Good, Refused}
 use Rattle.field_checks.specs.declared.VersionText.the-variants.{Part as TextPart, Refused as NoText}
 use Rattle.field_checks.specs.File.{IsFile}
@@ -68,10 +70,25 @@ names = refl
 
 -- no version text; "A" in field 2; a byte left over there; a field 3 behind it
 pub texts :
-    map versionOf (file ∷ (file ++ 2 ∷ 2 ∷ 1 ∷ 65 ∷ []) ∷ (file ++ 2 ∷ 3 ∷ 1 ∷ 65 ∷ 0 ∷ []) ∷ (file ++ 2 ∷ 2 ∷ 1 ∷ 65 ∷ 3 ∷ 1 ∷ 9 ∷ []) ∷ bare ∷ [])
+    map versionOf (file ∷ (file ++ 2 ∷ 2 ∷ 1 ∷ 65 ∷ []) ∷ (file ++ 2 ∷ 3 ∷ 1 ∷ 65 ∷ 0 ∷ []) ∷ (file ++ 2 ∷ 2 ∷ 1 ∷ 65 ∷ 3 ∷ 1 ∷ 0 ∷ []) ∷ bare ∷ [])
     ≡ NoText 12 17 ∷ TextPart 20 1 ∷ NoText 9 17 ∷ TextPart 20 1 ∷ NoText 6 4 ∷ []
-unfolding conclusion walk iterate step act frame version zeros field order sized readGroups many counted allStrings ended concluded poolKept judged chars textSized zoneKept newId textKept among equal parseZone afterId afterFlag parseFixed afterFixedOffset zoneOf parseByte parseName judgeName readSum
+unfolding conclusion walk iterate step act frame version zeros field order sized readGroups many counted allStrings ended concluded poolKept judged chars textSized zoneKept newId textKept aliasesKept parseAliases allEntries parseEntries among equal parseZone afterId afterFlag parseFixed afterFixedOffset zoneOf parseByte parseName judgeName readSum
 texts = refl
+
+-- "A" and "B" for a pool, a zone "A" and a field 3
+abbrev pub aliased : List ℕ → List ℕ
+aliased d = bare ++ 0 ∷ 5 ∷ 2 ∷ 1 ∷ 65 ∷ 1 ∷ 66 ∷ 1 ∷ 3 ∷ 0 ∷ 1 ∷ 48 ∷ 3 ∷ d
+
+-- no pair, "B" to "A", "B" to itself; no data, a byte left over, a target past the pool; two equal keys, the second without a target; the
+-- version text of a file whose field 3 is without data
+pub aliases :
+    (map checkOf
+    (aliased (1 ∷ 0 ∷ []) ∷ aliased (3 ∷ 1 ∷ 1 ∷ 0 ∷ []) ∷ aliased (3 ∷ 1 ∷ 1 ∷ 1 ∷ []) ∷ aliased (0 ∷ []) ∷ aliased (4 ∷ 1 ∷ 1 ∷ 0 ∷ 255 ∷ [])
+    ∷ aliased (3 ∷ 1 ∷ 1 ∷ 2 ∷ []) ∷ aliased (4 ∷ 2 ∷ 1 ∷ 0 ∷ 1 ∷ []) ∷ [])
+    ≡ Good ∷ Good ∷ Good ∷ Refused 9 16 ∷ Refused 9 16 ∷ Refused 8 16 ∷ Refused 19 16 ∷ [])
+    × (versionOf (aliased (0 ∷ [])) ≡ NoText 9 16)
+unfolding conclusion walk iterate step act frame version zeros field order sized readGroups many counted allStrings ended concluded poolKept judged chars textSized zoneKept newId textKept aliasesKept parseAliases allEntries parseEntries parseEntry afterKey keys among equal parseZone afterId afterFlag parseFixed afterFixedOffset zoneOf parseByte parseName judgeName readSum
+aliases = (refl, refl)
 
 -- the premise of the laws about well-formed files is met
 pub file-well-formed : WellFormed file

@@ -18,6 +18,8 @@ use Rattle.pool.specs.Pool.{Pool, parsePool}
 use Rattle.zones.specs.Content.{Zone}
 use Rattle.zones.specs.Parse.{parseZone}
 use Rattle.ids.specs.Ids.{among as amongIds}
+use Rattle.aliases.specs.Dictionary.{Dictionary}
+use Rattle.aliases.specs.Field.{parseAliases}
 use Rattle.frames.specs.Frame.{Field}
 use Rattle.frames.specs.Machine.{Out, found, refused, cut, ended, Content, bad, answer, keep, verdict, onward, walk}
 use Rattle.frames.specs.Fields.{fields, pass, FieldOf}
@@ -25,8 +27,8 @@ use Rattle.base.proofs.AllLaws.{all-head, all-right}
 use Rattle.frames.proofs.ChainLaws.{listing-chain, chain-fields}
 use Rattle.frames.proofs.PartLaws.{walk-ended}
 use Rattle.field_checks.specs.Check.{TextPlace, nowhere, placed, Memory, start, withPool, withId, withText, poolIn, poolKept, newId, zoneIn}
-use Rattle.field_checks.specs.Check.{Kind, poolField, zoneField, textField, otherField, kindOf, contentBy}
-use Rattle.field_checks.specs.Check.{zoneKept, textIn, textKept, judged, job, concluded, concludes, conclusion, textGiven, versionOf}
+use Rattle.field_checks.specs.Check.{Kind, poolField, zoneField, textField, aliasField, otherField, kindOf, contentBy}
+use Rattle.field_checks.specs.Check.{zoneKept, textIn, textKept, aliasesIn, aliasesKept, judged, job, concluded, concludes, conclusion, textGiven, versionOf}
 use Rattle.field_checks.specs.Version.{TextIn}
 use Rattle.field_checks.specs.declared.Conclusion.the-variants.{Refused as Ill, Bare, WithText}
 use Rattle.field_checks.specs.declared.VersionText.the-variants.{Part as TextPart}
@@ -97,6 +99,14 @@ text-text m g i = go (readText (g .body)) refl
     go (Untext k) h = no-text m g k
     go (Part b k) h = two b k h (eqb (b + k) (length (g .body))) refl
 
+aliases-text : (m : Memory) (g : Field) → From m g (aliasesKept m (g .body))
+unfolding aliasesKept
+aliases-text m g = go (parseAliases (m .pool) (g .body))
+  where
+    go : (p : Parsed Dictionary) → From m g (aliasesIn m p)
+    go (faulty k) = no-text m g k
+    go (got es r) = same-text m g m refl
+
 field-text : (m : Memory) (g : Field) → From m g (job .content m g)
 unfolding judged
 field-text m g = go (kindOf (g .id)) (kind-id (g .id))
@@ -105,6 +115,7 @@ field-text m g = go (kindOf (g .id)) (kind-id (g .id))
     go poolField i = pool-text m g
     go zoneField i = zone-text m g
     go textField i = text-text m g i
+    go aliasField i = aliases-text m g
     go otherField i = same-text m g m refl
 
 -- one of the fields gs holds the text

@@ -21,6 +21,9 @@ use Rattle.zones.specs.Content.{Zone}
 use Rattle.zones.specs.Parse.{parseZone}
 use Rattle.zones.proofs.SoundLaws.{zone-sound}
 use Rattle.ids.specs.Ids.{among}
+use Rattle.aliases.specs.Dictionary.{Dictionary}
+use Rattle.aliases.specs.Field.{parseAliases}
+use Rattle.aliases.proofs.PairLaws.{good-pairs}
 use Rattle.frames.specs.Frame.{Field}
 use Rattle.frames.specs.Machine.{Content, bad, answer, keep, verdict, onward}
 use Rattle.frames.specs.Fields.{fields, pass}
@@ -30,10 +33,10 @@ use Rattle.frames.proofs.ChainLaws.{Chain, listing-chain, chain-first}
 use Rattle.frames.proofs.PassLaws.{pass-first, pass-head}
 use Rattle.frames.proofs.PartLaws.{walk-ended}
 use Rattle.field_checks.specs.Check.{placed, Memory, start, withPool, withId, withText, poolIn, poolKept, newId, zoneIn}
-use Rattle.field_checks.specs.Check.{Kind, poolField, zoneField, textField, otherField, kindOf, contentBy}
-use Rattle.field_checks.specs.Check.{zoneKept, textIn, textKept, judged, job, WellFormed, filePool, HasId}
+use Rattle.field_checks.specs.Check.{Kind, poolField, zoneField, textField, aliasField, otherField, kindOf, contentBy}
+use Rattle.field_checks.specs.Check.{zoneKept, textIn, textKept, aliasesIn, aliasesKept, judged, job, WellFormed, filePool, HasId}
 use Rattle.field_checks.proofs.KindLaws.{KindId, kind-id}
-use Rattle.field_checks.specs.File.{ZoneData, AsZone}
+use Rattle.field_checks.specs.File.{ZoneData, AsZone, AliasData, AsAliases}
 
 -- m′ has the pool of m, and its IDs at least
 pub record Grown (m m′ : Memory) : Type 0 where
@@ -92,6 +95,14 @@ text-grows m a d = go (readText d)
     go (Untext n) m′ e = bad-keeps m n m′ e
     go (Part b n) m′ e = two b n (eqb (b + n) (length d)) m′ e
 
+aliases-grows : (m : Memory) (d : List ℕ) → KeepGrows m (aliasesKept m d)
+unfolding aliasesKept
+aliases-grows m d = go (parseAliases (m .pool) d)
+  where
+    go : (p : Parsed Dictionary) → KeepGrows m (aliasesIn m p)
+    go (faulty n) m′ e = bad-keeps m n m′ e
+    go (got es r) m′ e = let z : m ≡ m′ = cc in rw (← z) (grown-same m)
+
 -- a field behind the first
 pub field-grows : (m : Memory) (g : Field) → 0 < g .id → KeepGrows m (job .content m g)
 unfolding judged
@@ -101,6 +112,7 @@ field-grows m g l = go (kindOf (g .id)) (kind-id (g .id))
     go poolField i m′ e = absurd (omega arith)
     go zoneField i m′ e = zone-grows m (g .body) m′ e
     go textField i m′ e = text-grows m (g .start) (g .body) m′ e
+    go aliasField i m′ e = aliases-grows m (g .body) m′ e
     go otherField i m′ e = let z : m ≡ m′ = cc in rw (← z) (grown-same m)
 
 pass-grows : (gs : List Field) (m m′ : Memory) → All (λ g. 0 < g .id) gs → pass (job .content) m gs ≡ next m′ → Grown m m′
@@ -179,6 +191,29 @@ one-zone f w gs g hs h is x s p q =
         let t : filePool (fields f) ≡ m .0 .pool = ap filePool s ∙ sym (first-pool k (m .0) (z .0) (m .1)) in
         twice (m .0) (w .memory) ks g hs h is x (z .1) (rw (m .1) at e′) (rw t at p) (rw t at q)
 
+-- what is so of every field that the check keeps, with the pool that it remembers, is so of every field of a well-formed file
+pass-read : (P : List (List ℕ) → Field → Type 0) → ((m m′ : Memory) (g : Field) → job .content m g ≡ keep m′ → P (m .pool) g)
+    → (ts : List (List ℕ)) (gs : List Field) (m m′ : Memory) → m .pool ≡ ts → All (λ g. 0 < g .id) gs → pass (job .content) m gs ≡ next m′ → All (P ts) gs
+unfolding pass
+pass-read P each ts [] m m′ q a h = all-none
+pass-read P each ts (g ∷ gs) m m′ q a h =
+    let s = pass-head (job .content) m m′ g gs h in
+    let w = field-grows m g (all-head a) (s .0) (s .1) in
+    all-also (rw q at (each m (s .0) g (s .1))) (pass-read P each ts gs (s .0) m′ (w .pool ∙ q) (all-tail a) (rw (s .1) at h))
+
+fields-read : (P : List (List ℕ) → Field → Type 0) → ((m m′ : Memory) (g : Field) → job .content m g ≡ keep m′ → P (m .pool) g)
+    → ((ts : List (List ℕ)) (g : Field) → g .id ≡ 0 → P ts g) → (f : List ℕ) → WellFormed f → All (P (filePool (fields f))) (fields f)
+unfolding filePool pass
+fields-read P each first f w = go (fields f) (walk-ended job start (w .memory) f (length f) (w .ends) .kept) (listing-chain f 255)
+  where
+    go : (gs : List Field) → pass (job .content) start gs ≡ next (w .memory) → Chain f false 0 4 gs → All (P (filePool gs)) gs
+    go [] e c = all-none
+    go (g ∷ gs) e c =
+        let z = chain-first f 4 g gs c in
+        let s = pass-head (job .content) start (w .memory) g gs e in
+        all-also (first (stringsOf (g .body)) g (z .0))
+        (pass-read P each (stringsOf (g .body)) gs (s .0) (w .memory) (first-pool g (s .0) (z .0) (s .1)) (z .1) (rw (s .1) at e))
+
 -- EVERY FIELD 1 OF A WELL-FORMED FILE IS A ZONE of the file's pool, wherever it stands
 zone-read : (m m′ : Memory) (g : Field) → job .content m g ≡ keep m′ → AsZone (m .pool) g
 unfolding judged zoneKept
@@ -188,26 +223,22 @@ zone-read m m′ g e i = go (parseZone (length (m .pool)) (g .body)) refl (rw (n
     go (faulty n) h k = clash cc
     go (got z r) h k = record { zone = z; parsed = h ∙ ap (got z) (zone-sound (length (m .pool)) (g .body) z r h .1) }
 
-pass-read : (ts : List (List ℕ)) (gs : List Field) (m m′ : Memory) → m .pool ≡ ts → All (λ g. 0 < g .id) gs
-    → pass (job .content) m gs ≡ next m′ → All (AsZone ts) gs
-unfolding pass
-pass-read ts [] m m′ q a h = all-none
-pass-read ts (g ∷ gs) m m′ q a h =
-    let s = pass-head (job .content) m m′ g gs h in
-    let w = field-grows m g (all-head a) (s .0) (s .1) in
-    all-also (rw q at (zone-read m (s .0) g (s .1))) (pass-read ts gs (s .0) m′ (w .pool ∙ q) (all-tail a) (rw (s .1) at h))
-
 pub zones-read : (f : List ℕ) → WellFormed f → All (AsZone (filePool (fields f))) (fields f)
-unfolding filePool pass
-zones-read f w = go (fields f) (walk-ended job start (w .memory) f (length f) (w .ends) .kept) (listing-chain f 255)
+zones-read f w = fields-read AsZone zone-read (λ ts g z i. absurd (omega arith)) f w
+
+-- AND ITS FIELD 3 IS A DICTIONARY
+alias-read : (m m′ : Memory) (g : Field) → job .content m g ≡ keep m′ → AsAliases (m .pool) g
+unfolding judged aliasesKept
+alias-read m m′ g e i =
+    go (parseAliases (m .pool) (g .body)) refl
+    (rw (ne-eqb (g .id) 0 (λ z. omega arith), ne-eqb (g .id) 1 (λ z. omega arith), ne-eqb (g .id) 2 (λ z. omega arith), eq-eqb (g .id) 3 i) at e)
   where
-    go : (gs : List Field) → pass (job .content) start gs ≡ next (w .memory) → Chain f false 0 4 gs → All (AsZone (filePool gs)) gs
-    go [] e c = all-none
-    go (g ∷ gs) e c =
-        let z = chain-first f 4 g gs c in
-        let s = pass-head (job .content) start (w .memory) g gs e in
-        all-also (λ (i : g .id ≡ 1). absurd (omega (arith, z .0)))
-        (pass-read (stringsOf (g .body)) gs (s .0) (w .memory) (first-pool g (s .0) (z .0) (s .1)) (z .1) (rw (s .1) at e))
+    go : (p : Parsed Dictionary) → parseAliases (m .pool) (g .body) ≡ p → aliasesIn m p ≡ keep m′ → AliasData (m .pool) (g .body)
+    go (faulty n) h k = clash cc
+    go (got es r) h k = record { entries = es; pairs = good-pairs (m .pool) (g .body) es r h .1 }
+
+pub aliases-read : (f : List ℕ) → WellFormed f → All (AsAliases (filePool (fields f))) (fields f)
+aliases-read f w = fields-read AsAliases alias-read (λ ts g z i. absurd (omega arith)) f w
 
 pub each-zone : (f : List ℕ) → WellFormed f → (gs : List Field) (g : Field) (hs : List Field) → fields f ≡ gs ++ g ∷ hs → g .id ≡ 1
     → (x : List ℕ) × HasId (filePool (fields f)) x g

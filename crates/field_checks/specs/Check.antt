@@ -14,6 +14,8 @@ use Rattle.pool.specs.Pool.{Pool, parsePool, stringsOf}
 use Rattle.zones.specs.Content.{Zone}
 use Rattle.zones.specs.Parse.{parseZone}
 use Rattle.ids.specs.Ids.{among}
+use Rattle.aliases.specs.Dictionary.{Dictionary}
+use Rattle.aliases.specs.Field.{parseAliases}
 use Rattle.frames.specs.Frame.{Field}
 use Rattle.frames.specs.Machine.{Out, found, refused, cut, ended, Content, bad, keep, Job, walk}
 use Rattle.frames.specs.Fields.{fields}
@@ -77,22 +79,32 @@ textIn m a size (Part b n) = pick (eqb (b + n) size) (keep (withText m (placed (
 unfoldable pub textKept : Memory → ℕ → List ℕ → Content Memory ⊥
 textKept m a d = textIn m a (length d) (readText d)
 
+abbrev pub aliasesIn : Memory → Parsed Dictionary → Content Memory ⊥
+aliasesIn m (faulty n) = bad n
+aliasesIn m (got es r) = keep m
+
+-- "The whole-file check now gives 7, 8, 9 and 19 for field 3 too"
+unfoldable pub aliasesKept : Memory → List ℕ → Content Memory ⊥
+aliasesKept m d = aliasesIn m (parseAliases (m .pool) d)
+
 -- the kinds of field that the check tells apart
 pub data Kind : Type 0 where
   poolField : Kind
   zoneField : Kind
   textField : Kind
+  aliasField : Kind
   otherField : Kind
 
--- field 0, a field 1, "field 2 (tzdb version)", and any other
+-- field 0, a field 1, "field 2 (tzdb version)", "field 3, the alias dictionary", and any other
 abbrev pub kindOf : ℕ → Kind
-kindOf i = pick (eqb i 0) poolField (pick (eqb i 1) zoneField (pick (eqb i 2) textField otherField))
+kindOf i = pick (eqb i 0) poolField (pick (eqb i 1) zoneField (pick (eqb i 2) textField (pick (eqb i 3) aliasField otherField)))
 
--- a field by its kind, where its data d start at the place a; "Fields 3 and up are stepped over by their size"
+-- a field by its kind, where its data d start at the place a; fields 4 "and up are stepped over by their size"
 abbrev pub contentBy : Kind → Memory → ℕ → List ℕ → Content Memory ⊥
 contentBy poolField m a d = poolKept m d
 contentBy zoneField m a d = zoneKept m d
 contentBy textField m a d = textKept m a d
+contentBy aliasField m a d = aliasesKept m d
 contentBy otherField m a d = keep m
 
 -- a field by its ID
@@ -136,7 +148,7 @@ textGiven (WithText a n) = TextPart a n
 abbrev pub versionOf : List ℕ → VersionText
 versionOf f = textGiven (conclusion f)
 
--- "A file is well formed when none of 2 to 11 or 13 applies to it as a whole": every field is kept to the bytes' end, and there is one
+-- "A file is well formed when none of 2 to 11 or 13 applies to it as a whole", nor by Ask 5 ("'well formed' narrows with it") 19: every field is kept to the bytes' end, and there is one
 pub record WellFormed (f : List ℕ) : Type 0 where
   pub memory : Memory
   pub ends : walk job start f ≡ ended memory (length f)

@@ -3,14 +3,14 @@ use Prim.Native.Nat.{ℕ, _-_, _≤_, _<_}
 use mathlib.Core.Path.{_≡_}
 use mathlib.Core.Bool.{Bool}
 use mathlib.Core.List.{List, []}
-use lib.ListN.{length, take, drop, replicate}
+use lib.ListN.{length, take, drop}
 use lib.Dec.{eqb, ltb}
 use Rattle.base.specs.Pick.{pick}
 use Rattle.pool.specs.Pool.{stringsOf}
 use Rattle.pool.specs.Index.{Ready}
-use Rattle.ids.specs.Memory.{Keeps}
+use Rattle.ids.specs.Memory.{Sorted, Keeps}
 use Rattle.frames.specs.Machine.{Content, bad, answer, keep, State, stateAt, from}
-use Rattle.field_checks.specs.Check.{TextPlace, nowhere, placed, Memory, poolKept, zoneKept, textKept, judged, job, concludes}
+use Rattle.field_checks.specs.Check.{TextPlace, nowhere, placed, Memory, poolKept, zoneKept, textKept, aliasesKept, judged, job, concludes}
 use Rattle.field_checks.specs.declared.Kept.{Kept}
 use Rattle.field_checks.specs.declared.Cursor.{Cursor}
 use Rattle.field_checks.specs.declared.Taken.{Taken}
@@ -37,38 +37,39 @@ pub record Indexed (s : List ℕ) (k : Kept) (ix : List ℕ) : Type 0 where
   pub ready : Ready (poolOf s k) ix
   pub count : k .count ≡ length (stringsOf (poolOf s k))
 
--- k, the flags fl and the marks mk stand for the memory y
-pub record Stands (s : List ℕ) (k : Kept) (fl mk : List ℕ) (y : Memory) : Type 0 where
+-- the array od has the numbers of the zones' IDs, in order
+abbrev pub Ordered : List ℕ → Kept → List ℕ → Type 0
+Ordered s k od = Sorted (stringsOf (poolOf s k)) od (k .zones)
+
+-- k and the array od stand for the memory y
+pub record Stands (s : List ℕ) (k : Kept) (od : List ℕ) (y : Memory) : Type 0 where
   pub strings : y .pool ≡ stringsOf (poolOf s k)
-  pub ids : Keeps (stringsOf (poolOf s k)) fl mk (y .ids)
+  pub ids : Keeps (stringsOf (poolOf s k)) od (k .zones) (y .ids)
   pub text : y .text ≡ textOf k
 
--- no field was seen
-pub record Fresh (fl mk : List ℕ) (y : Memory) : Type 0 where
-  pub flags : fl ≡ replicate 8192 0
-  pub marks : mk ≡ replicate 16384 0
-  pub ids : y .ids ≡ []
-
 -- what the definition says of a field, and what the code says
-abbrev pub Says : List ℕ → List ℕ → List ℕ → List ℕ → Content Memory ⊥ → Taken → Type 0
-Says s ix fl mk (bad n) (Refused m) = m ≡ n
-Says s ix fl mk (bad n) (Keep k) = ⊥
-Says s ix fl mk (answer v) r = ⊥
-Says s ix fl mk (keep y) (Refused m) = ⊥
-Says s ix fl mk (keep y) (Keep k) = Indexed s k ix × Stands s k fl mk y
+abbrev pub Says : List ℕ → List ℕ → List ℕ → Content Memory ⊥ → Taken → Type 0
+Says s ix od (bad n) (Refused m) = m ≡ n
+Says s ix od (bad n) (Keep k) = ⊥
+Says s ix od (answer v) r = ⊥
+Says s ix od (keep y) (Refused m) = ⊥
+Says s ix od (keep y) (Keep k) = Indexed s k ix × Stands s k od y
 
 pub record TookPool (s : List ℕ) (k : Kept) (a e : ℕ) (ix ix′ : List ℕ) (r : Taken) : Type 0 where
-  pub means : (fl mk : List ℕ) (y : Memory) → Stands s k fl mk y → Fresh fl mk y
-      → Says s ix′ fl mk (poolKept y (part s a e)) r
+  pub means : (od : List ℕ) (y : Memory) → Stands s k od y → y .ids ≡ []
+      → Says s ix′ od (poolKept y (part s a e)) r
 
-pub record TookZone (s : List ℕ) (k : Kept) (a e : ℕ) (ix fl mk fl′ mk′ : List ℕ) (r : Taken) : Type 0 where
-  pub means : (y : Memory) → Stands s k fl mk y → Says s ix fl′ mk′ (zoneKept y (part s a e)) r
+pub record TookZone (s : List ℕ) (k : Kept) (a e : ℕ) (ix od od′ : List ℕ) (r : Taken) : Type 0 where
+  pub means : (y : Memory) → Stands s k od y → Says s ix od′ (zoneKept y (part s a e)) r
 
 pub record TookText (s : List ℕ) (k : Kept) (a e : ℕ) (r : Taken) : Type 0 where
-  pub means : (ix fl mk : List ℕ) (y : Memory) → Indexed s k ix → Stands s k fl mk y → Says s ix fl mk (textKept y a (part s a e)) r
+  pub means : (ix od : List ℕ) (y : Memory) → Indexed s k ix → Stands s k od y → Says s ix od (textKept y a (part s a e)) r
 
-pub record TookField (s : List ℕ) (k : Kept) (i a e : ℕ) (ix fl mk ix′ fl′ mk′ : List ℕ) (r : Taken) : Type 0 where
-  pub means : (y : Memory) → Stands s k fl mk y → (i ≡ 0 → Fresh fl mk y) → Says s ix′ fl′ mk′ (judged y i a (part s a e)) r
+pub record TookAliases (s : List ℕ) (k : Kept) (a e : ℕ) (ix : List ℕ) (r : Taken) : Type 0 where
+  pub means : (od : List ℕ) (y : Memory) → Stands s k od y → Says s ix od (aliasesKept y (part s a e)) r
+
+pub record TookField (s : List ℕ) (k : Kept) (i a e : ℕ) (ix od ix′ od′ : List ℕ) (r : Taken) : Type 0 where
+  pub means : (y : Memory) → Stands s k od y → (i ≡ 0 → y .ids ≡ []) → Says s ix′ od′ (judged y i a (part s a e)) r
 
 -- a field came before the place: it is past the version's end
 abbrev pub seenAt : ℕ → Bool
@@ -79,23 +80,23 @@ abbrev pub stateOf : List ℕ → Cursor → Memory → State Memory
 stateOf s c y = stateAt (c .at) (drop (c .at) s) (seenAt (c .at)) (c .prev) y
 
 -- the cursor c and the arrays stand for the memory y
-pub record Represents (s : List ℕ) (c : Cursor) (ix fl mk : List ℕ) (y : Memory) : Type 0 where
+pub record Represents (s : List ℕ) (c : Cursor) (ix od : List ℕ) (y : Memory) : Type 0 where
   pub inside : c .at ≤ length s
   pub indexed : Indexed s (c .kept) ix
-  pub stands : Stands s (c .kept) fl mk y
+  pub stands : Stands s (c .kept) od y
   pub place : 0 < c .at → 4 ≤ c .at
-  pub fresh : c .at ≤ 4 → Fresh fl mk y
+  pub fresh : c .at ≤ 4 → y .ids ≡ []
 
 -- a cursor farther on, from which the walk goes as from c
-pub record Onward (s : List ℕ) (c : Cursor) (y : Memory) (d : Cursor) (ix fl mk : List ℕ) : Type 0 where
+pub record Onward (s : List ℕ) (c : Cursor) (y : Memory) (d : Cursor) (ix od : List ℕ) : Type 0 where
   pub memory : Memory
-  pub holds : Represents s d ix fl mk memory
+  pub holds : Represents s d ix od memory
   pub farther : c .at < d .at
   pub same : from job (stateOf s c y) ≡ from job (stateOf s d memory)
 
-abbrev pub Goes : List ℕ → Cursor → Memory → List ℕ → List ℕ → List ℕ → Turn → Type 0
-Goes s c y ix fl mk (Done x) = x ≡ concludes (from job (stateOf s c y))
-Goes s c y ix fl mk (Next d) = Onward s c y d ix fl mk
+abbrev pub Goes : List ℕ → Cursor → Memory → List ℕ → List ℕ → Turn → Type 0
+Goes s c y ix od (Done x) = x ≡ concludes (from job (stateOf s c y))
+Goes s c y ix od (Next d) = Onward s c y d ix od
 
-pub record Stepped (s : List ℕ) (c : Cursor) (ix fl mk ix′ fl′ mk′ : List ℕ) (t : Turn) : Type 0 where
-  pub means : (y : Memory) → Represents s c ix fl mk y → Goes s c y ix′ fl′ mk′ t
+pub record Stepped (s : List ℕ) (c : Cursor) (ix od ix′ od′ : List ℕ) (t : Turn) : Type 0 where
+  pub means : (y : Memory) → Represents s c ix od y → Goes s c y ix′ od′ t

@@ -1,4 +1,5 @@
 // What the whole-file check takes of each field, and what it comes to at the end.
+use aliases::Verdict as AliasVerdict;
 use pool::Checked;
 use strings::Holder;
 use texts::Text;
@@ -8,15 +9,16 @@ ghost use Prim.Native.Nat.{_≤_};
 ghost use lib.ListN.{length};
 ghost use Rattle.field_checks.specs.Check.{concluded};
 ghost use Rattle.field_checks.specs.VersionPart.{versionPart};
-ghost use Rattle.field_checks.specs.Cursor.{textOf, Indexed, TookPool, TookZone, TookText, TookField};
+ghost use Rattle.field_checks.specs.Cursor.{textOf, Indexed, Ordered, TookPool, TookZone, TookText, TookAliases, TookField};
 
-// What is remembered of the fields seen, beside the arrays: where the pool's data starts and ends and how many strings it holds; where the
-// bytes of the version text start, 0 where there was none, and how many they are. Every field here and in Cursor is as wide as a place, since
+// What is remembered of the fields seen, beside the arrays: where the pool's data starts and ends and how many strings it holds; how many
+// zones there were; where the bytes of the version text start, 0 where there was none, and how many they are. Every field here and in Cursor is as wide as a place, since
 // padding makes each copy slow.
 pub struct Kept {
     pub start: usize,
     pub end: usize,
     pub count: usize,
+    pub zones: usize,
     pub text: usize,
     pub len: usize,
 }
@@ -77,6 +79,7 @@ fn take_pool(s: &[u8], k: Kept, a: usize, e: usize, index: &mut [u32; 8192]) -> 
             start: a,
             end: e,
             count: n,
+            zones: 0,
             text: k.text,
             len: k.len,
         }),
@@ -90,11 +93,10 @@ fn take_zone(
     a: usize,
     e: usize,
     index: &[u32; 8192],
-    seen: &mut [u32; 8192],
-    marks: &mut [u16; 16384],
+    order: &mut [u16; 8192],
 ) -> Taken
-    requires { ⌜ (a ≤ e) × (e ≤ length (now s)) × Indexed (now s) k (now index) ⌝ }
-    ensures { λ r. ⌜ TookZone (now (s .entry)) k a e (now (index .entry)) (now (seen .entry)) (now (marks .entry)) (now (seen .exit)) (now (marks .exit)) r ⌝ }
+    requires { ⌜ (a ≤ e) × (e ≤ length (now s)) × Indexed (now s) k (now index) × Ordered (now s) k (now order) ⌝ }
+    ensures { λ r. ⌜ TookZone (now (s .entry)) k a e (now (index .entry)) (now (order .entry)) (now (order .exit)) r ⌝ }
 {
     let v = lookups::check(&s[a..e], k.count as u64);
     match v {
@@ -102,10 +104,17 @@ fn take_zone(
         ZoneVerdict::Good(id) => {
             let p = k.start;
             let q = k.end;
-            if ids::take_id(&s[p..q], index, k.count, seen, marks, id as usize) {
+            if ids::take_string(&s[p..q], index, order, k.zones, id as usize) {
                 return Taken::Refused(13);
             }
-            Taken::Keep(k)
+            Taken::Keep(Kept {
+                start: p,
+                end: q,
+                count: k.count,
+                zones: k.zones + 1,
+                text: k.text,
+                len: k.len,
+            })
         }
     }
 }
@@ -126,10 +135,24 @@ fn take_text(s: &[u8], k: Kept, a: usize, e: usize) -> Taken
                 start: k.start,
                 end: k.end,
                 count: k.count,
+                zones: k.zones,
                 text: a + b,
                 len: n,
             })
         }
+    }
+}
+
+// Field 3, whose data go from a to e.
+fn take_aliases(s: &[u8], k: Kept, a: usize, e: usize, index: &[u32; 8192]) -> Taken
+    requires { ⌜ (a ≤ e) × (e ≤ length (now s)) × Indexed (now s) k (now index) ⌝ }
+    ensures { λ r. ⌜ TookAliases (now (s .entry)) k a e (now (index .entry)) r ⌝ }
+{
+    let p = k.start;
+    let q = k.end;
+    match aliases::check(&s[p..q], index, k.count, &s[a..e]) {
+        AliasVerdict::Refused(n) => Taken::Refused(n),
+        AliasVerdict::Good => Taken::Keep(k),
     }
 }
 
@@ -141,20 +164,22 @@ pub fn take_field(
     a: usize,
     e: usize,
     index: &mut [u32; 8192],
-    seen: &mut [u32; 8192],
-    marks: &mut [u16; 16384],
+    order: &mut [u16; 8192],
 ) -> Taken
-    requires { ⌜ (a ≤ e) × (e ≤ length (now s)) × Indexed (now s) k (now index) ⌝ }
-    ensures { λ r. ⌜ TookField (now (s .entry)) k i a e (now (index .entry)) (now (seen .entry)) (now (marks .entry)) (now (index .exit)) (now (seen .exit)) (now (marks .exit)) r ⌝ }
+    requires { ⌜ (a ≤ e) × (e ≤ length (now s)) × Indexed (now s) k (now index) × Ordered (now s) k (now order) ⌝ }
+    ensures { λ r. ⌜ TookField (now (s .entry)) k i a e (now (index .entry)) (now (order .entry)) (now (index .exit)) (now (order .exit)) r ⌝ }
 {
     if i == 0 {
         return take_pool(s, k, a, e, index);
     }
     if i == 1 {
-        return take_zone(s, k, a, e, &*index, seen, marks);
+        return take_zone(s, k, a, e, &*index, order);
     }
     if i == 2 {
         return take_text(s, k, a, e);
+    }
+    if i == 3 {
+        return take_aliases(s, k, a, e, &*index);
     }
     Taken::Keep(k)
 }

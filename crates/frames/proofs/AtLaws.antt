@@ -1,13 +1,16 @@
 -- A frame that was read at a place of the bytes: what is known of it there, and how the walk of any job goes on from it. Assumes nothing.
-use mathlib.Core.Path.{_≡_, refl, sym, _∙_}
+use mathlib.Core.Path.{_≡_, refl, sym, ap, _∙_}
 use mathlib.Core.Bool.{Bool, true, false}
-use mathlib.Core.List.{List}
+use mathlib.Core.List.{List, [], _∷_}
 use Prim.Native.Nat.{ℕ, _+_, _-_, _≤_, _<_}
 use native.Mathlib.Omega.{arith}
 use lib.ListN.{length, take, drop, length-drop}
 use lib.Seq.{drop-drop}
+use lib.Dec.{eqb}
+use borrow.Author.Tests.{le-ltb, eqb-true}
+use Rattle.base.specs.Pick.{pick}
 use Rattle.base.proofs.Parts.{part-from}
-use Rattle.frames.specs.Frame.{largest, frame}
+use Rattle.frames.specs.Frame.{largest, order, version, field, frame}
 use Rattle.frames.specs.Machine.{found, refused, cut, ended, bad, answer, keep, Job, State, stateAt, fieldAt, from, walk}
 use Rattle.frames.specs.declared.Frame.{Frame}
 use Rattle.frames.specs.declared.Frame.the-variants.{End, Cut, Refused, Version, Whole}
@@ -87,6 +90,18 @@ module _ {M A : Type 0} (J : Job M A) (m : M) (s : List ℕ) where
   pub front-version : Version ≡ frame (J .last) 0 false 0 s → walk J m s ≡ from J (stateAt 4 (drop 4 s) false 0 m)
   unfolding walk
   front-version e = from-version J 0 s false 0 m e
+
+-- the first field has the ID 0 or is refused, so it is the same to a job that goes to any last ID
+pub first-frame : (last k at prev : ℕ) (r : List ℕ) → frame last at false prev r ≡ frame k at false prev r
+unfolding frame field order
+first-frame last k at prev [] = refl
+first-frame last k at prev (i ∷ r) = ap (pick (eqb at 0) (version (i ∷ r))) (go (eqb i 0) refl)
+  where
+    go : (t : Bool) → eqb i 0 ≡ t → field last at false prev (i ∷ r) ≡ field k at false prev (i ∷ r)
+    go true e =
+        let z : i ≡ 0 = eqb-true i 0 e in
+        rw (e, le-ltb last i (omega arith), le-ltb k i (omega arith))
+    go false e = rw e
 
 pub version-inside : (last : ℕ) (s : List ℕ) → Version ≡ frame last 0 false 0 s → 4 ≤ length s
 version-inside last s e = version-room last 0 false 0 s e .1

@@ -1,4 +1,3 @@
 pub mod IdLaws
-pub mod FlagLaws
-pub mod LinkLaws
+pub mod PlaceLaws
 pub mod MemoryLaws

@@ -1,192 +1,187 @@
--- What the links and last numbers stand for, and what taking an ID says of it. Assumes nothing.
+-- Laws of the places that stand for the strings seen. Assumes nothing.
 use mathlib.Core.Path.{_≡_, refl, sym, _∙_, ap}
 use mathlib.Core.List.{List, [], _∷_}
 use mathlib.Core.Bool.{Bool, true, false}
-use Prim.Native.Nat.{ℕ, suc, _+_, _-_, _≤_, _<_}
+use Prim.Native.Nat.{ℕ, zero, suc, _+_, _-_, _≤_, _<_}
 use native.Mathlib.Omega.{arith}
+use native.Mathlib.Nat.{not-suc-le-zero}
 use native.Mathlib.Numerals.{add-one}
-use lib.ListN.{length, drop, getD, set, replicate, length-drop, length-replicate, length-set, drop-of-length-le}
-use lib.Seq.{drop-cons, drop-drop, getD-drop, getD-set-same, getD-set-other}
-use lib.Dec.{eqb}
-use borrow.Author.Tests.{eqb-true, eqb-false}
+use lib.ListN.{length, getD}
 use Rattle.base.specs.Pick.{pick}
-use Rattle.base.proofs.Tests.{never}
 use Rattle.base.specs.Equal.{equal}
-use Rattle.base.proofs.EqualLaws.{equal-true}
+use Rattle.base.proofs.Tests.{by-order, pick-same}
+use Rattle.base.proofs.EqualLaws.{equal-true, equal-refl}
+use Rattle.string_order.specs.Order.{ordering}
+use Rattle.string_order.specs.declared.Ordering.the-variants.{Less}
 use Rattle.ids.specs.Ids.{among}
-use Rattle.ids.specs.Memory.{held, mix, fourOf, hashFrom, hash, missing, second, Linked, Keeps, Taken}
-use Rattle.ids.proofs.FlagLaws.{held-set, held-one, held-none, unlinked}
-use Rattle.ids.proofs.LinkLaws.{links-more, first-hit, first-behind, linked-stays, same-links}
+use Rattle.ids.specs.Memory.{textAt, textsOf, howMany, Sorted, Keeps, Taken, Between, Finds, Inserted}
+use Rattle.ids.specs.declared.Place.{Place}
+use Rattle.ids.specs.declared.Place.the-variants.{Seen, Free}
+use Rattle.ids.proofs.IdLaws.{among-or}
+use Rattle.ids.proofs.PlaceLaws.{among-at, at-among, between-new}
 
--- where four bytes follow, and where fewer do
-pub hash-four : (s : List ℕ) (i h : ℕ) → 4 ≤ length s - i
-    → hashFrom h (drop i s)
-    ≡ hashFrom (mix h (fourOf (getD s i 0) (getD s (i + 1) 0) (getD s (i + 2) 0) (getD s (i + 3) 0))) (drop (i + 4) s)
-unfolding hashFrom
-hash-four s i h l =
-    let z : i + 0 ≡ i = omega arith in
-    go (drop i s) (rw length-drop l)
-    ∙ rw (getD-drop i s 0 0, getD-drop i s 1 0, getD-drop i s 2 0, getD-drop i s 3 0, drop-drop 4 i s, z)
+-- of ts no more than all are among xs, and more are among those that are xs and x
+howMany-most : (ts xs : List (List ℕ)) → howMany ts xs ≤ length ts
+unfolding howMany
+howMany-most [] xs = omega arith
+howMany-most (t ∷ ts) xs = go (among t xs) (howMany-most ts xs)
   where
-    go : (r : List ℕ) → 4 ≤ length r → hashFrom h r ≡ hashFrom (mix h (fourOf (getD r 0 0) (getD r 1 0) (getD r 2 0) (getD r 3 0))) (drop 4 r)
-    go [] k = absurd (omega arith)
-    go (a ∷ []) k = absurd (omega arith)
-    go (a ∷ b ∷ []) k = absurd (omega arith)
-    go (a ∷ b ∷ c ∷ []) k = absurd (omega arith)
-    go (a ∷ b ∷ c ∷ d ∷ r) k = refl
+    go : (b : Bool) → howMany ts xs ≤ length ts → pick b 1 0 + howMany ts xs ≤ suc (length ts)
+    go true h = omega arith
+    go false h = omega arith
 
-pub hash-one : (s : List ℕ) (i h : ℕ) → i < length s → length s - i < 4
-    → hashFrom h (drop i s) ≡ hashFrom (mix h (getD s i 0)) (drop (i + 1) s)
-unfolding hashFrom
-hash-one s i h l m = rw (drop-cons s i 0 l, add-one i) (go (drop (suc i) s) (rw length-drop (omega arith)))
+pub howMany-new : (ts xs : List (List ℕ)) (k : ℕ) → k < length ts → among (getD ts k []) xs ≡ false → howMany ts xs < length ts
+unfolding howMany
+howMany-new [] xs k h e = absurd (not-suc-le-zero h)
+howMany-new (t ∷ ts) xs zero h e = rw e (omega (arith, howMany-most ts xs))
+howMany-new (t ∷ ts) xs (suc k) h e = go (among t xs) (howMany-new ts xs k (omega arith) e)
   where
-    go : (r : List ℕ) → length r < 3 → hashFrom h (getD s i 0 ∷ r) ≡ hashFrom (mix h (getD s i 0)) r
-    go [] k = refl
-    go (b ∷ []) k = refl
-    go (b ∷ c ∷ []) k = refl
-    go (b ∷ c ∷ d ∷ r) k = absurd (omega arith)
+    go : (b : Bool) → howMany ts xs < length ts → pick b 1 0 + howMany ts xs < suc (length ts)
+    go true r = omega arith
+    go false r = omega arith
 
-pub hash-end : (s : List ℕ) (i h : ℕ) → length s ≤ i → hashFrom h (drop i s) ≡ h
-unfolding hashFrom
-hash-end s i h l = rw (drop-of-length-le s l)
+-- ys are xs and x
+module _ (xs ys : List (List ℕ)) (x : List ℕ) (e : (y : List ℕ) → among y ys ≡ pick (equal x y) true (among y xs)) where
+  no-less : (t : List ℕ) → pick (among t xs) 1 0 ≤ pick (among t ys) 1 0
+  no-less t = rw (e t) (go (equal x t) (among t xs))
+    where
+      go : (a b : Bool) → pick b 1 0 ≤ pick (pick a true b) 1 0
+      go true true = omega arith
+      go true false = omega arith
+      go false b = omega arith
 
--- no links and no last numbers stand for no ID
-pub keeps-none : (ts : List (List ℕ)) → Keeps ts (replicate 8192 0) (replicate 16384 0) []
-unfolding among
-keeps-none ts =
+  howMany-on : (ts : List (List ℕ)) → howMany ts xs ≤ howMany ts ys
+  unfolding howMany
+  howMany-on [] = omega arith
+  howMany-on (t ∷ ts) = omega (arith, no-less t, howMany-on ts)
+
+  howMany-more : (ts : List (List ℕ)) (k : ℕ) → k < length ts → getD ts k [] ≡ x → among x xs ≡ false → howMany ts xs < howMany ts ys
+  unfolding howMany
+  howMany-more [] k h q f = absurd (not-suc-le-zero h)
+  howMany-more (t ∷ ts) zero h q f =
+      let a : among t ys ≡ true = e t ∙ rw (q, equal-refl x) refl in
+      let b : among t xs ≡ false = ap (λ (y : List ℕ). among y xs) q ∙ f in
+      rw (a, b) (omega (arith, howMany-on ts))
+  howMany-more (t ∷ ts) (suc k) h q f = omega (arith, no-less t, howMany-more ts k (omega arith) q f)
+
+pub sorted-most : (ts : List (List ℕ)) (od : List ℕ) (n : ℕ) → Sorted ts od n → n ≤ length ts
+sorted-most ts od n s = omega (arith, s .few, howMany-most ts (textsOf ts od n))
+
+-- no place stands for no string
+pub sorted-none : (ts : List (List ℕ)) (od : List ℕ) → length od ≡ 8192 → Sorted ts od 0
+sorted-none ts od h =
     record {
-      flag-room = length-replicate {A = ℕ} 8192 0;
-      flags = λ x. sym (held-none 0 ts 8192 x);
-      mark-room = length-replicate {A = ℕ} 16384 0;
-      marks = λ x q. never q refl;
-      linked = λ i n. absurd (n (unlinked 8192 i));
-      led = λ h p. absurd (omega (arith, unlinked 16384 h));
+      room = h;
+      known = λ i l. absurd (not-suc-le-zero l);
+      rising = λ i j l m. absurd (not-suc-le-zero m);
+      few = omega arith;
     }
 
-module _ (ts : List (List ℕ)) (fl mk : List ℕ) (mem : List (List ℕ)) (k : Keeps ts fl mk mem) where
-  -- the links do not change the answer
-  second-is : (x : List ℕ) → second ts fl mk x ≡ among x mem
-  unfolding second
-  second-is x = go (missing 8192 ts fl (getD mk (hash x) 0) x) refl
+pub keeps-none : (ts : List (List ℕ)) (od : List ℕ) → length od ≡ 8192 → Keeps ts od 0 []
+unfolding textsOf
+keeps-none ts od h = record { sorted = sorted-none ts od h; same = λ x. refl }
+
+-- the number k of x, put at its place p
+module _ (ts : List (List ℕ)) (od od′ : List ℕ) (n p k : ℕ) (s : Sorted ts od n) (b : Between ts od n (getD ts k []) p)
+    (t : Inserted od od′ n p k) (l : k < length ts) where
+  abbrev x : List ℕ
+  x = getD ts k []
+
+  number-above : (i : ℕ) → p < i → i < suc n → getD od′ i 0 ≡ getD od (i - 1) 0
+  number-above i h m = let z : i - 1 + 1 ≡ i = omega arith in sym (ap (λ (j : ℕ). getD od′ j 0) z) ∙ t .moved .above (i - 1) (omega arith) (omega arith)
+
+  -- the number at a place after it, by cases
+  by-number : (G : ℕ → Type 0) (i : ℕ) → i < suc n → (i < p → G (getD od i 0)) → (i ≡ p → G k) → (p < i → G (getD od (i - 1) 0))
+      → G (getD od′ i 0)
+  by-number G i h f g e =
+      by-order i p
+      (λ q. rw (t .moved .below i q) (f q))
+      (λ q. by-order p i
+      (λ r. rw (number-above i r h) (e r))
+      (λ r. let z : i ≡ p = omega arith in rw (z, t .here) (g z)))
+
+  pub inserted-same : (y : List ℕ) → among y (textsOf ts od′ (suc n)) ≡ pick (equal x y) true (among y (textsOf ts od n))
+  inserted-same y = among-or (among y (textsOf ts od′ (suc n))) (equal x y) (among y (textsOf ts od n)) to here there
     where
-      unseen : (b : Bool) → among x mem ≡ b → missing 8192 ts fl (getD mk (hash x) 0) x ≡ true → false ≡ b
-      unseen true q n = never n (k .marks x q)
-      unseen false q n = refl
+      old : (i : ℕ) → i < n → textAt ts od i ≡ y → pick (equal x y) true (among y (textsOf ts od n)) ≡ true
+      old i h r = rw (among-at ts od n i y h r) (pick-same (equal x y) true)
 
-      go : (b : Bool) → missing 8192 ts fl (getD mk (hash x) 0) x ≡ b → pick b false (held ts fl x) ≡ among x mem
-      go true q = unseen (among x mem) refl q
-      go false q = sym (k .flags x)
+      new : x ≡ y → pick (equal x y) true (among y (textsOf ts od n)) ≡ true
+      new r = let q : equal x y ≡ true = ap (equal x) (sym r) ∙ equal-refl x in rw q refl
 
-  -- a string that was not seen has no link
-  free : (n : ℕ) → n < length ts → among (getD ts n []) mem ≡ false → getD fl n 0 ≡ 0
-  free n l a = go (eqb (getD fl n 0) 0) refl
-    where
-      go : (b : Bool) → eqb (getD fl n 0) 0 ≡ b → getD fl n 0 ≡ 0
-      go true e = eqb-true (getD fl n 0) 0 e
-      go false e =
-          let z : 0 + n ≡ n = omega arith in
-          never (held-one 0 ts fl n l (λ q. eqb-false (getD fl n 0) 0 e (rw z at q))) (sym (k .flags (getD ts n [])) ∙ a)
+      to : among y (textsOf ts od′ (suc n)) ≡ true → pick (equal x y) true (among y (textsOf ts od n)) ≡ true
+      to e =
+          let a = at-among ts od′ (suc n) y e in
+          by-number (λ j. getD ts j [] ≡ y → pick (equal x y) true (among y (textsOf ts od n)) ≡ true) (a .place) (a .inside)
+          (λ q. old (a .place) (omega (arith, b .inside)))
+          (λ q. new)
+          (λ q. old (a .place - 1) (omega (arith, a .inside)))
+          (a .is)
 
-  -- the link of one string more
-  module _ (n h : ℕ) (l : n < length ts) (m : n < 8192) (b : h < 16384) (e : h ≡ hash (getD ts n [])) (new : among (getD ts n []) mem ≡ false) where
-    abbrev v : ℕ
-    v = getD mk h 0 + 1
+      here : equal x y ≡ true → among y (textsOf ts od′ (suc n)) ≡ true
+      here e = among-at ts od′ (suc n) p y (omega (arith, b .inside)) (ap (λ (j : ℕ). getD ts j []) (t .here) ∙ equal-true x y e)
 
-    room : n < length fl
-    room = omega (arith, k .flag-room)
+      there : among y (textsOf ts od n) ≡ true → among y (textsOf ts od′ (suc n)) ≡ true
+      there e =
+          let a = at-among ts od n y e in
+          by-order (a .place) p
+          (λ q. among-at ts od′ (suc n) (a .place) y (omega (arith, a .inside)) (ap (λ (j : ℕ). getD ts j []) (t .moved .below (a .place) q) ∙ a .is))
+          (λ q. among-at ts od′ (suc n) (a .place + 1) y (omega (arith, a .inside))
+          (ap (λ (j : ℕ). getD ts j []) (t .moved .above (a .place) q (a .inside)) ∙ a .is))
 
-    mark-room : h < length mk
-    mark-room = omega (arith, k .mark-room)
+  inserted-rising : (i j : ℕ) → i < j → j < suc n → ordering (textAt ts od′ i) (textAt ts od′ j) ≡ Less
+  inserted-rising i j h m =
+      by-number (λ u. ordering (getD ts u []) (textAt ts od′ j) ≡ Less) i (omega arith)
+      (λ q. by-number (λ v. ordering (textAt ts od i) (getD ts v []) ≡ Less) j m
+      (λ r. s .rising i j h (omega (arith, b .inside)))
+      (λ r. b .below i q)
+      (λ r. s .rising i (j - 1) (omega arith) (omega arith)))
+      (λ q. by-number (λ v. ordering x (getD ts v []) ≡ Less) j m
+      (λ r. absurd (omega arith))
+      (λ r. absurd (omega arith))
+      (λ r. b .above (j - 1) (omega arith) (omega arith)))
+      (λ q. by-number (λ v. ordering (textAt ts od (i - 1)) (getD ts v []) ≡ Less) j m
+      (λ r. absurd (omega arith))
+      (λ r. absurd (omega arith))
+      (λ r. s .rising (i - 1) (j - 1) (omega arith) (omega arith)))
 
-    some : v ≡ 0 → ⊥
-    some q = omega arith
-
-    behind : v - 1 ≡ getD mk h 0
-    behind = omega arith
-
-    stays : (j : ℕ) → Linked fl j → Linked (set fl n v) j
-    stays = linked-stays fl n v room (free n l new) some
-
-    same : (i j : ℕ) (x : List ℕ) → Linked fl j → missing i ts (set fl n v) j x ≡ missing i ts fl j x
-    same i j x = same-links fl n v room (free n l new) some (k .linked) i ts j x
-
-    -- an ID of the same hash is farther on
-    farther : (x : List ℕ) → missing 8192 ts fl (getD mk h 0) x ≡ false → missing 8192 ts (set fl n v) (n + 1) x ≡ false
-    farther x f = go (missing 8192 ts (set fl n v) (n + 1) x) refl
-      where
-        go : (t : Bool) → missing 8192 ts (set fl n v) (n + 1) x ≡ t → t ≡ false
-        go true q =
-            let j : getD (set fl n v) n 0 - 1 ≡ getD mk h 0 = rw (getD-set-same fl n v 0 room) behind in
-            let w : missing 8191 ts (set fl n v) (getD mk h 0) x ≡ true = rw j at (first-behind 8191 ts (set fl n v) n x q) in
-            never (links-more 8191 ts fl (getD mk h 0) x (sym (same 8191 (getD mk h 0) x (k .led h)) ∙ w)) f
-        go false q = refl
-
-    seen-marks : (x : List ℕ) → among x mem ≡ true → missing 8192 ts (set fl n v) (getD (set mk h (n + 1)) (hash x) 0) x ≡ false
-    seen-marks x p = go (eqb (hash x) h) refl
-      where
-        go : (t : Bool) → eqb (hash x) h ≡ t → missing 8192 ts (set fl n v) (getD (set mk h (n + 1)) (hash x) 0) x ≡ false
-        go true q =
-            let z : hash x ≡ h = eqb-true (hash x) h q in
-            rw (z, getD-set-same mk h (n + 1) 0 mark-room) (farther x (rw z at (k .marks x p)))
-        go false q =
-            rw (getD-set-other mk h (hash x) (n + 1) 0 (eqb-false (hash x) h q))
-            (same 8192 (getD mk (hash x) 0) x (k .led (hash x)) ∙ k .marks x p)
-
-    new-linked : (i : ℕ) → (getD (set fl n v) i 0 ≡ 0 → ⊥) → Linked (set fl n v) (getD (set fl n v) i 0 - 1)
-    new-linked i = go (eqb i n) refl
-      where
-        go : (t : Bool) → eqb i n ≡ t → (getD (set fl n v) i 0 ≡ 0 → ⊥) → Linked (set fl n v) (getD (set fl n v) i 0 - 1)
-        go true q d = rw (eqb-true i n q, getD-set-same fl n v 0 room, behind) (stays (getD mk h 0) (k .led h))
-        go false q d =
-            let o : getD (set fl n v) i 0 ≡ getD fl i 0 = getD-set-other fl n i v 0 (eqb-false i n q) in
-            rw o (stays (getD fl i 0 - 1) (k .linked i (rw o at d)))
-
-    new-led : (g : ℕ) → Linked (set fl n v) (getD (set mk h (n + 1)) g 0)
-    new-led g = go (eqb g h) refl
-      where
-        go : (t : Bool) → eqb g h ≡ t → Linked (set fl n v) (getD (set mk h (n + 1)) g 0)
-        go true q =
-            let z : n + 1 - 1 ≡ n = omega arith in
-            rw (eqb-true g h q, getD-set-same mk h (n + 1) 0 mark-room, z, getD-set-same fl n v 0 room) (λ p. some)
-        go false q = rw (getD-set-other mk h g (n + 1) 0 (eqb-false g h q)) (stays (getD mk g 0) (k .led g))
-
-    keeps-more : Keeps ts (set fl n v) (set mk h (n + 1)) (getD ts n [] ∷ mem)
-    unfolding among
-    keeps-more =
-        let z : 0 + n ≡ n = omega arith in
-        record {
-          flag-room = length-set fl n v ∙ k .flag-room;
-          flags = λ x. rw (k .flags x) (sym (rw z at (held-set 0 ts fl x n v l (rw z room) some)));
-          mark-room = length-set mk h (n + 1) ∙ k .mark-room;
-          marks = λ x. go x (equal (getD ts n []) x) refl;
-          linked = new-linked;
-          led = new-led;
-        }
-      where
-        go : (x : List ℕ) (t : Bool) → equal (getD ts n []) x ≡ t → pick t true (among x mem) ≡ true
-            → missing 8192 ts (set fl n v) (getD (set mk h (n + 1)) (hash x) 0) x ≡ false
-        go x true q p =
-            let z : hash x ≡ h = sym (e ∙ ap hash (equal-true (getD ts n []) x q)) in
-            rw (z, getD-set-same mk h (n + 1) 0 mark-room) (first-hit 8192 ts (set fl n v) n x q)
-        go x false q p = seen-marks x p
-
-module _ (ts : List (List ℕ)) (fl mk x : List ℕ) (h : ℕ) (e : h ≡ hash x) where
-  pub second-held : (m r : Bool) → m ≡ missing 8192 ts fl (getD mk h 0) x → m ≡ false → r ≡ held ts fl x → r ≡ second ts fl mk x
-  unfolding second
-  second-held m r q f g = rw (← e, ← q, f) g
-
-  pub second-missing : (m : Bool) → m ≡ missing 8192 ts fl (getD mk h 0) x → m ≡ true → false ≡ second ts fl mk x
-  unfolding second
-  second-missing m q f = rw (← e, ← q, f) refl
-
-module _ (ts : List (List ℕ)) (fl mk : List ℕ) (k : ℕ) where
-  pub taken-second : true ≡ second ts fl mk (getD ts k []) → Taken ts (getD ts k []) fl mk fl mk true
-  taken-second q = record { said = λ mem m. q ∙ second-is ts fl mk mem m (getD ts k []); kept = λ mem m. m }
-
-  pub taken-first : (h : ℕ) → k < length ts → k < 8192 → h < 16384 → h ≡ hash (getD ts k []) → false ≡ second ts fl mk (getD ts k [])
-      → Taken ts (getD ts k []) fl mk (set fl k (getD mk h 0 + 1)) (set mk h (k + 1)) false
-  taken-first h l b c e q =
+  inserted-sorted : Sorted ts od′ (suc n)
+  inserted-sorted =
       record {
-        said = λ mem m. q ∙ second-is ts fl mk mem m (getD ts k []);
-        kept = λ mem m. keeps-more ts fl mk mem m k h l b c e (sym (q ∙ second-is ts fl mk mem m (getD ts k [])));
+        room = t .moved .room ∙ s .room;
+        known = λ i h.
+            by-number (λ j. j < length ts) i h
+            (λ q. s .known i (omega (arith, b .inside)))
+            (λ q. l)
+            (λ q. s .known (i - 1) (omega arith));
+        rising = inserted-rising;
+        few =
+            omega (arith, s .few, howMany-more (textsOf ts od n) (textsOf ts od′ (suc n)) x inserted-same ts k l refl (between-new ts od n x p b));
       }
+
+  keeps-more : (mem : List (List ℕ)) → Keeps ts od n mem → Keeps ts od′ (n + 1) (x ∷ mem)
+  unfolding among
+  keeps-more mem m =
+      rw (add-one n)
+      record {
+        sorted = inserted-sorted;
+        same = λ y. ap (pick (equal x y) true) (m .same y) ∙ sym (inserted-same y);
+      }
+
+  pub taken-new : Taken ts x od n od′ false
+  taken-new = record { said = λ mem m. sym (m .same x ∙ between-new ts od n x p b); kept = keeps-more }
+
+-- what looking for x, the k-th string, gives
+module _ (ts : List (List ℕ)) (od : List ℕ) (n k : ℕ) (x : List ℕ) (e : x ≡ getD ts k []) (r : Place) (f : Finds ts od n x r) where
+  pub taken-seen : r ≡ Seen → Taken ts (getD ts k []) od n od true
+  taken-seen q =
+      let a : among (getD ts k []) (textsOf ts od n) ≡ true = (rw (q, e) at f) .is in
+      record { said = λ mem m. sym (m .same (getD ts k []) ∙ a); kept = λ mem m. m }
+
+  module _ (p : ℕ) (q : r ≡ Free p) where
+    pub found-free : Between ts od n (getD ts k []) p
+    found-free = (rw (q, e) at f) .is
+
+    -- a string that was not seen leaves room for it
+    pub new-room : Sorted ts od n → k < length ts → n < length ts
+    new-room s l = omega (arith, s .few, howMany-new ts (textsOf ts od n) k l (between-new ts od n (getD ts k []) p found-free))

@@ -1,5 +1,5 @@
--- "a second zone with the same ID bytes": whether an ID is among those seen, as a test. among-true and among-in in proofs/IdLaws.antt say
--- that it is membership. To be believed.
+-- "a second zone with the same ID bytes": whether a string is among those seen, as a test. among-true and among-in in proofs/IdLaws.antt
+-- say that it is membership. To be believed.
 use Prim.Native.Nat.{ℕ}
 use mathlib.Core.List.{List, [], _∷_}
 use mathlib.Core.Bool.{Bool, true, false}

@@ -26,7 +26,7 @@ use Rattle.locate.specs.Asked.{poolSays, zoneSays, says, asking, Held, h
 use Rattle.base.proofs.Tests.{clash}
 
 module _ {A : Type 0} (h : Pool → Zone → A) (id : List ℕ) where
-  says-held : (p : Pool) (g : Field) → says h id p g ≡ mapContent (ofHeld h) (says held id p g)
+  pub says-held : (p : Pool) (g : Field) → says h id p g ≡ mapContent (ofHeld h) (says held id p g)
   unfolding says
   says-held p g = go (eqb (g .id) 0)
     where

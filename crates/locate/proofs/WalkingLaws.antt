@@ -1,23 +1,28 @@
 -- Where the walk over the zones stands, and each way on from there. Assumes nothing.
-use mathlib.Core.Path.{_≡_, refl, ap, _∙_, subst}
+use mathlib.Core.Path.{_≡_, refl, sym, ap, _∙_, subst}
 use mathlib.Core.Bool.{true, false}
 use mathlib.Core.List.{List, []}
 use Prim.Native.Nat.{ℕ, _+_, _-_, _≤_, _<_}
 use native.Mathlib.Omega.{arith}
 use lib.ListN.{length, take, drop}
-use borrow.Author.Tests.{eq-eqb, ne-eqb}
+use lib.Seq.{drop-drop}
+use borrow.Author.Tests.{ne-eqb}
+use Rattle.base.proofs.Parts.{part-from}
 use Rattle.base.specs.Parsed.{Parsed, got, bad}
 use Rattle.pool.specs.Pool.{parsePool, stringsOf}
 use Rattle.zones.specs.Content.{Zone}
 use Rattle.zones.specs.Parse.{parseZone}
 use Rattle.frames.specs.Frame.{frame, Field}
-use Rattle.frames.specs.Machine.{Out, refused, cut, ended, bad as fault, answer, keep, stateAt, fieldAt, from, walk}
+use Rattle.frames.specs.Machine.{Out, refused, cut, ended, bad as fault, keep, Job, stateAt, fieldAt, from, walk}
 use Rattle.frames.specs.declared.Frame.{Frame}
 use Rattle.frames.specs.declared.Frame.the-variants.{End as FrameEnd, Cut as FrameCut, Refused as FrameRefused, Version, Whole}
-use Rattle.frames.proofs.AtLaws.{body-part, at-end, at-cut, at-refused, at-version, whole-inside, whole-later, whole-first, at-bad, at-answer, at-keep, front-end, front-cut, front-refused, front-version}
-use Rattle.answers.specs.Answers.{Pool, noPool, poolOf}
-use Rattle.locate.specs.Asked.{poolSays, zoneSays, says, Held, held, holder}
-use Rattle.locate.specs.View.{part, poolAt, Lies, byPool, FirstTo, FirstOf, zoneHere, JudgedTo, JudgedAs, zoneOut, Spotted, LocatedTo, LocatedAs}
+use Rattle.frames.proofs.AtLaws.{body-part, at-end, at-cut, at-refused, at-version, whole-inside, whole-later, whole-first, at-bad, at-answer, at-keep}
+use Rattle.frames.proofs.AtLaws.{front-end, front-cut, front-refused, front-version, first-frame, version-inside}
+use Rattle.frames.proofs.StepLaws.{from-end, from-cut, from-refused, from-bad, from-keep}
+use Rattle.answers.specs.Answers.{Pool, noPool}
+use Rattle.locate.specs.Asked.{zoneSays, says, Held, held, holder}
+use Rattle.locate.specs.View.{part, poolAt, Lies, byPool, versionFrame, poolFrame, StopsAt, ahead, behind, PoolAt, FirstTo, FirstOf}
+use Rattle.locate.specs.View.{zoneHere, JudgedTo, JudgedAs, zoneOut, Spotted, LocatedTo, LocatedAs, locatedOut, SpotIn, Within}
 use Rattle.locate.specs.declared.Spot.{Spot}
 use Rattle.locate.specs.declared.Located.{Located}
 use Rattle.locate.specs.declared.Located.the-variants.{Found, Refused, Cut, End}
@@ -27,18 +32,24 @@ use Rattle.locate.specs.declared.Judged.{Judged}
 use Rattle.locate.specs.declared.Judged.the-variants.{Here, Keep, Fault}
 
 -- field 0, behind the version
-module _ (s : List ℕ) (inside : 4 ≤ length s) (f : Frame) (read : f ≡ frame 1 4 false 0 (take (length s - 4) (drop 4 s))) where
-  abbrev start : List ℕ → Out Pool Held
-  start id = from (holder id) (stateAt 4 (drop 4 s) false 0 noPool)
+module _ (s : List ℕ) (version : versionFrame 1 s ≡ Version) (f : Frame) (read : f ≡ frame 1 4 false 0 (take (length s - 4) (drop 4 s))) where
+  inside : 4 ≤ length s
+  inside = version-inside 1 s (sym version)
 
-  pub pool-end : f ≡ FrameEnd → FirstOf s start (FirstEnd 4)
-  pool-end e = record { means = λ id. at-end (holder id) s 4 false 0 noPool inside f read e }
+  versioned : (last : ℕ) → versionFrame last s ≡ Version
+  versioned last = first-frame last 1 0 0 s ∙ version
 
-  pub pool-cut : f ≡ FrameCut → FirstOf s start (FirstCut 4)
-  pool-cut e = record { means = λ id. at-cut (holder id) s 4 false 0 noPool inside f read e }
+  lent : (x : Frame) → f ≡ x → (last : ℕ) → poolFrame last s ≡ x
+  lent x e last = first-frame last 1 4 0 (drop 4 s) ∙ sym (rw (part-from 4 s) at read) ∙ e
 
-  pub pool-refused : (n : ℕ) → f ≡ FrameRefused n → FirstOf s start (FirstRefused n 4)
-  pool-refused n e = record { means = λ id. at-refused (holder id) s 4 false 0 noPool inside f read n e }
+  pub pool-end : f ≡ FrameEnd → FirstOf s (FirstEnd 4)
+  pool-end e = record { means = behind refl versioned (lent FrameEnd e) }
+
+  pub pool-cut : f ≡ FrameCut → FirstOf s (FirstCut 4)
+  pool-cut e = record { means = behind refl versioned (lent FrameCut e) }
+
+  pub pool-refused : (n : ℕ) → f ≡ FrameRefused n → FirstOf s (FirstRefused n 4)
+  pool-refused n e = record { means = behind refl versioned (lent (FrameRefused n) e) }
 
   pub pool-version : {A : Type 0} → f ≡ Version → A
   pool-version e = absurd (omega (arith, at-version (holder []) s 4 false 0 noPool inside f read e))
@@ -49,59 +60,34 @@ module _ (s : List ℕ) (inside : 4 ≤ length s) (f : Frame) (read : f ≡ fram
         let r = whole-inside (holder []) s 4 false 0 noPool inside f read i h n e in
         record { some = omega arith; order = omega arith; inside = r .1; limit = r .2 }
 
-    abbrev field : Field
-    field = fieldAt 4 (drop 4 s) i h n
-
-    abbrev pooled : Pool
-    pooled = poolOf (4 + h) (take n (drop h (drop 4 s)))
-
-    module _ (id : List ℕ) where
-      pool-says : says held id noPool field ≡ poolSays field (parsePool (part (4 + h) (4 + h + n) s))
-      unfolding says
-      pool-says =
-          rw (eq-eqb i 0 (whole-first (holder id) s 4 false 0 noPool inside f read i h n e refl))
-          (ap (λ (d : List ℕ). poolSays field (parsePool d)) (body-part s 4 h n))
-
-      pool-goes : start id ≡ byPool id s (4 + h) (4 + h + n) (parsePool (part (4 + h) (4 + h + n) s))
-      unfolding byPool
-      pool-goes = go (parsePool (part (4 + h) (4 + h + n) s)) pool-says
-        where
-          go : (p : Parsed (List (List ℕ))) → says held id noPool field ≡ poolSays field p → start id ≡ byPool id s (4 + h) (4 + h + n) p
-          go (bad k) q = at-bad (holder id) s 4 false 0 noPool inside f read i h n e k q
-          go (got ts r) q =
-              at-keep (holder id) s 4 false 0 noPool inside f read i h n e pooled q
-              ∙ ap (λ (j : ℕ). from (holder id) (stateAt (4 + h + n) (drop (4 + h + n) s) true j pooled))
-              (whole-first (holder id) s 4 false 0 noPool inside f read i h n e refl)
-              ∙ ap (λ (b : List ℕ). from (holder id) (stateAt (4 + h + n) (drop (4 + h + n) s) true 0 (poolOf (4 + h) b))) (body-part s 4 h n)
-
-    pub pool-found : FirstOf s start (Pooled (4 + h) (4 + h + n))
-    pool-found = record { means = (pool-lies, λ id. pool-goes id) }
+    pub pool-found : FirstOf s (Pooled (4 + h) (4 + h + n))
+    pool-found = record {
+      means =
+          record {
+            lies = pool-lies;
+            head = h;
+            size = n;
+            version-is = versioned;
+            pool-is =
+                λ last. lent (Whole i h n) e last ∙ ap (λ (k : ℕ). Whole k h n) (whole-first (holder []) s 4 false 0 noPool inside f read i h n e refl);
+            start-is = refl;
+            end-is = refl;
+          };
+    }
 
 -- the version, at the front of all the bytes
 module _ (s : List ℕ) where
-  abbrev all : List ℕ → Out Pool Held
-  all id = walk (holder id) noPool s
+  front : (x : Frame) → x ≡ frame 1 0 false 0 s → (last : ℕ) → versionFrame last s ≡ x
+  front x e last = first-frame last 1 0 0 s ∙ sym e
 
-  pub first-end : FrameEnd ≡ frame 1 0 false 0 s → FirstOf s all (FirstEnd 0)
-  first-end e = record { means = λ id. front-end (holder id) noPool s e }
+  pub first-end : FrameEnd ≡ frame 1 0 false 0 s → FirstOf s (FirstEnd 0)
+  first-end e = record { means = ahead refl (front FrameEnd e) }
 
-  pub first-cut : FrameCut ≡ frame 1 0 false 0 s → FirstOf s all (FirstCut 0)
-  first-cut e = record { means = λ id. front-cut (holder id) noPool s e }
+  pub first-cut : FrameCut ≡ frame 1 0 false 0 s → FirstOf s (FirstCut 0)
+  first-cut e = record { means = ahead refl (front FrameCut e) }
 
-  pub first-refused : (n : ℕ) → FrameRefused n ≡ frame 1 0 false 0 s → FirstOf s all (FirstRefused n 0)
-  first-refused n e = record { means = λ id. front-refused (holder id) noPool s n e }
-
-  pub first-on : Version ≡ frame 1 0 false 0 s → (r : First) → FirstOf s (λ id. from (holder id) (stateAt 4 (drop 4 s) false 0 noPool)) r → FirstOf s all r
-  first-on e r h = record { means = go r (h .means) }
-    where
-      same : (id : List ℕ) → all id ≡ from (holder id) (stateAt 4 (drop 4 s) false 0 noPool)
-      same id = front-version (holder id) noPool s e
-
-      go : (x : First) → FirstTo s (λ id. from (holder id) (stateAt 4 (drop 4 s) false 0 noPool)) x → FirstTo s all x
-      go (Pooled a b) k = (k .0, λ id. same id ∙ k .1 id)
-      go (FirstRefused n p) k = λ id. same id ∙ k id
-      go (FirstCut p) k = λ id. same id ∙ k id
-      go (FirstEnd p) k = λ id. same id ∙ k id
+  pub first-refused : (n : ℕ) → FrameRefused n ≡ frame 1 0 false 0 s → FirstOf s (FirstRefused n 0)
+  first-refused n e = record { means = ahead refl (front (FrameRefused n) e) }
 
 -- the walk over the zones
 module _ (id : List ℕ) (s : List ℕ) (start end : ℕ) where
@@ -207,19 +193,76 @@ module _ {s : List ℕ} {m : Pool} {o : Out Pool Held} {r : Located} (h : Locate
   pub located-end : (p : ℕ) → r ≡ End p → o ≡ ended m p
   located-end p e = located-is (End p) e
 
--- and by the first field
-module _ {s : List ℕ} {o : List ℕ → Out Pool Held} {r : First} (h : FirstOf s o r) where
-  first-is : (x : First) → r ≡ x → FirstTo s o x
-  first-is x e = subst (FirstOf s o) e h .means
+  -- what was located lies in s, and is all that the walk comes to
+  pub located-out : Within s m r × (o ≡ locatedOut s m r)
+  located-out = go r (h .means)
+    where
+      go : (x : Located) → LocatedTo s m o x → Within s m x × (o ≡ locatedOut s m x)
+      go (Found v) k = (record { lies = record { order = k .order; inside = k .inside; count-is = k .count-is } }, k .goes)
+      go (Refused n p) k = (record { lies = tt }, k)
+      go (Cut p) k = (record { lies = tt }, k)
+      go (End p) k = (record { lies = tt }, k)
 
-  pub first-pool : (a e : ℕ) → r ≡ Pooled a e → Lies s a e × ((id : List ℕ) → o id ≡ byPool id s a e (parsePool (part a e s)))
+pub located-lies : {s : List ℕ} {m : Pool} {r : Located} → Within s m r → (v : Spot) → r ≡ Found v → SpotIn s m v
+located-lies {s} {m} w v e = subst (Within s m) e w .lies
+
+-- BY THE FIRST FIELD, for any job
+module _ {s : List ℕ} {r : First} (h : FirstOf s r) where
+  first-is : (x : First) → r ≡ x → FirstTo s x
+  first-is x e = subst (FirstOf s) e h .means
+
+  pub first-pool : (a e : ℕ) → r ≡ Pooled a e → PoolAt s a e
   first-pool a e k = first-is (Pooled a e) k
 
-  pub first-fault : (n p : ℕ) → r ≡ FirstRefused n p → (id : List ℕ) → o id ≡ refused n p
-  first-fault n p k = first-is (FirstRefused n p) k
+  module _ {M A : Type 0} (J : Job M A) (m : M) where
+    pub first-fault : (n p : ℕ) → r ≡ FirstRefused n p → walk J m s ≡ refused n p
+    first-fault n p k = go (first-is (FirstRefused n p) k)
+      where
+        go : StopsAt s (FrameRefused n) p → walk J m s ≡ refused n p
+        go (ahead z f) = front-refused J m s n (sym (f (J .last))) ∙ ap (refused n) (sym z)
+        go (behind z v f) = front-version J m s (sym (v (J .last))) ∙ from-refused J 4 (drop 4 s) false 0 m n (sym (f (J .last))) ∙ ap (refused n) (sym z)
 
-  pub first-short : (p : ℕ) → r ≡ FirstCut p → (id : List ℕ) → o id ≡ cut p
-  first-short p k = first-is (FirstCut p) k
+    pub first-short : (p : ℕ) → r ≡ FirstCut p → walk J m s ≡ cut p
+    first-short p k = go (first-is (FirstCut p) k)
+      where
+        go : StopsAt s FrameCut p → walk J m s ≡ cut p
+        go (ahead z f) = front-cut J m s (sym (f (J .last))) ∙ ap cut (sym z)
+        go (behind z v f) = front-version J m s (sym (v (J .last))) ∙ from-cut J 4 (drop 4 s) false 0 m (sym (f (J .last))) ∙ ap cut (sym z)
 
-  pub first-over : (p : ℕ) → r ≡ FirstEnd p → (id : List ℕ) → o id ≡ ended noPool p
-  first-over p k = first-is (FirstEnd p) k
+    pub first-over : (p : ℕ) → r ≡ FirstEnd p → walk J m s ≡ ended m p
+    first-over p k = go (first-is (FirstEnd p) k)
+      where
+        go : StopsAt s FrameEnd p → walk J m s ≡ ended m p
+        go (ahead z f) = front-end J m s (sym (f (J .last))) ∙ ap (ended m) (sym z)
+        go (behind z v f) = front-version J m s (sym (v (J .last))) ∙ from-end J 4 (drop 4 s) false 0 m (sym (f (J .last))) ∙ ap (ended m) (sym z)
+
+-- by what field 0 says to a job
+module _ {s : List ℕ} {a e : ℕ} (p : PoolAt s a e) {M A : Type 0} (J : Job M A) (m : M) where
+  abbrev pub poolField : Field
+  poolField = record { place = 4; id = 0; start = a; past = e; body = part a e s }
+
+  field-is : fieldAt 4 (drop 4 s) 0 (p .head) (p .size) ≡ poolField
+  field-is =
+      let w : 4 + (p .head + p .size) ≡ 4 + p .head + p .size = omega arith in
+      rw (p .start-is, p .end-is, w, body-part s 4 (p .head) (p .size))
+
+  pub pool-bad : (k : ℕ) → J .content m poolField ≡ fault k → walk J m s ≡ refused k 4
+  pool-bad k c =
+      front-version J m s (sym (p .version-is (J .last)))
+      ∙ from-bad J 4 (drop 4 s) false 0 m 0 (p .head) (p .size) (sym (p .pool-is (J .last))) k (ap (J .content m) field-is ∙ c)
+
+  pub pool-keep : (m′ : M) → J .content m poolField ≡ keep m′ → walk J m s ≡ from J (stateAt e (drop e s) true 0 m′)
+  pool-keep m′ c =
+      let w : 4 + (p .head + p .size) ≡ 4 + p .head + p .size = omega arith in
+      front-version J m s (sym (p .version-is (J .last)))
+      ∙ from-keep J 4 (drop 4 s) false 0 m 0 (p .head) (p .size) (sym (p .pool-is (J .last))) m′ (ap (J .content m) field-is ∙ c)
+      ∙ rw (drop-drop, p .end-is, w)
+
+-- and to the walk to a zone
+pub pool-walk : {s : List ℕ} {a e : ℕ} → PoolAt s a e → (id : List ℕ) → walk (holder id) noPool s ≡ byPool id s a e (parsePool (part a e s))
+unfolding byPool says
+pool-walk {s} {a} {e} p id = go (parsePool (part a e s)) refl
+  where
+    go : (q : Parsed (List (List ℕ))) → parsePool (part a e s) ≡ q → walk (holder id) noPool s ≡ byPool id s a e q
+    go (bad k) z = pool-bad p (holder id) noPool k (rw z)
+    go (got ts r) z = pool-keep p (holder id) noPool (poolAt s a e) (rw z)

@@ -8,14 +8,14 @@ ghost use mathlib.Core.Path.{_≡_};
 ghost use Prim.Native.Nat.{_≤_};
 ghost use lib.ListN.{length, drop};
 ghost use lib.Seq.{sets};
-ghost use mathlib.Core.Bool.{true, false};
+ghost use mathlib.Core.Bool.{true};
 ghost use Rattle.pool.specs.Pool.{parsePool, stringsOf};
 ghost use Rattle.pool.specs.Index.{startsOf, roomOf, Ready};
 ghost use Rattle.zones.specs.Parse.{parseZone};
-ghost use Rattle.frames.specs.Machine.{from, stateAt, walk as walkOf};
-ghost use Rattle.answers.specs.Answers.{noPool};
+ghost use Rattle.frames.specs.Machine.{from, stateAt};
+ghost use Rattle.frames.specs.declared.Frame.the-variants.{Version};
 ghost use Rattle.locate.specs.Asked.{holder};
-ghost use Rattle.locate.specs.View.{part, poolAt, Lies, byPool, FirstOf, JudgedAs, LocatedAs};
+ghost use Rattle.locate.specs.View.{part, poolAt, Lies, byPool, versionFrame, FirstOf, JudgedAs, LocatedAs};
 
 // The field of the asked zone: the place of its ID byte, where its data start and end, and how many strings the pool has.
 pub struct Spot {
@@ -50,8 +50,8 @@ pub enum Judged {
 
 // What stands behind the version.
 fn read_pool(s: &[u8]) -> First
-    requires { ⌜ 4 ≤ length (now s) ⌝ }
-    ensures { λ r. ⌜ FirstOf (now (s .entry)) (λ id. from (holder id) (stateAt 4 (drop 4 (now (s .entry))) false 0 noPool)) r ⌝ }
+    requires { ⌜ (4 ≤ length (now s)) × (versionFrame 1 (now s) ≡ Version) ⌝ }
+    ensures { λ r. ⌜ FirstOf (now (s .entry)) r ⌝ }
 {
     let at: usize = 4;
     match frames::read_frame(&s[at..], 1, at, false, 0) {
@@ -69,7 +69,7 @@ fn read_pool(s: &[u8]) -> First
 
 // The version and the head of field 0. From its data a caller knows how many places the index that it lends to `walk` must have.
 pub fn read_first(s: &[u8]) -> First
-    ensures { λ r. ⌜ FirstOf (now (s .entry)) (λ id. walkOf (holder id) noPool (now (s .entry))) r ⌝ }
+    ensures { λ r. ⌜ FirstOf (now (s .entry)) r ⌝ }
 {
     match frames::read_frame(s, 1, 0, false, 0) {
         Frame::End => First::End(0),
@@ -82,7 +82,7 @@ pub fn read_first(s: &[u8]) -> First
 }
 
 // A whole zone in d: whether its ID, which stands first, is the asked one; else it is checked.
-fn judge(pool: &[u8], starts: &[u32], count: usize, d: &[u8], id: &[u8]) -> Judged
+pub fn judge(pool: &[u8], starts: &[u32], count: usize, d: &[u8], id: &[u8]) -> Judged
     requires { ⌜ Ready (now pool) (now starts) × (count ≡ length (stringsOf (now pool))) ⌝ }
     ensures { λ r. ⌜ JudgedAs (now (id .entry)) (now (pool .entry)) (parseZone count (now (d .entry))) r ⌝ }
 {
@@ -102,7 +102,7 @@ fn judge(pool: &[u8], starts: &[u32], count: usize, d: &[u8], id: &[u8]) -> Judg
 }
 
 // The zones behind field 0, whose data is s[start..end].
-fn walk_zones(
+pub fn walk_zones(
     s: &[u8],
     starts: &[u32],
     start: usize,

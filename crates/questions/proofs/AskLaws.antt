@@ -15,7 +15,7 @@ use Rattle.answers.specs.declared.Found.{Found}
 use Rattle.answers.specs.declared.Answer.the-variants.{Refused}
 use Rattle.answers.specs.declared.Outcome.{Outcome}
 
-finish-is : {M : Type 0} (mark : Mark) (o : Out M Found) → answerOf mark (outcomeOf o) ≡ finish mark o
+pub finish-is : {M : Type 0} (mark : Mark) (o : Out M Found) → answerOf mark (outcomeOf o) ≡ finish mark o
 finish-is mark (found x p) = refl
 finish-is mark (refused n p) = refl
 finish-is mark (cut p) = refl

@@ -39,7 +39,7 @@ use Rattle.answers.specs.declared.Answer.the-variants.{In, Refused}
 use Rattle.base.proofs.Tests.{clash}
 
 -- a kept field leaves the pool as it was, or is the pool
-zone-keeps : (P : Pool → Type 0) (id : List ℕ) (t : ℕ) (y : Pool) (p : Parsed Zone) (y′ : Pool) → zoneSays (answerAt t) id y p ≡ keep y′ → P y → P y′
+pub zone-keeps : (P : Pool → Type 0) (id : List ℕ) (t : ℕ) (y : Pool) (p : Parsed Zone) (y′ : Pool) → zoneSays (answerAt t) id y p ≡ keep y′ → P y → P y′
 zone-keeps P id t y (got z q) y′ h i = go (equal (getD (stringsOf (y .body)) (z .id) []) id) h
   where
     go : (b : Bool) → pick {A = Content Pool Found} b (answer (answered y (inZone t z))) (keep y) ≡ keep y′ → P y′
@@ -63,10 +63,10 @@ by-kept P id t y g y′ h a b = go (eqb (g .id) 0) h
 
 module _ (bs id : List ℕ) (t : ℕ) (f : Finite t) where
   -- the pool that is remembered lies within the bytes
-  abbrev Inside : Pool → Type 0
+  abbrev pub Inside : Pool → Type 0
   Inside y = y .start + length (y .body) ≤ length bs
 
-  abbrev Named : Found → Type 0
+  abbrev pub Named : Found → Type 0
   Named x = x .name + x .length ≤ length bs
 
   zone-named : (y : Pool) (d : List ℕ) (p : Parsed Zone) → parseZone (length (stringsOf (y .body))) d ≡ p → Inside y → (v : Found)
@@ -90,7 +90,7 @@ module _ (bs id : List ℕ) (t : ℕ) (f : Finite t) where
   pool-answers g (got ts r) v h = clash cc
   pool-answers g (bad n) v h = clash cc
 
-  says-named : (y : Pool) (g : Field) → Inside y → (v : Found) → says (answerAt t) id y g ≡ answer v → Named v
+  pub says-named : (y : Pool) (g : Field) → Inside y → (v : Found) → says (answerAt t) id y g ≡ answer v → Named v
   unfolding says
   says-named y g i v = go (eqb (g .id) 0)
     where
@@ -98,7 +98,7 @@ module _ (bs id : List ℕ) (t : ℕ) (f : Finite t) where
       go true h = pool-answers g (parsePool (g .body)) v h
       go false h = zone-named y (g .body) (parseZone (length (stringsOf (y .body))) (g .body)) refl i v h
 
-  says-inside : (y : Pool) (g : Field) → Inside y → FieldOf bs g → (y′ : Pool) → says (answerAt t) id y g ≡ keep y′ → Inside y′
+  pub says-inside : (y : Pool) (g : Field) → Inside y → FieldOf bs g → (y′ : Pool) → says (answerAt t) id y g ≡ keep y′ → Inside y′
   says-inside y g i o y′ h = by-kept Inside id t y g y′ h i (omega (arith, o .ends, o .within))
 
   pass-named : (gs : List Field) (y : Pool) → All (FieldOf bs) gs → Inside y → (x : Found) (p : ℕ) → pass (says (answerAt t) id) y gs ≡ stop (found x p) → Named x

@@ -13,8 +13,10 @@ use Rattle.answers.specs.Answers.{Pool, noPool, answered}
 use Rattle.answers.specs.declared.Outcome.{Outcome}
 use Rattle.answers.specs.declared.Outcome.the-variants.{Answered, Refused, Cut, End}
 use Rattle.locate.specs.Asked.{Held, holder}
-use Rattle.locate.specs.View.{part, zoneOut, Spotted}
+use Rattle.locate.specs.View.{part, zoneOut, locatedOut}
 use Rattle.locate.specs.declared.Spot.{Spot}
+use Rattle.locate.specs.declared.Located.{Located}
+use Rattle.locate.specs.declared.Located.the-variants.{Found, Refused as LocatedRefused, Cut as LocatedCut, End as LocatedEnd}
 use Rattle.locate.proofs.HeldLaws.{walk-held}
 use Rattle.questions.specs.Question.{answerAt, question}
 use Rattle.questions.specs.View.{outcomeOf, outcomeAt}
@@ -30,20 +32,34 @@ module _ (t : ℕ) (o : Out Pool Held) where
   pub out-end : (m : Pool) (p : ℕ) → o ≡ ended m p → End p ≡ outcomeAt t o
   out-end m p e = rw e
 
-  module _ (s : List ℕ) (m : Pool) (v : Spot) (k : Spotted s m o v) where
-    pub out-denied : (n : ℕ) → Denied n ≡ answerOf t (parseZone (v .count) (part (v .start) (v .past) s)) → Refused n (v .place) ≡ outcomeAt t o
-    out-denied n e = go (parseZone (v .count) (part (v .start) (v .past) s)) (k .goes) e
-      where
-        go : (p : Parsed Zone) → o ≡ zoneOut v m p → Denied n ≡ answerOf t p → Refused n (v .place) ≡ outcomeAt t o
-        go (got z r) g h = clash cc
-        go (bad l) g h = let y : n ≡ l = cc in ap (λ (i : ℕ). Refused i (v .place)) y ∙ sym (ap (outcomeAt t) g)
+-- by what was located, and by the lookup in that zone
+module _ (t : ℕ) (s : List ℕ) (m : Pool) (l : Located) where
+  pub at-refused : (n p : ℕ) → l ≡ LocatedRefused n p → Refused n p ≡ outcomeAt t (locatedOut s m l)
+  at-refused n p e = rw e
 
-    pub out-found : (x : Interval) → In x ≡ answerOf t (parseZone (v .count) (part (v .start) (v .past) s)) → Answered (answered m x) ≡ outcomeAt t o
-    out-found x e = go (parseZone (v .count) (part (v .start) (v .past) s)) (k .goes) e
+  pub at-cut : (p : ℕ) → l ≡ LocatedCut p → Cut p ≡ outcomeAt t (locatedOut s m l)
+  at-cut p e = rw e
+
+  pub at-end : (p : ℕ) → l ≡ LocatedEnd p → End p ≡ outcomeAt t (locatedOut s m l)
+  at-end p e = rw e
+
+  module _ (v : Spot) (h : l ≡ Found v) where
+    abbrev zone : Parsed Zone
+    zone = parseZone (v .count) (part (v .start) (v .past) s)
+
+    pub at-denied : (n : ℕ) → Denied n ≡ answerOf t zone → Refused n (v .place) ≡ outcomeAt t (locatedOut s m l)
+    at-denied n e = go zone e ∙ ap (λ (x : Located). outcomeAt t (locatedOut s m x)) (sym h)
       where
-        go : (p : Parsed Zone) → o ≡ zoneOut v m p → In x ≡ answerOf t p → Answered (answered m x) ≡ outcomeAt t o
-        go (got z r) g h = let y : x ≡ inZone t z = cc in ap (λ (i : Interval). Answered (answered m i)) y ∙ sym (ap (outcomeAt t) g)
-        go (bad l) g h = clash cc
+        go : (p : Parsed Zone) → Denied n ≡ answerOf t p → Refused n (v .place) ≡ outcomeAt t (zoneOut v m p)
+        go (got z r) k = clash cc
+        go (bad i) k = let y : n ≡ i = cc in ap (λ (j : ℕ). Refused j (v .place)) y
+
+    pub at-found : (x : Interval) → In x ≡ answerOf t zone → Answered (answered m x) ≡ outcomeAt t (locatedOut s m l)
+    at-found x e = go zone e ∙ ap (λ (y : Located). outcomeAt t (locatedOut s m y)) (sym h)
+      where
+        go : (p : Parsed Zone) → In x ≡ answerOf t p → Answered (answered m x) ≡ outcomeAt t (zoneOut v m p)
+        go (got z r) k = let y : x ≡ inZone t z = cc in ap (λ (i : Interval). Answered (answered m i)) y
+        go (bad i) k = clash cc
 
 -- of all the bytes
 pub out-walk : (t : ℕ) (id s : List ℕ) (r : Outcome) → r ≡ outcomeAt t (walk (holder id) noPool s) → r ≡ outcomeOf (walk (question id t) noPool s)

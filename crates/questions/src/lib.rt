@@ -10,19 +10,19 @@ ghost use Prim.Native.Nat.{_≤_};
 ghost use lib.ListN.{length};
 ghost use Rattle.base.specs.Moment.{Finite};
 ghost use Rattle.pool.specs.Pool.{parsePool};
-ghost use Rattle.pool.specs.Index.{roomOf};
+ghost use Rattle.pool.specs.Index.{roomOf, Ready};
 ghost use Rattle.frames.specs.Machine.{walk};
 ghost use Rattle.answers.specs.Answers.{noPool};
-ghost use Rattle.locate.specs.View.{part, Lies, byPool};
+ghost use Rattle.locate.specs.View.{part, poolAt, Lies, byPool, locatedOut, Within};
 ghost use Rattle.questions.specs.Question.{question, ask as askOf, askPlain};
 ghost use Rattle.questions.specs.View.{outcomeOf, outcomeAt};
 
-// The question on a file whose field 0 has the data s[d..e]. starts gets the index of its strings.
-fn ask_with(s: &[u8], d: usize, e: usize, id: &[u8], t: u64, starts: &mut [u32]) -> Outcome
-    requires { ⌜ Lies (now s) d e × (roomOf (part d e (now s)) ≤ length (now starts)) × Finite t ⌝ }
-    ensures { λ r. ⌜ r ≡ outcomeAt t (byPool (now (id .entry)) (now (s .entry)) d e (parsePool (part d e (now (s .entry))))) ⌝ }
+// What a walk comes to at the instant t, by what it located; the data of field 0 is s[d..e].
+pub fn answer_at(s: &[u8], starts: &[u32], d: usize, e: usize, t: u64, l: Located) -> Outcome
+    requires { ⌜ Lies (now s) d e × Ready (part d e (now s)) (now starts) × Finite t × Within (now s) (poolAt (now s) d e) l ⌝ }
+    ensures { λ r. ⌜ r ≡ outcomeAt t (locatedOut (now (s .entry)) (poolAt (now (s .entry)) d e) l) ⌝ }
 {
-    match locate::walk(s, d, e, id, starts) {
+    match l {
         Located::Refused(n, p) => Outcome::Refused(n, p),
         Located::Cut(p) => Outcome::Cut(p),
         Located::End(p) => Outcome::End(p),
@@ -31,10 +31,19 @@ fn ask_with(s: &[u8], d: usize, e: usize, id: &[u8], t: u64, starts: &mut [u32])
             let to = v.past;
             match lookups::find(&s[from..to], v.count as u64, t) {
                 ZoneAnswer::Refused(n) => Outcome::Refused(n, v.place),
-                ZoneAnswer::In(x) => Outcome::Answered(answers::answered(&s[d..e], &*starts, d, x)),
+                ZoneAnswer::In(x) => Outcome::Answered(answers::answered(&s[d..e], starts, d, x)),
             }
         }
     }
+}
+
+// The question on a file whose field 0 has the data s[d..e]. starts gets the index of its strings.
+fn ask_with(s: &[u8], d: usize, e: usize, id: &[u8], t: u64, starts: &mut [u32]) -> Outcome
+    requires { ⌜ Lies (now s) d e × (roomOf (part d e (now s)) ≤ length (now starts)) × Finite t ⌝ }
+    ensures { λ r. ⌜ r ≡ outcomeAt t (byPool (now (id .entry)) (now (s .entry)) d e (parsePool (part d e (now (s .entry))))) ⌝ }
+{
+    let l = locate::walk(s, d, e, id, starts);
+    answer_at(s, &*starts, d, e, t, l)
 }
 
 // The same with an index of its own, for a pool of few strings: a short index is cleared at once.

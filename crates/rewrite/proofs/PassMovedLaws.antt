@@ -17,6 +17,8 @@ use Rattle.pool.specs.Pool.{Pool, parsePool}
 use Rattle.zones.specs.Content.{Zone}
 use Rattle.zones.specs.Parse.{parseZone}
 use Rattle.ids.specs.Ids.{among}
+use Rattle.aliases.specs.Dictionary.{Dictionary}
+use Rattle.aliases.specs.Field.{parseAliases}
 use Rattle.frames.specs.Frame.{Field}
 use Rattle.frames.specs.Machine.{Content, bad, keep}
 use Rattle.frames.specs.Fields.{FieldOf, fields, pass}
@@ -25,8 +27,8 @@ use Rattle.base.proofs.AllLaws.{all-head, all-tail}
 use Rattle.frames.proofs.ChainLaws.{listing-chain, chain-fields}
 use Rattle.frames.proofs.PassLaws.{pass-head}
 use Rattle.field_checks.specs.Check.{placed, Memory, start, withPool, withId, withText, poolIn, poolKept, newId, zoneIn, zoneKept}
-use Rattle.field_checks.specs.Check.{textIn, textKept, judged, job, WellFormed, filePool}
-use Rattle.field_checks.specs.Check.{Kind, poolField, zoneField, textField, otherField, kindOf, contentBy}
+use Rattle.field_checks.specs.Check.{textIn, textKept, aliasesIn, aliasesKept, judged, job, WellFormed, filePool}
+use Rattle.field_checks.specs.Check.{Kind, poolField, zoneField, textField, aliasField, otherField, kindOf, contentBy}
 use Rattle.field_checks.proofs.KindLaws.{KindId, kind-id}
 use Rattle.field_checks.specs.File.{AsZone}
 use Rattle.field_checks.proofs.ZoneIdLaws.{zones-read}
@@ -101,6 +103,14 @@ module _ (x x′ y : Memory) (s : SameMemory x y) where
       go (Untext n) h = no-keep h
       go (Part b n) h = two b n (eqb (b + n) (length d)) h
 
+  aliases-moved : (d : List ℕ) → aliasesKept x d ≡ keep x′ → Beside x′ (aliasesKept y d)
+  unfolding aliasesKept
+  aliases-moved d e = subst⁻¹ (λ (ts : List (List ℕ)). Beside x′ (aliasesIn y (parseAliases ts d))) (s .pool) (go (parseAliases (x .pool) d) e)
+    where
+      go : (p : Parsed Dictionary) → aliasesIn x p ≡ keep x′ → Beside x′ (aliasesIn y p)
+      go (faulty n) h = no-keep h
+      go (got es r) h = let w : x ≡ x′ = cc in (y, refl, rw w at s)
+
   field-moved : (g : Field) (at : ℕ) → FieldKept g → job .content x g ≡ keep x′ → Beside x′ (job .content y (movedTo at g))
   unfolding judged poolKept
   field-moved g at k e = go (kindOf (g .id)) (kind-id (g .id)) e
@@ -114,6 +124,9 @@ module _ (x x′ y : Memory) (s : SameMemory x y) where
       go textField i h =
           let c : preferredData (g .id) (g .body) ≡ g .body = k .copied (λ j. omega arith) in
           rw c (text-moved (g .start) _ (g .body) h)
+      go aliasField i h =
+          let c : preferredData (g .id) (g .body) ≡ g .body = k .copied (λ j. omega arith) in
+          rw c (aliases-moved (g .body) h)
       go otherField i h = let w : x ≡ x′ = cc in (y, refl, rw w at s)
 
 -- THE CHECK KEEPS THE MOVED FIELDS

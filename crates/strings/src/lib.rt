@@ -77,7 +77,7 @@ fn differ(a: u8, b: u8) -> u8
 }
 
 // Whether two strings have the same bytes. The loop has no early exit, so that it compiles to wide operations.
-fn same(a: &[u8], b: &[u8]) -> bool
+pub fn same(a: &[u8], b: &[u8]) -> bool
     ensures { λ r. ⌜ r ≡ equal (now (a .entry)) (now (b .entry)) ⌝ }
 {
     if a.len() != b.len() {

@@ -13,11 +13,12 @@ const TICKS_PER_MS: i64 = 10_000;
 /// The content of a well-formed file.
 pub fn content(file: &[u8]) -> Result<FileContent, Refusal> {
     let contents = read_file(file)?;
-    let others = contents.fields.iter().filter(|field| field.id > 2);
+    let others = contents.fields.iter().filter(|field| field.id > 3);
     Ok(FileContent {
         pool: contents.pool.iter().map(|part| file[part.clone()].to_vec()).collect(),
         zones: contents.zones.into_iter().map(|(_, zone)| zone).collect(),
         version: contents.version_text.map(|part| file[part].to_vec()),
+        aliases: contents.aliases,
         others: others.map(|field| (field.id, field.data.to_vec())).collect(),
     })
 }
@@ -48,6 +49,8 @@ pub struct Grown {
     pub absent: Vec<u8>,
     /// A local time to ask of the last zone, where that is measured.
     pub local: Option<i64>,
+    /// An alias to ask, where that is measured.
+    pub alias: Option<Vec<u8>>,
 }
 
 /// Makes a file whose length grows with a factor of 1, 2, 4 or 8, up to the largest sizes.
@@ -59,7 +62,7 @@ pub struct Growing {
 }
 
 /// Files on which a reader with a cost that isn't linear would show it.
-pub const GROWING: [Growing; 11] = [
+pub const GROWING: [Growing; 16] = [
     Growing {
         name: "1,024 to 8,192 zones, IDs of 503 bytes that differ at the end",
         make: |factor| fixed_zones(1024 * factor, |number| format!("{}{number:04}", "x".repeat(499))),
@@ -71,11 +74,36 @@ pub const GROWING: [Growing; 11] = [
         well_formed: true,
     },
     Growing {
-        name: "1,024 to 8,192 zones, IDs of 500 bytes that all have one hash in the library",
+        name: "1,024 to 8,192 zones, IDs of 503 bytes in descending order",
+        make: |factor| fixed_zones(1024 * factor, |number| format!("{}{:04}", "x".repeat(499), 9999 - number)),
+        well_formed: true,
+    },
+    Growing {
+        name: "1,024 to 8,192 zones, IDs of 503 bytes in no order",
+        make: |factor| fixed_zones(1024 * factor, |number| format!("{}{:04}", "x".repeat(499), scattered(number))),
+        well_formed: true,
+    },
+    Growing {
+        name: "1,024 to 8,192 zones, IDs of 14 bytes in no order",
+        make: |factor| fixed_zones(1024 * factor, |number| format!("Area/City_{:04}", scattered(number))),
+        well_formed: true,
+    },
+    Growing {
+        name: "1,024 to 8,192 zones, IDs of 500 bytes that all have one hash by FNV's factor",
         make: |factor| {
             let ids = of_one_hash(1024 * factor);
             fixed_zones(ids.len(), |number| ids[number].clone())
         },
+        well_formed: true,
+    },
+    Growing {
+        name: "512 to 4,096 zones and as many aliases, IDs of 503 bytes that differ at the end",
+        make: |factor| aliased(1024 * factor, 512 * factor, |number| format!("{}{number:04}", "x".repeat(499))),
+        well_formed: true,
+    },
+    Growing {
+        name: "one zone and 1,023 to 8,191 aliases in chains of eight, the first behind the last in the order of bytes",
+        make: |factor| aliased(1024 * factor, 1, |number| format!("{:04}", 9999 - number)),
         well_formed: true,
     },
     Growing {
@@ -126,8 +154,14 @@ pub const GROWING: [Growing; 11] = [
         make: |factor| {
             let others = vec![(8, Vec::new()); 261_000 * factor];
             let pool = names(1).into_iter().map(String::into_bytes).collect();
-            let content = FileContent { pool, zones: vec![fixed(0)], version: None, others };
-            Grown { file: preferred(&content), last: content.pool[0].clone(), absent: b"Zone".to_vec(), local: None }
+            let content = FileContent { pool, zones: vec![fixed(0)], version: None, aliases: None, others };
+            Grown {
+                file: preferred(&content),
+                last: content.pool[0].clone(),
+                absent: b"Zone".to_vec(),
+                local: None,
+                alias: None,
+            }
         },
         well_formed: true,
     },
@@ -146,8 +180,13 @@ fn fixed_zones(count: usize, id: impl Fn(usize) -> String) -> Grown {
     grown((0..count).map(id).collect(), (0..count).map(fixed).collect(), preferred)
 }
 
-/// IDs that all have one hash by `crates/ids`, which takes four bytes at a time, low first: `h = (h + word) * FACTOR`, of which the highest
-/// 14 bits count. So the last four bytes are chosen by what is to come out.
+/// The numbers below 8,192 in no order, each once: multiplying by an odd number turns none into another's.
+fn scattered(number: usize) -> usize {
+    (number * 5167 + 3001) % 8192
+}
+
+/// IDs that all have one hash, such as a table of IDs might use: four bytes at a time, low first, `h = (h + word) * FACTOR`, of which the
+/// highest 14 bits count. So the last four bytes are chosen by what is to come out.
 fn of_one_hash(count: usize) -> Vec<String> {
     const FACTOR: u32 = 16_777_619;
     let front = "x".repeat(496);
@@ -165,6 +204,21 @@ fn of_one_hash(count: usize) -> Vec<String> {
     ids
 }
 
+/// Strings of which the first so many are zones and all others aliases: of the zone as far behind, or in chains of eight to the only one.
+fn aliased(count: usize, zones: usize, id: impl Fn(usize) -> String) -> Grown {
+    let pool: Vec<Vec<u8>> = (0..count).map(|number| id(number).into_bytes()).collect();
+    let target = |number: usize| match zones {
+        1 if number % 8 == 1 => 0,
+        1 => number - 1,
+        _ => number % zones,
+    };
+    let aliases = Some((zones..count).map(|number| (number, target(number))).collect());
+    let (last, alias) = (pool[zones - 1].clone(), pool[count - count % 8 - 1].clone());
+    let content =
+        FileContent { pool, zones: (0..zones).map(fixed).collect(), version: None, aliases, others: Vec::new() };
+    Grown { file: preferred(&content), last, absent: b"No/Such_Zone".to_vec(), local: None, alias: Some(alias) }
+}
+
 fn grown(pool: Vec<String>, zones: Vec<Zone>, write: fn(&FileContent) -> Vec<u8>) -> Grown {
     let pool: Vec<Vec<u8>> = pool.into_iter().map(String::into_bytes).collect();
     let last = zones.last().map_or(Vec::new(), |zone| pool[zone.id].clone());
@@ -173,8 +227,8 @@ fn grown(pool: Vec<String>, zones: Vec<Zone>, write: fn(&FileContent) -> Vec<u8>
     if let Some(byte) = absent.last_mut() {
         *byte = b'?';
     }
-    let file = write(&FileContent { pool, zones, version: None, others: Vec::new() });
-    Grown { file, last, absent, local: None }
+    let file = write(&FileContent { pool, zones, version: None, aliases: None, others: Vec::new() });
+    Grown { file, last, absent, local: None, alias: None }
 }
 
 fn fixed(id: usize) -> Zone {

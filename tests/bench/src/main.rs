@@ -95,6 +95,20 @@ fn questions(content: &FileContent) -> Vec<(String, Work)> {
     }
     let absent = Work::Ask { id: b"No/Such_Zone".to_vec(), ticks: LISTED };
     questions.push(("question, absent zone".to_string(), absent));
+    // Aliases of the first and of the last zone that has one; the absent name; in a file without aliases the last alone.
+    let place = |&(_, target): &(usize, usize)| content.zones.iter().position(|zone| zone.id == target);
+    let pairs: Vec<&(usize, usize)> = content.aliases.iter().flatten().filter(|pair| place(pair).is_some()).collect();
+    let ends =
+        [("first", pairs.iter().min_by_key(|pair| place(pair))), ("last", pairs.iter().max_by_key(|pair| place(pair)))];
+    for (which, pair) in ends {
+        if let Some((key, _)) = pair {
+            let name = content.pool[*key].clone();
+            let what = format!("named question, alias of the {which} zone (`{}`)", String::from_utf8_lossy(&name));
+            questions.push((what, Work::AskNamed { name, ticks: LISTED }));
+        }
+    }
+    let unnamed = Work::AskNamed { name: b"No/Such_Zone".to_vec(), ticks: LISTED };
+    questions.push(("named question, absent name".to_string(), unnamed));
     questions.extend(locals);
     questions
 }
@@ -114,12 +128,18 @@ fn growing() -> Result<(), String> {
         let sizes = [1, 2, 4, 8].map(kind.make);
         let absent = |grown: &Grown| Work::Ask { id: grown.absent.clone(), ticks: LISTED };
         let last = |grown: &Grown| Work::Ask { id: grown.last.clone(), ticks: LISTED };
+        let alias = |grown: &Grown| Some(Work::AskNamed { name: grown.alias.clone()?, ticks: LISTED });
+        let unnamed = |grown: &Grown| Work::AskNamed { name: grown.absent.clone(), ticks: LISTED };
         let local = |grown: &Grown| Some(Work::MapLocal { id: grown.last.clone(), local: grown.local? });
         let mut rows = vec![("question, absent zone", sizes.each_ref().map(absent))];
         if kind.well_formed {
             rows.push(("question, last zone", sizes.each_ref().map(last)));
             if let [Some(one), Some(two), Some(four), Some(eight)] = sizes.each_ref().map(local) {
                 rows.push(("local time, last zone", [one, two, four, eight]));
+            }
+            if let [Some(one), Some(two), Some(four), Some(eight)] = sizes.each_ref().map(alias) {
+                rows.push(("named question, alias", [one, two, four, eight]));
+                rows.push(("named question, absent name", sizes.each_ref().map(unnamed)));
             }
             rows.push(("check", [(); 4].map(|()| Work::Check)));
             rows.push(("rewrite", [(); 4].map(|()| Work::Rewrite)));

@@ -1,4 +1,4 @@
-//! What is measured: a check, a question, a local time or a rewrite, by the library and by the peer.
+//! What is measured: a check, a question by ID or by name, a local time or a rewrite, by the library and by the peer.
 
 use crate::measure::Piece;
 use nzd::{Bound, Mark};
@@ -8,6 +8,7 @@ use std::hint::black_box;
 pub enum Work {
     Check,
     Ask { id: Vec<u8>, ticks: i64 },
+    AskNamed { name: Vec<u8>, ticks: i64 },
     MapLocal { id: Vec<u8>, local: i64 },
     Rewrite,
 }
@@ -21,6 +22,14 @@ fn pair(error: nzd::Error) -> (u8, usize) {
 
 fn peer_pair(refusal: peer::Refusal) -> (u8, usize) {
     (refusal.number, refusal.place)
+}
+
+fn said(answer: Result<nzd::Answer<'_>, nzd::Error>) -> Said<'_> {
+    answer.map(|a| (a.wall_offset_ms, a.savings_ms, a.name, ticks_of(a.start), ticks_of(a.end))).map_err(pair)
+}
+
+fn peer_said(answer: Result<peer::Answer<'_>, peer::Refusal>) -> Said<'_> {
+    answer.map(|a| (a.wall_offset_ms.into(), a.savings_ms.into(), a.name, a.start, a.end)).map_err(peer_pair)
 }
 
 fn ticks_of(bound: Bound) -> i64 {
@@ -37,13 +46,11 @@ impl Work {
         match self {
             Work::Check => nzd::check(file).map_err(pair) == peer::check(file).map_err(peer_pair),
             Work::Ask { id, ticks } => {
-                let ours: Said = nzd::ask(file, id, *ticks, Mark::ThisIsAll)
-                    .map(|a| (a.wall_offset_ms, a.savings_ms, a.name, ticks_of(a.start), ticks_of(a.end)))
-                    .map_err(pair);
-                let theirs: Said = peer::ask(file, id, *ticks, false)
-                    .map(|a| (a.wall_offset_ms.into(), a.savings_ms.into(), a.name, a.start, a.end))
-                    .map_err(peer_pair);
-                ours == theirs
+                said(nzd::ask(file, id, *ticks, Mark::ThisIsAll)) == peer_said(peer::ask(file, id, *ticks, false))
+            }
+            Work::AskNamed { name, ticks } => {
+                let ours = said(nzd::ask_named(file, name, *ticks, Mark::ThisIsAll));
+                ours == peer_said(peer::ask_named(file, name, *ticks, false))
             }
             Work::MapLocal { id, local } => {
                 let numbers = |found: nzd::LocalInstants| match (found.earliest(), found.latest()) {
@@ -71,6 +78,10 @@ impl Work {
             Work::Ask { id, ticks } => [
                 piece(move || nzd::ask(black_box(file), black_box(id), *ticks, Mark::ThisIsAll)),
                 piece(move || peer::ask(black_box(file), black_box(id), *ticks, false)),
+            ],
+            Work::AskNamed { name, ticks } => [
+                piece(move || nzd::ask_named(black_box(file), black_box(name), *ticks, Mark::ThisIsAll)),
+                piece(move || peer::ask_named(black_box(file), black_box(name), *ticks, false)),
             ],
             Work::MapLocal { id, local } => [
                 piece(move || nzd::map_local(black_box(file), black_box(id), *local)),

@@ -5,7 +5,7 @@ use crate::questions::{ask, other_ids, prefixes, Question};
 use crate::tally::{Difference, Tally};
 use crate::whole::{check, whole};
 use second_reader::generate::{
-    damaged, instants, plan, random_content, Damage, FileContent, FilePlan, Forms, Prng, Size,
+    damaged, instants, names, plan, random_content, Damage, FileContent, FilePlan, Forms, Prng, Size,
 };
 use second_reader::transition::{FIRST, LAST};
 
@@ -66,7 +66,7 @@ fn questions(content: &FileContent, prng: &mut Prng) -> Vec<Question> {
         asked.extend(all.into_iter().map(|ticks| (content.id(zone).to_vec(), ticks)));
     }
     let ids: Vec<&[u8]> = content.zones.iter().map(|zone| content.id(zone)).collect();
-    for id in other_ids(&ids, prng) {
+    for id in other_ids(&ids, prng).into_iter().chain(names(content, prng)) {
         let ticks = prng.range(FIRST, LAST);
         asked.push((id, ticks));
     }

@@ -40,6 +40,9 @@ pub fn file(tally: &mut Tally, file: &[u8], prng: &mut Prng) -> Result<(), Diffe
             asked.extend((0..2).map(|_| (id.to_vec(), *prng.pick(&all))));
             ids.push(id);
         }
+        for &(key, _) in contents.aliases.iter().flatten() {
+            asked.push((file[contents.pool[key].clone()].to_vec(), prng.range(FIRST, LAST)));
+        }
         asked.extend(other_ids(&ids, prng).into_iter().map(|id| (id, 0)));
     }
     for (id, ticks) in &asked {
@@ -81,6 +84,6 @@ fn alone(file: &[u8], contents: &Contents, zone: &Zone) -> Vec<u8> {
             }
         }
     }
-    let content = FileContent { pool, zones: vec![zone], version: None, others: Vec::new() };
+    let content = FileContent { pool, zones: vec![zone], version: None, aliases: None, others: Vec::new() };
     plan(&content, &mut Forms::Preferred).bytes()
 }

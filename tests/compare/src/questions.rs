@@ -1,4 +1,4 @@
-//! Questions: marked both ways and plain, by the C functions and by the wrapper.
+//! Questions: by ID, marked both ways and plain, and by name, marked both ways; by the C functions and by the wrapper.
 
 use crate::lent;
 use crate::tally::{Difference, Outcome, Tally};
@@ -8,7 +8,7 @@ use second_reader::generate::Prng;
 use second_reader::{Answer, Mark, Transition};
 use std::fmt;
 
-/// A zone ID and an instant.
+/// A zone ID or a name, and an instant.
 pub type Question = (Vec<u8>, i64);
 
 /// How a question is asked.
@@ -17,6 +17,8 @@ enum Way {
     More,
     All,
     Plain,
+    NamedMore,
+    NamedAll,
 }
 
 struct Asked<'a> {
@@ -33,12 +35,14 @@ impl fmt::Display for Asked<'_> {
 
 /// Compares a question asked in each way.
 pub fn ask(tally: &mut Tally, file: &[u8], id: &[u8], ticks: i64) -> Result<(), Difference> {
-    for way in [Way::More, Way::All, Way::Plain] {
+    for way in [Way::More, Way::All, Way::Plain, Way::NamedMore, Way::NamedAll] {
         let asked = Asked { id, ticks, way };
         let theirs = match way {
             Way::More => second_reader::ask(file, id, ticks, Mark::MoreMayCome),
             Way::All => second_reader::ask(file, id, ticks, Mark::ThisIsAll),
             Way::Plain => second_reader::ask_plain(file, id, ticks),
+            Way::NamedMore => second_reader::ask_named(file, id, ticks, Mark::MoreMayCome),
+            Way::NamedAll => second_reader::ask_named(file, id, ticks, Mark::ThisIsAll),
         }
         .map(|answer| numbers_of(&answer))
         .map_err(pair);
@@ -46,12 +50,16 @@ pub fn ask(tally: &mut Tally, file: &[u8], id: &[u8], ticks: i64) -> Result<(), 
             Way::More => ffi::ask(file, id, ticks, true, out),
             Way::All => ffi::ask(file, id, ticks, false, out),
             Way::Plain => ffi::ask_plain(file, id, ticks, out),
+            Way::NamedMore => ffi::ask_named(file, id, ticks, true, out),
+            Way::NamedAll => ffi::ask_named(file, id, ticks, false, out),
         })?;
         tally.same(&asked, file, ours, theirs)?;
         let wrapped = match way {
             Way::More => nzd::ask(file, id, ticks, nzd::Mark::MoreMayCome),
             Way::All => nzd::ask(file, id, ticks, nzd::Mark::ThisIsAll),
             Way::Plain => nzd::ask_plain(file, id, ticks),
+            Way::NamedMore => nzd::ask_named(file, id, ticks, nzd::Mark::MoreMayCome),
+            Way::NamedAll => nzd::ask_named(file, id, ticks, nzd::Mark::ThisIsAll),
         };
         tally.same(&asked, file, wrapped_numbers(file, wrapped), theirs)?;
     }

@@ -6,6 +6,7 @@
 //!
 //! Instants are ticks; start of time is the lowest `i64` and end of time the highest.
 
+mod aliases;
 mod codes;
 mod fields;
 mod ids;
@@ -16,6 +17,7 @@ mod tail;
 mod whole;
 mod zone;
 
+pub use aliases::ask_named;
 pub use local::LocalInstants;
 pub use rewrite::rewrite;
 pub use whole::{check, version_text};
@@ -51,6 +53,8 @@ mod number {
     pub const INSTANT_RANGE: u8 = 14;
     pub const OUTPUT_SHORT: u8 = 15;
     pub const NO_INSTANT: u8 = 17;
+    pub const TOO_MANY_STEPS: u8 = 18;
+    pub const SECOND_ALIAS: u8 = 19;
 }
 
 /// The first instant of year 1.

@@ -1,5 +1,6 @@
 //! The whole file: its check and its version text.
 
+use crate::aliases::read_aliases;
 use crate::codes::Cursor;
 use crate::fields::{Field, Fields};
 use crate::ids::Ids;
@@ -45,13 +46,16 @@ pub fn walk<'a>(
                 }
             }
             2 => text = Some(read_text(field.data).map_err(refuse)?),
+            3 => {
+                read_aliases(field.data, &pool).map_err(refuse)?;
+            }
             _ => {}
         }
     }
     Ok(text)
 }
 
-fn read_text(data: &[u8]) -> Result<&[u8], u8> {
+pub fn read_text(data: &[u8]) -> Result<&[u8], u8> {
     let mut cursor = Cursor::new(data);
     let text = cursor.text()?;
     cursor.end()?;

@@ -1,7 +1,7 @@
 //! The peer beside the second reader: equal numbers, places, answers and rewritten files.
 
 use second_reader::generate::{
-    damaged, instants, local_times, plan, random_content, Damage, FileContent, Forms, Prng, Size,
+    damaged, instants, local_times, names, plan, random_content, Damage, FileContent, Forms, Prng, Size,
 };
 use second_reader::transition::{Transition, FIRST, LAST};
 use second_reader::{Mark, Refusal};
@@ -30,27 +30,48 @@ fn ticks_of(bound: Transition) -> i64 {
 struct Seen {
     whole: BTreeSet<u8>,
     asked: BTreeSet<u8>,
+    named: BTreeSet<u8>,
     local: BTreeSet<u8>,
 }
 
+/// What an answer of the second reader carries, or its refusal.
+type Said = Result<(i32, i32, std::ops::Range<usize>, i64, i64), Pair>;
+
+fn expected(answer: Result<second_reader::Answer, Refusal>) -> Said {
+    answer
+        .map(|answer| {
+            let (start, end) = (ticks_of(answer.start), ticks_of(answer.end));
+            (answer.wall, answer.savings, answer.name, start, end)
+        })
+        .map_err(pair)
+}
+
+/// The same of the peer. The name is a part of the file: where it stands is what is compared.
+fn given(file: &[u8], answer: Result<peer::Answer<'_>, peer::Refusal>) -> Said {
+    answer
+        .map(|answer| {
+            let place = answer.name.as_ptr() as usize - file.as_ptr() as usize;
+            let name = place..place + answer.name.len();
+            (answer.wall_offset_ms, answer.savings_ms, name, answer.start, answer.end)
+        })
+        .map_err(peer_pair)
+}
+
+fn number_of(said: &Said) -> u8 {
+    said.as_ref().map_or_else(|refusal| refusal.0, |_| 0)
+}
+
 fn same_question(file: &[u8], id: &[u8], ticks: i64, seen: &mut Seen) {
+    let shown = &file[..file.len().min(2000)];
     for mark in [Mark::MoreMayCome, Mark::ThisIsAll] {
-        let expected = second_reader::ask(file, id, ticks, mark)
-            .map(|answer| {
-                let (start, end) = (ticks_of(answer.start), ticks_of(answer.end));
-                (answer.wall, answer.savings, answer.name, start, end)
-            })
-            .map_err(pair);
-        let given = peer::ask(file, id, ticks, mark == Mark::MoreMayCome)
-            .map(|answer| {
-                // The name is a part of the file: where it stands is what is compared.
-                let place = answer.name.as_ptr() as usize - file.as_ptr() as usize;
-                let name = place..place + answer.name.len();
-                (answer.wall_offset_ms, answer.savings_ms, name, answer.start, answer.end)
-            })
-            .map_err(peer_pair);
-        seen.asked.insert(expected.as_ref().map_or_else(|refusal| refusal.0, |_| 0));
-        assert_eq!(given, expected, "{:02x?}, {id:?} at {ticks}, {mark:?}", &file[..file.len().min(2000)]);
+        let more = mark == Mark::MoreMayCome;
+        let asked = expected(second_reader::ask(file, id, ticks, mark));
+        seen.asked.insert(number_of(&asked));
+        assert_eq!(given(file, peer::ask(file, id, ticks, more)), asked, "{shown:02x?}, {id:?} at {ticks}, {mark:?}");
+        let named = expected(second_reader::ask_named(file, id, ticks, mark));
+        seen.named.insert(number_of(&named));
+        let ours = given(file, peer::ask_named(file, id, ticks, more));
+        assert_eq!(ours, named, "{shown:02x?}, the name {id:?} at {ticks}, {mark:?}");
     }
 }
 
@@ -109,6 +130,7 @@ fn questions(content: &FileContent, prng: &mut Prng, most: usize) -> Vec<(Vec<u8
         }
         asked.extend(all.into_iter().map(|ticks| (content.id(zone).to_vec(), ticks)));
     }
+    asked.extend(names(content, prng).into_iter().map(|name| (name, 0)));
     asked
 }
 
@@ -134,8 +156,9 @@ fn generated_files() {
         }
     }
     assert_eq!(seen.local, BTreeSet::from([0, 2, 3, 4, 5, 6, 7, 8, 9, 10, 11, 12, 17]));
-    assert_eq!(seen.whole, BTreeSet::from([0, 2, 3, 4, 5, 6, 7, 8, 9, 10, 11, 12, 13, 15]));
+    assert_eq!(seen.whole, BTreeSet::from([0, 2, 3, 4, 5, 6, 7, 8, 9, 10, 11, 12, 13, 15, 19]));
     assert_eq!(seen.asked, BTreeSet::from([0, 1, 2, 3, 4, 5, 6, 7, 8, 9, 10, 11, 12, 14]));
+    assert_eq!(seen.named, BTreeSet::from([0, 1, 2, 3, 4, 5, 6, 7, 8, 9, 10, 11, 12, 14, 18, 19]));
 }
 
 #[test]
@@ -179,6 +202,9 @@ fn realistic_files() {
             for local in local_times(zone, &mut prng).into_iter().step_by(7) {
                 same_local(&file, id, local, &mut seen);
             }
+        }
+        for &(key, _) in contents.aliases.iter().flatten() {
+            same_question(&file, &file[contents.pool[key].clone()], 0, &mut seen);
         }
         same_question(&file, b"No/Such_Zone", 0, &mut seen);
     }

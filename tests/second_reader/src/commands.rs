@@ -3,7 +3,7 @@
 use crate::cases;
 use crate::Done;
 use second_reader::generate;
-use second_reader::{ask, file, lines, map_local, rewrite, version_text, Mark, Refusal};
+use second_reader::{ask, ask_named, file, lines, map_local, rewrite, version_text, Answer, Mark, Refusal};
 use std::ffi::{OsStr, OsString};
 use std::fs;
 use std::io::{ErrorKind, Read};
@@ -33,12 +33,9 @@ pub(crate) fn run(arguments: &[OsString]) -> Result<Done, Misuse> {
             Ok(done(file::read_file(&bytes).map(|_| b"0".to_vec())))
         }
         // The plain question.
-        (Some("ask"), [file, zone, ticks]) => ask_file(file, zone, ticks, Mark::MoreMayCome),
-        (Some("ask"), [file, zone, ticks, mark]) => match mark.to_str() {
-            Some("part") => ask_file(file, zone, ticks, Mark::MoreMayCome),
-            Some("all") => ask_file(file, zone, ticks, Mark::ThisIsAll),
-            _ => Err(Misuse::Words("the mark is neither part nor all".to_string())),
-        },
+        (Some("ask"), [file, zone, ticks]) => ask_file(ask, file, zone, ticks, Mark::MoreMayCome),
+        (Some("ask"), [file, zone, ticks, mark]) => ask_file(ask, file, zone, ticks, marked(mark)?),
+        (Some("named"), [file, name, ticks, mark]) => ask_file(ask_named, file, name, ticks, marked(mark)?),
         (Some("local"), [file, zone, local]) => {
             let bytes = read(file)?;
             let found = map_local(&bytes, zone.as_encoded_bytes(), number(local)?);
@@ -85,9 +82,20 @@ pub(crate) fn standard_input() -> Result<Vec<u8>, Misuse> {
     Ok(input)
 }
 
-fn ask_file(file: &OsStr, zone: &OsStr, ticks: &OsStr, mark: Mark) -> Result<Done, Misuse> {
+fn marked(word: &OsStr) -> Result<Mark, Misuse> {
+    match word.to_str() {
+        Some("part") => Ok(Mark::MoreMayCome),
+        Some("all") => Ok(Mark::ThisIsAll),
+        _ => Err(Misuse::Words("the mark is neither part nor all".to_string())),
+    }
+}
+
+/// A question, marked or named.
+type Question = fn(&[u8], &[u8], i64, Mark) -> Result<Answer, Refusal>;
+
+fn ask_file(question: Question, file: &OsStr, id: &OsStr, ticks: &OsStr, mark: Mark) -> Result<Done, Misuse> {
     let bytes = read(file)?;
-    let asked = ask(&bytes, zone.as_encoded_bytes(), number(ticks)?, mark);
+    let asked = question(&bytes, id.as_encoded_bytes(), number(ticks)?, mark);
     Ok(done(asked.map(|answer| {
         let mut text = format!("{} {} {} {} ", answer.wall, answer.savings, answer.start, answer.end).into_bytes();
         text.extend(&bytes[answer.name]);

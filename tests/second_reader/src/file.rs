@@ -1,5 +1,6 @@
 //! A file: version and fields, the whole-file check, the question and the version text.
 
+use crate::aliases::{read_aliases, Aliases};
 use crate::codes;
 use crate::data::Data;
 use crate::number::{Number, Refusal};
@@ -12,9 +13,10 @@ use std::ops::Range;
 /// "the place just past a field is at most 4,194,304"
 pub const LAST_END: usize = 4_194_304;
 
-const POOL: u8 = 0;
-const ZONE: u8 = 1;
-const VERSION_TEXT: u8 = 2;
+pub(crate) const POOL: u8 = 0;
+pub(crate) const ZONE: u8 = 1;
+pub(crate) const VERSION_TEXT: u8 = 2;
+pub(crate) const ALIASES: u8 = 3;
 
 /// "The marked question says \"more may come\" or \"this is all\"."
 #[derive(Clone, Copy, Debug, PartialEq, Eq)]
@@ -35,7 +37,7 @@ impl Mark {
     }
 
     /// The number for bytes that end at the version's or a field's end with the zone unseen.
-    fn unseen(self) -> Number {
+    pub(crate) fn unseen(self) -> Number {
         match self {
             Mark::MoreMayCome => Number::NotYet,
             Mark::ThisIsAll => Number::NotFound,
@@ -72,7 +74,7 @@ pub struct Field<'a> {
 }
 
 /// The fields of a file, stepped through in file order.
-struct Fields<'a> {
+pub(crate) struct Fields<'a> {
     bytes: &'a [u8],
     mark: Mark,
     at: usize,
@@ -81,7 +83,7 @@ struct Fields<'a> {
 
 impl<'a> Fields<'a> {
     /// "version; then fields in file order". A version that isn't all there is cut, right or wrong (reading 9).
-    fn new(bytes: &'a [u8], mark: Mark) -> Result<Fields<'a>, Refusal> {
+    pub(crate) fn new(bytes: &'a [u8], mark: Mark) -> Result<Fields<'a>, Refusal> {
         match bytes.get(..4) {
             None => Err(mark.cut().at(0)),
             Some([0, 0, 0, 0]) => Ok(Fields { bytes, mark, at: 4, before: None }),
@@ -89,8 +91,13 @@ impl<'a> Fields<'a> {
         }
     }
 
+    /// The place of the next ID byte, or the bytes' end.
+    pub(crate) fn place(&self) -> usize {
+        self.at
+    }
+
     /// "At each ID byte: 6, 5". None at the bytes' end. The place stays at the ID byte.
-    fn id(&self) -> Result<Option<u8>, Refusal> {
+    pub(crate) fn id(&self) -> Result<Option<u8>, Refusal> {
         let Some(&id) = self.bytes.get(self.at) else {
             return Ok(None);
         };
@@ -104,7 +111,7 @@ impl<'a> Fields<'a> {
     }
 
     /// "Then the size code (7), 4, then 1 or 2 if the field isn't whole." Steps over the field.
-    fn field(&mut self, id: u8) -> Result<Field<'a>, Refusal> {
+    pub(crate) fn field(&mut self, id: u8) -> Result<Field<'a>, Refusal> {
         let place = self.at;
         let (size, length) = match codes::read_count(&self.bytes[place + 1..]) {
             Ok(read) => read,
@@ -135,12 +142,15 @@ pub struct Contents<'a> {
     pub zones: Vec<(usize, Zone)>,
     /// Where field 2's text stands.
     pub version_text: Option<Range<usize>>,
+    /// The pairs of field 3.
+    pub aliases: Option<Aliases>,
 }
 
 /// "checking a whole file": its contents if it is well formed, else the refusal.
 pub fn read_file(bytes: &[u8]) -> Result<Contents<'_>, Refusal> {
     let mut fields = Fields::new(bytes, Mark::ThisIsAll)?;
-    let mut contents = Contents { fields: Vec::new(), pool: Pool::new(), zones: Vec::new(), version_text: None };
+    let mut contents =
+        Contents { fields: Vec::new(), pool: Pool::new(), zones: Vec::new(), version_text: None, aliases: None };
     let mut ids = BTreeSet::new();
     while let Some(id) = fields.id()? {
         let field = fields.field(id)?;
@@ -159,7 +169,9 @@ pub fn read_file(bytes: &[u8]) -> Result<Contents<'_>, Refusal> {
                 let part = read_version(field.data).map_err(refuse)?;
                 contents.version_text = Some(field.data_place + part.start..field.data_place + part.end);
             }
-            // "Fields 3 and up are stepped over by their size."
+            // 02, Ask 5: "The whole-file check now gives 7, 8, 9 and 19 for field 3 too".
+            ALIASES => contents.aliases = Some(read_aliases(field.data, bytes, &contents.pool).map_err(refuse)?),
+            // "stepped over by their size"
             _ => {}
         }
         contents.fields.push(field);
@@ -172,7 +184,7 @@ pub fn read_file(bytes: &[u8]) -> Result<Contents<'_>, Refusal> {
 }
 
 /// "in field 2 (tzdb version) length and bytes stand in place"
-fn read_version(bytes: &[u8]) -> Result<Range<usize>, Number> {
+pub(crate) fn read_version(bytes: &[u8]) -> Result<Range<usize>, Number> {
     let mut data = Data::new(bytes);
     let part = data.text()?;
     data.end()?;
@@ -197,14 +209,19 @@ pub fn ask(bytes: &[u8], zone: &[u8], ticks: i64, mark: Mark) -> Result<Answer, 
         return Err(Number::InstantRange.at(0));
     }
     let (pool, zone) = find_zone(bytes, zone, mark)?;
+    Ok(answer(&pool, &zone, ticks))
+}
+
+/// What a zone says of an instant in range.
+pub(crate) fn answer(pool: &Pool, zone: &Zone, ticks: i64) -> Answer {
     let holding = zone.at(ticks);
-    Ok(Answer {
+    Answer {
         wall: holding.interval.wall,
         savings: holding.interval.savings,
         name: pool[holding.interval.name].clone(),
         start: holding.interval.start,
         end: holding.end,
-    })
+    }
 }
 
 /// The first zone that has the asked ID and the pool that it is read with, or a question's refusal, 14 aside.

@@ -7,6 +7,7 @@
 //! The comments cite the sentences of `01-scope.md` as "01", those of `02-change-requests.md` as "02", the points of
 //! `docs/DECISIONS.md` as "reading N", and those on an ask of 02 as "reading ASK.N".
 
+pub mod aliases;
 pub mod calendar;
 pub mod codes;
 mod data;
@@ -14,6 +15,7 @@ pub mod file;
 pub mod generate;
 pub mod lines;
 pub mod local;
+pub mod named;
 pub mod number;
 pub mod pool;
 pub mod recurrence;
@@ -24,6 +26,7 @@ pub mod zone;
 pub use file::{ask, ask_plain, check, version_text, Answer, Mark};
 pub use lines::lines;
 pub use local::{map_local, LocalInstants};
+pub use named::ask_named;
 pub use number::{Number, Refusal};
 pub use rewrite::rewrite;
 pub use transition::Transition;

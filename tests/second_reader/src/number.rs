@@ -41,6 +41,10 @@ pub enum Number {
     BadLine = 16,
     /// 02, Ask 3: "Number 17, place 0, exactly if there is none"
     NoInstant = 17,
+    /// 02, Ask 5: "Number 18 if the eighth target is again only a key"
+    TooManySteps = 18,
+    /// 02, Ask 5: "19 at the second of two equal keys"
+    SecondKey = 19,
 }
 
 impl Number {
@@ -69,6 +73,8 @@ impl Number {
             Number::OutputShort => "the output is too short",
             Number::BadLine => "the question line is not understood",
             Number::NoInstant => "no instant reads that local time",
+            Number::TooManySteps => "the alias leads over more than eight steps",
+            Number::SecondKey => "a second alias with the same bytes",
         }
     }
 

@@ -6,25 +6,25 @@ use Rattle.checks.proofs.walk.Statement.{statement}
 use Rattle.checks.proofs.walk.Tie as tie
 
 abbrev Inv-loop : tie.InvT-loop
-Inv-loop s index₀ seen₀ marks₀ c₀ index seen marks c = Walking s c index seen marks
+Inv-loop s index₀ order₀ c₀ index order c = Walking s c index order
 
 abbrev μ-loop : tie.MeasureT-loop
-μ-loop s index₀ seen₀ marks₀ c₀ index seen marks c = length s - c .at
+μ-loop s index₀ order₀ c₀ index order c = length s - c .at
 
 loop-holds : tie.Need-loop-holds Inv-loop μ-loop
 loop-holds c = walking-start _
 
 step-requires : tie.Need-step-requires Inv-loop μ-loop
-step-requires c κs = (c .before .before .before .loop .inv .holds .inside, c .before .before .before .loop .inv .holds .indexed)
+step-requires c κs = (c .before .before .loop .inv .holds .inside, c .before .before .loop .inv .holds .indexed, c .before .before .loop .inv .holds .stands .ids .sorted)
 
 returns : tie.Need-returns Inv-loop μ-loop
-returns c = walking-done _ _ _ _ _ _ _ _ _ (c .before .before .before .before .before .before .before .loop .inv) (c .before .before .before .step .ensures) _ (c .before .t .given .1)
+returns c = walking-done _ _ _ _ _ _ _ (c .before .before .before .before .before .before .loop .inv) (c .before .before .before .step .ensures) _ (c .before .t .given .1)
 
 loop-less : tie.Need-loop-less Inv-loop μ-loop
-loop-less c = walking-less _ _ _ _ _ _ _ _ _ (c .before .before .before .before .before .before .before .loop .inv) (c .before .before .before .step .ensures) _ (c .before .t2 .given .1)
+loop-less c = walking-less _ _ _ _ _ _ _ (c .before .before .before .before .before .before .loop .inv) (c .before .before .before .step .ensures) _ (c .before .t2 .given .1)
 
 loop-again : tie.Need-loop-again Inv-loop μ-loop
-loop-again c = walking-next _ _ _ _ _ _ _ _ _ (c .before .before .before .before .before .before .before .loop .inv) (c .before .before .before .step .ensures) _ (c .before .t2 .given .1)
+loop-again c = walking-next _ _ _ _ _ _ _ (c .before .before .before .before .before .before .loop .inv) (c .before .before .before .step .ensures) _ (c .before .t2 .given .1)
 
 pub walk-spec : {M : Type 1} → statement M
 walk-spec =

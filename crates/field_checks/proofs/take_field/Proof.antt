@@ -1,19 +1,22 @@
-use Rattle.field_checks.proofs.TakeLaws.{field-pool, field-zone, field-text, field-other}
+use Rattle.field_checks.proofs.TakeLaws.{field-pool, field-zone, field-text, field-aliases, field-other}
 use borrow.Author.Needs.{needs}
 use Rattle.field_checks.proofs.take_field.Statement.{statement}
 use Rattle.field_checks.proofs.take_field.Tie as tie
 
 returns : tie.Need-returns
-returns c = field-pool _ _ _ _ _ _ _ _ _ _ (c .before .before .if1 .taken) (c .before .before .before .before .pre .2) (c .take-pool .ensures)
+returns c = field-pool _ _ _ _ _ _ _ _ _ (c .before .before .if1 .taken) (c .before .before .before .before .pre .2) (c .take-pool .ensures)
 
 returns-2 : tie.Need-returns-2
-returns-2 c = field-zone _ _ _ _ _ _ _ _ (c .before .before .before .before .before .if1 .left) _ _ _ (c .before .before .before .before .if2 .taken) (c .take-zone .ensures)
+returns-2 c = field-zone _ _ _ _ _ _ _ (c .before .before .before .before .if1 .left) _ _ (c .before .before .before .if2 .taken) (c .take-zone .ensures)
 
 returns-3 : tie.Need-returns-3
-returns-3 c = field-text _ _ _ _ _ _ _ _ (c .before .before .before .if1 .left) (c .before .before .if2 .left) (c .before .before .before .before .before .pre .2) _ (c .before .if3 .taken) (c .take-text .ensures)
+returns-3 c = field-text _ _ _ _ _ _ _ (c .before .before .before .if1 .left) (c .before .before .if2 .left) (c .before .before .before .before .before .pre .2) _ (c .before .if3 .taken) (c .take-text .ensures)
 
 returns-4 : tie.Need-returns-4
-returns-4 c = field-other _ _ _ _ _ _ _ _ (c .before .before .if1 .left) (c .before .if2 .left) (c .before .before .before .before .pre .2) (c .if3 .left)
+returns-4 c = field-aliases _ _ _ _ _ _ _ (c .before .before .before .before .before .if1 .left) (c .before .before .before .before .if2 .left) (c .before .before .before .before .before .before .before .pre .2) (c .before .before .before .if3 .left) _ (c .before .before .if4 .taken) (c .take-aliases .ensures)
+
+returns-5 : tie.Need-returns-5
+returns-5 c = field-other _ _ _ _ _ _ _ (c .before .before .before .if1 .left) (c .before .before .if2 .left) (c .before .before .before .before .before .pre .2) (c .before .if3 .left) (c .if4 .left)
 
 pub take-field-spec : {M : Type 1} → statement M
 take-field-spec =
@@ -25,4 +28,6 @@ take-field-spec =
     returns-2
     (λ c κs. search needs)
     returns-3
-    returns-4)
+    (λ c κs. search needs)
+    returns-4
+    returns-5)

@@ -1,12 +1,12 @@
 use mathlib.Core.Path.{sym, _∙_}
 use Rattle.frames.proofs.AtLaws.{version-inside, no-field}
-use Rattle.locate.proofs.WalkingLaws.{first-end, first-cut, first-refused, first-on}
+use Rattle.locate.proofs.WalkingLaws.{first-end, first-cut, first-refused}
 use borrow.Author.Needs.{needs}
 use Rattle.locate.proofs.read_first.Statement.{statement}
 use Rattle.locate.proofs.read_first.Tie as tie
 
 read-pool-requires : tie.Need-read-pool-requires
-read-pool-requires c κs = version-inside 1 _ (sym (c .enum-told3 .given .1) ∙ c .before .before .read-frame .ensures)
+read-pool-requires c κs = (version-inside 1 _ (sym (c .enum-told3 .given .1) ∙ c .before .before .read-frame .ensures), sym (c .before .before .read-frame .ensures) ∙ c .enum-told3 .given .1)
 
 returns : tie.Need-returns
 returns c = first-end _ (sym (c .enum-told .given .1) ∙ c .before .before .read-frame .ensures)
@@ -16,9 +16,6 @@ returns-2 c = first-cut _ (sym (c .enum-told2 .given .1) ∙ c .before .before .
 
 returns-3 : tie.Need-returns-3
 returns-3 c = first-refused _ _ (sym (c .before .n .given .1) ∙ c .before .before .before .read-frame .ensures)
-
-returns-4 : tie.Need-returns-4
-returns-4 c = first-on _ (sym (c .before .enum-told3 .given .1) ∙ c .before .before .before .read-frame .ensures) _ (c .read-pool .ensures)
 
 returns-5 : tie.Need-returns-5
 returns-5 c = no-field 1 _ _ _ _ (sym (c .enum-told4 .given .1) ∙ c .before .before .read-frame .ensures)
@@ -37,5 +34,5 @@ read-first-spec =
     returns
     returns-2
     returns-3
-    returns-4
+    (λ c. c .read-pool .ensures)
     returns-5)

@@ -1,6 +1,8 @@
 use native.Mathlib.Omega.{arith}
 use mathlib.Core.Path.{sym, ap, _∙_}
-use Rattle.locate.proofs.WalkingLaws.{first-pool, first-fault, first-short, first-over}
+use Rattle.answers.specs.Answers.{noPool}
+use Rattle.locate.specs.Asked.{holder}
+use Rattle.locate.proofs.WalkingLaws.{first-pool, first-fault, first-short, first-over, pool-walk}
 use Rattle.questions.specs.View.{outcomeAt}
 use Rattle.questions.proofs.OutcomeLaws.{out-refused, out-cut, out-end, out-walk}
 use borrow.Author.Needs.{needs}
@@ -8,34 +10,34 @@ use Rattle.questions.proofs.ask_at.Statement.{statement}
 use Rattle.questions.proofs.ask_at.Tie as tie
 
 sub-room : tie.Need-sub-room
-sub-room c = first-pool (c .before .before .before .read-first .ensures) _ _ (c .before .d .given .1) .0 .order
+sub-room c = first-pool (c .before .before .before .read-first .ensures) _ _ (c .before .d .given .1) .lies .order
 
 part-room-start : tie.Need-part-room-start
-part-room-start c = first-pool (c .before .before .before .read-first .ensures) _ _ (c .before .d .given .1) .0 .order
+part-room-start c = first-pool (c .before .before .before .read-first .ensures) _ _ (c .before .d .given .1) .lies .order
 
 part-room-end : tie.Need-part-room-end
-part-room-end c = first-pool (c .before .before .before .read-first .ensures) _ _ (c .before .d .given .1) .0 .inside
+part-room-end c = first-pool (c .before .before .before .read-first .ensures) _ _ (c .before .d .given .1) .lies .inside
 
 ask-short-requires : tie.Need-ask-short-requires
-ask-short-requires c κs = (first-pool (c .before .before .before .before .before .before .read-first .ensures) _ _ (c .before .before .before .before .d .given .1) .0, omega (arith, c .before .room .ensures), c .before .before .before .before .before .before .before .before .before .pre)
+ask-short-requires c κs = (first-pool (c .before .before .before .before .before .before .read-first .ensures) _ _ (c .before .before .before .before .d .given .1) .lies, omega (arith, c .before .room .ensures), c .before .before .before .before .before .before .before .before .before .pre)
 
 returns : tie.Need-returns
-returns c = out-walk _ _ _ _ (c .ask-short .ensures ∙ ap (outcomeAt (c .before .before .before .before .before .before .before .before .before .before .args .t)) (sym (first-pool (c .before .before .before .before .before .before .before .read-first .ensures) _ _ (c .before .before .before .before .before .d .given .1) .1 _)))
+returns c = out-walk _ _ _ _ (c .ask-short .ensures ∙ ap (outcomeAt (c .before .before .before .before .before .before .before .before .before .before .args .t)) (sym (pool-walk (first-pool (c .before .before .before .before .before .before .before .read-first .ensures) _ _ (c .before .before .before .before .before .d .given .1)) _)))
 
 ask-long-requires : tie.Need-ask-long-requires
-ask-long-requires c κs = (first-pool (c .before .before .before .before .before .before .read-first .ensures) _ _ (c .before .before .before .before .d .given .1) .0, c .before .before .before .before .before .before .before .before .before .pre)
+ask-long-requires c κs = (first-pool (c .before .before .before .before .before .before .read-first .ensures) _ _ (c .before .before .before .before .d .given .1) .lies, c .before .before .before .before .before .before .before .before .before .pre)
 
 returns-2 : tie.Need-returns-2
-returns-2 c = out-walk _ _ _ _ (out-refused _ _ _ _ (first-fault (c .before .before .before .read-first .ensures) _ _ (c .before .n .given .1) _))
+returns-2 c = out-walk _ _ _ _ (out-refused _ _ _ _ (first-fault (c .before .before .before .read-first .ensures) (holder _) noPool _ _ (c .before .n .given .1)))
 
 returns-3 : tie.Need-returns-3
-returns-3 c = out-walk _ _ _ _ (out-cut _ _ _ (first-short (c .before .before .before .read-first .ensures) _ (c .before .p .given .1) _))
+returns-3 c = out-walk _ _ _ _ (out-cut _ _ _ (first-short (c .before .before .before .read-first .ensures) (holder _) noPool _ (c .before .p .given .1)))
 
 returns-4 : tie.Need-returns-4
-returns-4 c = out-walk _ _ _ _ (out-end _ _ _ _ (first-over (c .before .before .before .read-first .ensures) _ (c .before .p2 .given .1) _))
+returns-4 c = out-walk _ _ _ _ (out-end _ _ _ _ (first-over (c .before .before .before .read-first .ensures) (holder _) noPool _ (c .before .p2 .given .1)))
 
 returns-5 : tie.Need-returns-5
-returns-5 c = out-walk _ _ _ _ (c .ask-long .ensures ∙ ap (outcomeAt (c .before .before .before .before .before .before .before .before .before .before .args .t)) (sym (first-pool (c .before .before .before .before .before .before .before .read-first .ensures) _ _ (c .before .before .before .before .before .d .given .1) .1 _)))
+returns-5 c = out-walk _ _ _ _ (c .ask-long .ensures ∙ ap (outcomeAt (c .before .before .before .before .before .before .before .before .before .before .args .t)) (sym (pool-walk (first-pool (c .before .before .before .before .before .before .before .read-first .ensures) _ _ (c .before .before .before .before .before .d .given .1)) _)))
 
 pub ask-at-spec : {M : Type 1} → statement M
 ask-at-spec =

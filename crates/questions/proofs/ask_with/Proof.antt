@@ -1,79 +1,21 @@
-use native.Mathlib.Omega.{arith}
-use mathlib.Core.Path.{sym, ap, _∙_, subst}
-use Prim.Native.Nat.{ℕ}
-use lib.ListN.{length-take, length-drop}
+use mathlib.Core.Path.{sym, ap, _∙_}
 use Rattle.pool.proofs.PoolLaws.{ready}
-use Rattle.zones.specs.Sound.{FoundOk}
-use Rattle.zones.proofs.RangeLaws.{found-ok}
-use Rattle.answers.specs.declared.Outcome.the-variants.{Answered}
-use Rattle.locate.proofs.WalkingLaws.{located-found, located-refused, located-cut, located-end}
-use Rattle.questions.proofs.OutcomeLaws.{out-refused, out-cut, out-end, out-denied, out-found}
+use Rattle.locate.proofs.WalkingLaws.{located-out}
+use Rattle.questions.specs.View.{outcomeAt}
 use borrow.Author.Needs.{needs}
 use Rattle.questions.proofs.ask_with.Statement.{statement}
 use Rattle.questions.proofs.ask_with.Tie as tie
 
-sub-find : tie.Need-sub-find
-sub-find c = located-found (c .before .before .before .before .before .walk .ensures .0) _ (c .before .v .given .1) .order
-
-part-find-start : tie.Need-part-find-start
-part-find-start c = located-found (c .before .before .before .before .before .walk .ensures .0) _ (c .before .v .given .1) .order
-
-part-find-end : tie.Need-part-find-end
-part-find-end c = located-found (c .before .before .before .before .before .walk .ensures .0) _ (c .before .v .given .1) .inside
-
-answered-requires : tie.Need-answered-requires
-answered-requires c κs = (
-  ready _ _ _ (c .before .before .before .before .before .before .before .before .before .before .before .before .before .before .before .before .before .pre .1) (c .before .before .before .before .before .before .before .before .before .before .before .before .walk .ensures .1),
-  subst (λ (n : ℕ). FoundOk n (c .before .before .before .x .given .0 .0)) (located-found (c .before .before .before .before .before .before .before .before .before .before .before .before .walk .ensures .0) _ (c .before .before .before .before .before .before .before .before .v .given .1) .count-is)
-      (found-ok _ _ _ _ (c .before .before .before .before .before .before .before .before .before .before .before .before .before .before .before .before .before .pre .2) (sym (c .before .before .before .x .given .1) ∙ c .before .before .before .before .before .find .ensures)),
-  omega (arith, c .before .before .before .before .before .before .before .before .before .before .before .before .before .before .before .before .before .pre .0 .order, c .before .before .before .before .before .before .before .before .before .before .before .before .before .before .before .before .before .pre .0 .limit),
-  simp (length-take, length-drop) (omega (arith, c .before .before .before .before .before .before .before .before .before .before .before .before .before .before .before .before .before .pre .0 .limit)),
+answer-at-requires : tie.Need-answer-at-requires
+answer-at-requires c κs = (
+  c .before .before .before .before .before .before .before .before .pre .0,
+  ready _ _ _ (c .before .before .before .before .before .before .before .before .pre .1) (c .before .before .before .walk .ensures .1),
+  c .before .before .before .before .before .before .before .before .pre .2,
+  located-out (c .before .before .before .walk .ensures .0) .0,
 )
 
 returns : tie.Need-returns
-returns c = out-refused _ _ _ _ (located-refused (c .before .before .before .before .before .walk .ensures .0) _ _ (c .before .n .given .1))
-
-returns-2 : tie.Need-returns-2
-returns-2 c = out-cut _ _ _ (located-cut (c .before .before .before .before .before .walk .ensures .0) _ (c .before .p .given .1))
-
-returns-3 : tie.Need-returns-3
-returns-3 c = out-end _ _ _ _ (located-end (c .before .before .before .before .before .walk .ensures .0) _ (c .before .p2 .given .1))
-
-returns-4 : tie.Need-returns-4
-returns-4 c =
-    out-denied _ _ _ _ _ (located-found (c .before .before .before .before .before .before .before .before .before .before .walk .ensures .0) _ (c .before .before .before .before .before .before .v .given .1)) _ (sym (c .before .n2 .given .1) ∙ c .before .before .before .find .ensures)
-
-returns-5 : tie.Need-returns-5
-returns-5 c =
-    ap Answered (c .answered .ensures)
-    ∙ out-found _ _ _ _ _ (located-found (c .before .before .before .before .before .before .before .before .before .before .before .before .before .walk .ensures .0) _ (c .before .before .before .before .before .before .before .before .before .v .given .1)) _ (sym (c .before .before .before .before .x .given .1) ∙ c .before .before .before .before .before .before .find .ensures)
+returns c = c .answer-at .ensures ∙ ap (outcomeAt (c .before .before .before .before .before .before .before .before .before .args .t)) (sym (located-out (c .before .before .before .before .walk .ensures .0) .1))
 
 pub ask-with-spec : {M : Type 1} → statement M
-ask-with-spec =
-    tie.close
-    (tie.spec
-    (λ c κs. search needs)
-    (λ c. search needs)
-    (λ c. search needs)
-    (λ c. search needs)
-    (λ c. search needs)
-    sub-find
-    part-find-start
-    part-find-end
-    (λ c κs. search needs)
-    (λ c. search needs)
-    (λ c. search needs)
-    (λ c. search needs)
-    (λ c. search needs)
-    (λ c. search needs)
-    answered-requires
-    (λ c. search needs)
-    returns
-    (λ c. search needs)
-    returns-2
-    (λ c. search needs)
-    returns-3
-    (λ c. search needs)
-    returns-4
-    (λ c. search needs)
-    returns-5)
+ask-with-spec = tie.close (tie.spec (λ c κs. search needs) answer-at-requires (λ c. search needs) returns)

@@ -7,6 +7,7 @@ use crate::transition::{Transition, FIRST, LAST, TICKS_PER_HOUR, TICKS_PER_MINUT
 use crate::zone::{Interval, Rest, Zone, MOST_INTERVALS};
 use crate::{calendar, codes};
 use std::collections::BTreeSet;
+use std::ops::Range;
 
 const DAY_MS: i64 = 86_400_000;
 const YEAR_1800: i64 = -53_646_624_000_000_000;
@@ -21,7 +22,7 @@ pub enum Size {
 }
 
 /// The content of a well-formed file.
-#[derive(Clone, Debug, PartialEq, Eq)]
+#[derive(Clone, Debug, Default, PartialEq, Eq)]
 pub struct FileContent {
     /// The strings of field 0.
     pub pool: Vec<Vec<u8>>,
@@ -29,7 +30,9 @@ pub struct FileContent {
     pub zones: Vec<Zone>,
     /// The text of field 2.
     pub version: Option<Vec<u8>>,
-    /// Fields 3 and up in file order, with their data.
+    /// The pairs of field 3, alias and target, no two aliases with the same bytes.
+    pub aliases: Option<Vec<(usize, usize)>>,
+    /// The fields behind these in file order, with their data.
     pub others: Vec<(u8, Vec<u8>)>,
 }
 
@@ -42,7 +45,10 @@ impl FileContent {
 
 /// A well-formed file's content.
 pub fn random_content(prng: &mut Prng, size: Size) -> FileContent {
-    let pool = random_pool(prng, size);
+    let mut pool = random_pool(prng, size);
+    // Strings for aliases that lead to one another.
+    let chain = if pool.len() < 100 && prng.one_in(5) { pool.len()..pool.len() + 11 } else { 0..0 };
+    pool.extend(chain.clone().map(|number| format!("alias {}", number - chain.start).into_bytes()));
     let mut zones = Vec::new();
     let mut ids = BTreeSet::new();
     // An empty pool can name no zone.
@@ -55,7 +61,42 @@ pub fn random_content(prng: &mut Prng, size: Size) -> FileContent {
         }
     }
     let version = (!prng.one_in(3)).then(|| random_text(prng, size));
-    FileContent { pool, zones, version, others: random_others(prng) }
+    let aliases = (!prng.one_in(3)).then(|| random_aliases(prng, &pool, &zones, chain));
+    FileContent { pool, zones, version, aliases, others: random_others(prng) }
+}
+
+/// Pairs in any order: from anything in the pool to zones, to other aliases and to what is neither, and along the chain.
+fn random_aliases(prng: &mut Prng, pool: &[Vec<u8>], zones: &[Zone], chain: Range<usize>) -> Vec<(usize, usize)> {
+    let mut drawn: Vec<(usize, usize)> = Vec::new();
+    if let Some(last) = chain.clone().last() {
+        // Seven to ten pairs one behind another, and what the last of them leads to.
+        let length = 7 + prng.below(4);
+        drawn.extend(chain.clone().take(length).map(|number| (number, number + 1)));
+        match (drawn.last_mut(), prng.below(4)) {
+            (Some(pair), 0) => pair.1 = *prng.pick(&[chain.start, pair.0, last]),
+            (Some(pair), 1 | 2) if !zones.is_empty() => pair.1 = prng.pick(zones).id,
+            _ => {}
+        }
+    }
+    if !pool.is_empty() {
+        for _ in 0..prng.below(if pool.len() > 1000 { 400 } else { 8 }) {
+            let any = prng.below(pool.len());
+            let target = match prng.below(3) {
+                0 if !zones.is_empty() => prng.pick(zones).id,
+                1 if !drawn.is_empty() => prng.pick(&drawn).0,
+                _ => prng.below(pool.len()),
+            };
+            drawn.push((any, target));
+        }
+    }
+    let mut pairs = Vec::new();
+    let mut keys = BTreeSet::new();
+    for (key, target) in drawn {
+        if keys.insert(pool[key].clone()) {
+            pairs.insert(prng.below(pairs.len() + 1), (key, target));
+        }
+    }
+    pairs
 }
 
 /// Strings with duplicates and empty ones among them.
@@ -92,10 +133,10 @@ fn random_text(prng: &mut Prng, size: Size) -> Vec<u8> {
     text.into_bytes()
 }
 
-/// Fields 3 to 9 and one above; only 8 and up may repeat.
+/// Fields 4 to 9 and one above; only 8 and up may repeat.
 fn random_others(prng: &mut Prng) -> Vec<(u8, Vec<u8>)> {
     let mut others = Vec::new();
-    for id in [3, 4, 5, 6, 7, 8, 9, 255] {
+    for id in [4, 5, 6, 7, 8, 9, 255] {
         let most = if id > 7 { 2 } else { 1 };
         let count = if prng.one_in(3) { 1 + prng.below(most) } else { 0 };
         for _ in 0..count {

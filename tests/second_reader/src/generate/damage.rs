@@ -23,6 +23,8 @@ pub enum Damage {
     DoubledField,
     /// A zone stands twice, the second time perhaps behind other zones.
     DoubledZone,
+    /// An alias stands twice.
+    DoubledKey,
     /// A largest size is passed.
     LimitPassed,
     /// One code is broken, the sizes kept right.
@@ -37,7 +39,7 @@ pub enum Damage {
 
 impl Damage {
     /// Every way; a broken code, which can be many things, stands more than once.
-    pub const ALL: [Damage; 16] = [
+    pub const ALL: [Damage; 17] = [
         Damage::Cut,
         Damage::Flip,
         Damage::Version,
@@ -45,6 +47,7 @@ impl Damage {
         Damage::WrongOrder,
         Damage::DoubledField,
         Damage::DoubledZone,
+        Damage::DoubledKey,
         Damage::LimitPassed,
         Damage::BrokenCode,
         Damage::BrokenCode,
@@ -57,7 +60,7 @@ impl Damage {
     ];
 }
 
-/// The file of `whole`, damaged. Now and then it is still well formed (a bit of field 3 flipped, say).
+/// The file of `whole`, damaged. Now and then it is still well formed (a bit of field 4 flipped, say).
 pub fn damaged(whole: &FilePlan, kind: Damage, prng: &mut Prng) -> Vec<u8> {
     let mut file = whole.clone();
     match kind {
@@ -82,6 +85,7 @@ pub fn damaged(whole: &FilePlan, kind: Damage, prng: &mut Prng) -> Vec<u8> {
             file.fields.insert(number + 1, file.fields[number].clone());
         }
         Damage::DoubledZone => double_zone(&mut file, prng),
+        Damage::DoubledKey => double_key(&mut file, prng),
         Damage::LimitPassed => pass_limit(&mut file, prng),
         Damage::BrokenCode => break_code(&mut file, prng),
         Damage::DataCut => {
@@ -101,7 +105,7 @@ pub fn damaged(whole: &FilePlan, kind: Damage, prng: &mut Prng) -> Vec<u8> {
 
 /// A field, more often one of those whose data is read.
 fn pick_field<'a>(file: &'a mut FilePlan, prng: &mut Prng) -> &'a mut FieldPlan {
-    let read = file.fields.iter().filter(|field| field.id <= 2).count();
+    let read = file.fields.iter().filter(|field| field.id <= 3).count();
     let among = if prng.one_in(8) { file.fields.len() } else { read };
     let number = prng.below(among);
     &mut file.fields[number]
@@ -154,6 +158,22 @@ fn double_zone(file: &mut FilePlan, prng: &mut Prng) {
     let one = *prng.pick(&zones);
     let behind = prng.pick(&zones[one - zones[0]..]) + 1;
     file.fields.insert(behind, file.fields[one].clone());
+}
+
+fn double_key(file: &mut FilePlan, prng: &mut Prng) {
+    let Some(field) = file.fields.iter_mut().find(|field| field.id == 3 && field.codes.len() > 1) else {
+        return break_code(file, prng);
+    };
+    let pairs = (field.codes.len() - 1) / 2;
+    let key = field.codes[1 + 2 * prng.below(pairs)].clone();
+    // What follows the second key is never looked at: a target, nothing, or what is no code.
+    let behind = match prng.below(3) {
+        0 => key.bytes.clone(),
+        1 => Vec::new(),
+        _ => vec![0x80, 0x00],
+    };
+    field.codes.extend([key, Code { kind: Kind::Opaque, bytes: behind }]);
+    field.codes[0].bytes = codes::encode_count(pairs as i64 + 1).unwrap_or_default();
 }
 
 /// "Largest sizes: the place just past a field is at most 4,194,304; 8,192 pool strings; 1,024 bytes a string; 4,096
@@ -251,6 +271,11 @@ fn broken(code: &Code, pool_count: usize, prng: &mut Prng) -> Vec<u8> {
                 codes::encode_offset(sum - i64::from(standard)).unwrap_or_else(|_| broken_offset(prng))
             }
         },
+        Kind::PairCount => {
+            let pairs = code.bytes[0] & 0x7f;
+            let wrong = *prng.pick(&[0, 1, i64::from(pairs) + 1, i64::from(pairs) + 200, i64::from(i32::MAX)]);
+            count(wrong)
+        }
         Kind::Opaque => flipped([code.bytes.clone(), vec![0]].concat(), prng),
     }
 }

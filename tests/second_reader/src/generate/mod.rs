@@ -10,7 +10,7 @@ pub use content::{random_content, random_tail, FileContent, Size};
 pub use damage::{damaged, Damage};
 pub use plan::{plan, FilePlan, Forms};
 pub use prng::Prng;
-pub use questions::{instants, local_times, question_lines};
+pub use questions::{instants, local_times, names, question_lines};
 
 use crate::lines;
 

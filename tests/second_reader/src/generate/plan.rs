@@ -37,7 +37,9 @@ pub enum Kind {
     Time,
     /// A tail's savings, with its standard offset.
     TailSavings(i32),
-    /// The data of fields 3 and up.
+    /// The count of field 3's pairs.
+    PairCount,
+    /// The data of fields that aren't read.
     Opaque,
 }
 
@@ -155,7 +157,7 @@ fn byte(kind: Kind, value: u8) -> Code {
     Code { kind, bytes: vec![value] }
 }
 
-/// The file of a content, field 0 first, then the zones, then the others.
+/// The file of a content, its fields in the order of their IDs.
 pub fn plan(content: &FileContent, forms: &mut Forms) -> FilePlan {
     let mut pool = vec![counted(Kind::PoolCount, content.pool.len())];
     pool.extend(content.pool.iter().map(|string| text(string)));
@@ -165,6 +167,12 @@ pub fn plan(content: &FileContent, forms: &mut Forms) -> FilePlan {
     }
     if let Some(version) = &content.version {
         fields.push(FieldPlan { id: 2, size: None, codes: vec![text(version)] });
+    }
+    if let Some(pairs) = &content.aliases {
+        let mut codes = vec![counted(Kind::PairCount, pairs.len())];
+        let number = |number: usize| counted(Kind::PoolNumber, number);
+        codes.extend(pairs.iter().flat_map(|&(key, target)| [number(key), number(target)]));
+        fields.push(FieldPlan { id: 3, size: None, codes });
     }
     for (id, data) in &content.others {
         let codes = vec![Code { kind: Kind::Opaque, bytes: data.clone() }];

@@ -36,6 +36,18 @@ pub fn local_times(zone: &Zone, prng: &mut Prng) -> Vec<i64> {
     locals
 }
 
+/// Names worth asking about: zone IDs, aliases, targets and other strings, and what no string is.
+pub fn names(content: &FileContent, prng: &mut Prng) -> Vec<Vec<u8>> {
+    let mut names = vec![b"No/Such_Zone".to_vec(), vec![0xff], Vec::new()];
+    names.extend(content.zones.iter().map(|zone| content.id(zone).to_vec()));
+    let pairs = content.aliases.iter().flatten().take(12);
+    names.extend(pairs.flat_map(|&(key, target)| [key, target]).map(|number| content.pool[number].clone()));
+    if !content.pool.is_empty() {
+        names.push(prng.pick(&content.pool).clone());
+    }
+    names
+}
+
 /// Lines that aren't understood, or that are refused before any byte of the file is looked at.
 const ODD_LINES: [&str; 18] = [
     "",

@@ -52,6 +52,10 @@ fn commands_on_files() {
     prints(&["ask", &path("cut"), "Europe/Zurich", "0"], "", "1 20753\n", 1);
     prints(&["ask", &path("cut"), "Europe/Zurich", "0", "part"], "", "1 20753\n", 1);
     prints(&["ask", &path("cut"), "Europe/Zurich", "0", "all"], "", "2 20753\n", 1);
+    let all = concat!(env!("CARGO_MANIFEST_DIR"), "/../data/all.nzd");
+    prints(&["named", all, "Europe/Oslo", "17118468000000000", "part"], "", oslo, 0);
+    prints(&["named", all, "Asia/Calcutta", "0", "part"], "", "0 19800000 0 -7641450000000000 end IST\n", 0);
+    prints(&["named", all, "Europe/Atlantis", "0", "part"], "", "12 117449\n", 1);
     // Oslo, 2024-10-27 02:30 and 2024-03-31 02:30.
     prints(&["local", EUROPE, "Europe/Oslo", "17299962000000000"], "", "0 2 17299890000000000 17299926000000000\n", 0);
     prints(&["local", EUROPE, "Europe/Oslo", "17118522000000000"], "", "17 0\n", 1);
@@ -140,6 +144,8 @@ fn misuse_is_said_in_words() {
         &["ask", EUROPE, "Europe/Oslo"],
         &["ask", EUROPE, "Europe/Oslo", "x"],
         &["ask", EUROPE, "Europe/Oslo", "0", "some"],
+        &["named", EUROPE, "Europe/Oslo", "0"],
+        &["named", EUROPE, "Europe/Oslo", "0", "some"],
         &["local", EUROPE, "Europe/Oslo"],
         &["local", EUROPE, "Europe/Oslo", "x"],
         &["generate", "1", "-1", "x"],

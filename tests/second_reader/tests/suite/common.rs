@@ -2,7 +2,7 @@
 
 use second_reader::generate::{plan, random_content, FileContent, FilePlan, Forms, Prng, Size};
 use second_reader::transition::{FIRST, LAST};
-use second_reader::{ask, ask_plain, check, lines, map_local, rewrite, version_text, Answer, Mark, Refusal};
+use second_reader::{ask, ask_named, ask_plain, check, lines, map_local, rewrite, version_text, Answer, Mark, Refusal};
 
 /// Bytes from hex digits; spaces are skipped.
 pub fn hex(text: &str) -> Vec<u8> {
@@ -107,6 +107,10 @@ fn called(call: &str, file: &[u8]) -> String {
                 None => ask_plain(file, id, ticks),
             };
             shown(asked, |answer| answer_text(file, &answer))
+        }
+        ["named", name, ticks, mark] => {
+            let mark = marked(mark).expect("a mark");
+            shown(ask_named(file, named_bytes(name), ticks_of(ticks), mark), |answer| answer_text(file, &answer))
         }
         ["wall", id, local] => shown(map_local(file, named_bytes(id), ticks_of(local)), |found| {
             format!("{} {} {}", found.count, found.earliest, found.latest)

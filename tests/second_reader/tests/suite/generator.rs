@@ -114,6 +114,21 @@ fn pool_shapes(seen: &mut Seen, content: &FileContent) {
     note(seen, content.zones.is_empty(), "no zone");
     note(seen, content.zones.iter().any(|zone| content.id(zone).is_empty()), "empty ID");
     note(seen, content.version.is_none(), "no version text");
+    let Some(pairs) = &content.aliases else {
+        return note(seen, true, "no aliases");
+    };
+    let string = |number: usize| &pool[number];
+    let is_zone = |number: usize| content.zones.iter().any(|zone| content.id(zone) == string(number));
+    let is_key = |number: usize| pairs.iter().any(|pair| string(pair.0) == string(number));
+    note(seen, pairs.is_empty(), "aliases without pairs");
+    for &(key, target) in pairs {
+        note(seen, is_zone(target), "an alias of a zone");
+        note(seen, is_key(target) && !is_zone(target), "an alias of an alias");
+        note(seen, !is_key(target) && !is_zone(target), "an alias of nothing");
+        note(seen, string(key) == string(target), "an alias of itself");
+        note(seen, is_zone(key), "a zone's ID for an alias");
+        note(seen, string(key).is_empty(), "an empty alias");
+    }
 }
 
 #[test]
@@ -159,6 +174,14 @@ fn every_shape_is_generated() {
         "no zone",
         "empty ID",
         "no version text",
+        "no aliases",
+        "aliases without pairs",
+        "an alias of a zone",
+        "an alias of an alias",
+        "an alias of nothing",
+        "an alias of itself",
+        "a zone's ID for an alias",
+        "an empty alias",
         "field 8 twice",
         "field 9 twice",
         "start of time at the first start, preferred",
@@ -185,7 +208,8 @@ fn every_shape_is_generated() {
 fn every_number_is_reached_by_damage() {
     let mut checked = BTreeSet::new();
     let mut asked = BTreeSet::new();
-    let mut in_zones = BTreeSet::new();
+    let mut behind_pool = BTreeSet::new();
+    let mut in_aliases = BTreeSet::new();
     for seed in 0..4000 {
         let (content, whole, mut prng) = generated(seed, Size::Small);
         let kind = *prng.pick(&Damage::ALL);
@@ -194,7 +218,10 @@ fn every_number_is_reached_by_damage() {
         checked.insert(number);
         // Deep faults: behind field 0, with all fields before it good.
         if place > 4 {
-            in_zones.insert(number);
+            behind_pool.insert(number);
+        }
+        if number > 0 && file.get(place as usize) == Some(&3) && place > 4 {
+            in_aliases.insert(number);
         }
         asked.insert(part(&file).0);
         for zone in &content.zones {
@@ -208,8 +235,9 @@ fn every_number_is_reached_by_damage() {
             }
         }
     }
-    assert_eq!(checked, BTreeSet::from([0, 2, 3, 4, 5, 6, 7, 8, 9, 10, 11, 13]));
-    assert_eq!(in_zones, BTreeSet::from([2, 4, 5, 7, 8, 9, 10, 11, 13]));
+    assert_eq!(checked, BTreeSet::from([0, 2, 3, 4, 5, 6, 7, 8, 9, 10, 11, 13, 19]));
+    assert_eq!(behind_pool, BTreeSet::from([2, 4, 5, 7, 8, 9, 10, 11, 13, 19]));
+    assert_eq!(in_aliases, BTreeSet::from([2, 4, 5, 7, 8, 9, 19]));
     assert_eq!(asked, BTreeSet::from([0, 1, 2, 3, 4, 5, 6, 7, 8, 9, 10, 11, 12]));
 }
 

@@ -1,5 +1,6 @@
 //! The second reader's tests, one binary so that they link once.
 
+mod aliases;
 mod calendar;
 mod codes;
 mod command_line;

@@ -113,10 +113,10 @@ fn number_5_order() {
     everywhere(&format!("{A} 00"), 5, 9);
     everywhere(&format!("{B} 00 ff"), 5, 17);
     gives(&hex(&format!("{A} 0200")), (9, 9), (12, 9), (12, 9));
-    gives(&hex(&format!("{A} 0300 0200")), (5, 11), (12, 9), (12, 9));
-    gives(&hex(&format!("{A} 0300 01")), (5, 11), (12, 9), (12, 9));
+    gives(&hex(&format!("{A} 030100 0200")), (5, 12), (12, 9), (12, 9));
+    gives(&hex(&format!("{A} 030100 01")), (5, 12), (12, 9), (12, 9));
     for id in 2..=7 {
-        // Field 2's data is one empty text; the others' isn't read.
+        // Field 2's data is one empty text, field 3's no pairs; the others' isn't read.
         let twice = format!("{A} {id:02x}0100 {id:02x}0100");
         gives(&hex(&twice), (5, 12), (12, 9), (12, 9));
     }

@@ -3,7 +3,7 @@
 use crate::common::{ask_all, utc};
 use second_reader::file::read_file;
 use second_reader::zone::Rest;
-use second_reader::{check, codes, rewrite, version_text, Transition};
+use second_reader::{check, rewrite, version_text, Transition};
 
 const ALL: &str = concat!(env!("CARGO_MANIFEST_DIR"), "/../data/all.nzd");
 const EUROPE: &str = concat!(env!("CARGO_MANIFEST_DIR"), "/../data/europe.nzd");
@@ -56,8 +56,7 @@ fn what_they_hold() {
         }
     }
     assert_eq!((fixed, listed, tails, intervals, contents.pool.len()), (32, 286, 129, 19_148, 776));
-    let aliases = contents.fields.iter().find(|field| field.id == 3).map(|field| codes::read_count(field.data));
-    assert_eq!(aliases, Some(Ok((151, 2))));
+    assert_eq!(contents.aliases.map(|pairs| pairs.len()), Some(151));
     let europe = read(EUROPE);
     let contents = read_file(&europe).expect("well formed");
     for (_, zone) in &contents.zones {

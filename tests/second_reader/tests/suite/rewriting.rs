@@ -104,6 +104,6 @@ fn a_size_code_shortens_too() {
 
 #[test]
 fn all_else_is_copied() {
-    let file = hex("00000000 0005 0201410142 0104 01013000 0206 053230323562 0303ffffff 0800 0801ff ff00");
+    let file = hex("00000000 0005 0201410142 0104 01013000 0206 053230323562 0303010100 0403ffffff 0800 0801ff ff00");
     assert_eq!(rewritten(&file), file);
 }

@@ -1,0 +1,4 @@
+pub mod KeyLaws
+pub mod EntryLaws
+pub mod PairLaws
+pub mod Vectors

@@ -1,0 +1,4 @@
+pub mod Dictionary
+pub mod Field
+pub mod Pairs
+pub mod View

@@ -1,0 +1,8 @@
+pub mod SeenLaws
+pub mod JudgeLaws
+pub mod AliasLaws
+pub mod WalkingLaws
+pub mod AskLaws
+pub mod GrowLaws
+pub mod NameLaws
+pub mod Vectors

@@ -49,7 +49,8 @@ enum nzd_number {
                                      string or 4,096 intervals a zone */
     NZD_FIELD_ORDER = 5,          /* a field ID is lower than the one before, or 0 or 2 to 7 stands a second time */
     NZD_FIRST_FIELD = 6,          /* the first field is not ID 0, or a whole-file check finds no field */
-    NZD_BAD_CODE = 7,             /* a count, offset or transition code that is not allowed; a value without a code */
+    NZD_BAD_CODE = 7,             /* a count, size, offset or transition code that is not allowed; a value without a
+                                     code */
     NZD_BAD_TEXT = 8,             /* a string is not UTF-8, or a pool number is not below the pool's count */
     NZD_BAD_DATA = 9,             /* unknown zone or tail flag, data ending early, or data left over */
     NZD_BAD_INTERVAL = 10,        /* interval count 0, or a start or end that is not allowed */
@@ -173,8 +174,9 @@ struct nzd_text {
 uint64_t nzd_version_text(const uint8_t *file, size_t n, struct nzd_text *out);
 
 /*
- * Writes the preferred form of a well-formed file to the front of out. nzd_length_of(r) is its length, which is at most
- * n. The file is checked first; then 15 if out is shorter than the preferred form.
+ * Writes the preferred form of a well-formed file to the front of out: its transitions and its fields' sizes are in
+ * their shortest form, whatever zero groups stood behind a size. nzd_length_of(r) is its length, which is at most n. The
+ * file is checked first; then 15 if out is shorter than the preferred form.
  */
 uint64_t nzd_rewrite(const uint8_t *file, size_t n, uint8_t *out, size_t out_n);
 

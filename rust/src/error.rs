@@ -18,7 +18,7 @@ pub enum Number {
     FieldOrder,
     /// 6: the first field is not the string pool, or there is no field.
     FirstField,
-    /// 7: a count, offset or transition code is not allowed, or a value has no code.
+    /// 7: a count, size, offset or transition code is not allowed, or a value has no code.
     BadCode,
     /// 8: a string is not UTF-8, or a pool number is not below the pool's count.
     BadText,

@@ -209,6 +209,10 @@ pub fn version_text(file: &[u8]) -> Result<&str, Error> {
 /// let length = nzd::rewrite(file, &mut out)?;
 /// // This file is in preferred form already.
 /// assert_eq!(&out[..length], file);
+/// // A field's size may have zero groups behind it, up to five bytes in all. The preferred form has none.
+/// let padded = b"\0\0\0\0\x00\x83\x00\x01\x01A";
+/// let length = nzd::rewrite(padded, &mut out)?;
+/// assert_eq!(&out[..length], b"\0\0\0\0\x00\x03\x01\x01A");
 /// # Ok::<(), nzd::Error>(())
 /// ```
 pub fn rewrite(file: &[u8], out: &mut [u8]) -> Result<usize, Error> {

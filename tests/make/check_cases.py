@@ -6,7 +6,7 @@ it doesn't give, is found here, by the field sizes, and the bytes there must be 
 Where a case below has numbers with places beside it, 01-scope.md gives them, and the second reader must give the same.
 The first word of the command line, if there is one, is the second reader's program; else it is built.
 """
-from stored import Second, count, field, hex_, parts, text, write_cases
+from stored import Second, count, field, hex_, padded, parts, text, write_cases
 
 SECOND = Second()
 FILE = SECOND.file
@@ -207,7 +207,7 @@ refused(V + TEXT, "6 4")
 
 # ---- 7: a size
 
-for size in ("8000", "8080808080", "808080808000", "ffffffff08", "8080808000"):
+for size in ("8080808080", "808080808000", "ffffffff08"):
     refused(V + b"\x00" + hex_(size), "7 4")
     refused(P + b"\x01" + hex_(size), "7 17")
     for id_ in (2, 3, 8, 255):
@@ -345,7 +345,7 @@ refused(V + hex_("0080808080"), "2 4")
 refused(hex_("00000001"), "3 0")
 refused(hex_("01"), "2 0")
 case(V, b"", LAST + 1, "6 4", "14 0")
-case(PA + hex_("028000"), b"A", 0, "7 9", "12 9", "7 9")
+case(PA + hex_("028000"), b"A", 0, "9 9", "12 9", "9 9")
 case(PA + hex_("01180002010000303080c2d72f0132001c030132001c0a013232"), b"A", LAST, "0 0", "0 7200000 3600000 2533969476000000000 end 41")
 
 # ---- 02, Ask 2: "A fixed zone ending right after its offset is well formed and its name is its ID."
@@ -365,6 +365,23 @@ case(NAMELESS, b"A", 0, "0 0", "0 1800000 0 start end 41")
 case(NAMELESS, b"UTC", 0, "0 0", "0 3600000 0 start end 555443")
 case(NAMELESS, b"B", 0, "0 0", "12 28")
 case(P + field(1, fixed(0, 0x31, None)) + field(1, fixed(2, 0x32, None)), b"A", 0, "13 22", "12 27")
+
+# ---- 02, Ask 6: "Allow trailing zero groups in a field size only, up to five bytes; all other counts stay shortest."
+
+for size in (padded(3, 2), padded(3, 5)):
+    case(V + b"\x00" + size + PA[6:], b"A", 0, "0 0", "12 %d" % (8 + len(size)), "12 %d" % (8 + len(size)))
+for number, size in ((7, "838080808000"), (7, "8380808080"), (7, "8380808008"), (4, "8380808007"), (4, "ffffffff00")):
+    refused(V + b"\x00" + hex_(size) + PA[6:], "%d 4" % number)
+refused(V + b"\x00" + padded(0, 5), "9 4")
+refused(V + hex_("008380"), "2 4")
+refused(V + hex_("000481000141"), "7 4")
+case(PA + hex_("0203810041"), b"A", 0, "7 9", "12 9", "7 9")
+# places count the padding, and so does the largest place
+PADDED = V + b"\x00" + padded(3, 4) + PA[6:] + b"\x01" + padded(3, 2) + fixed(0, 0x30, None)
+case(PADDED, b"A", 0, "0 0", "0 0 0 start end 41", "12 18")
+case(PADDED + b"\x02" + padded(2, 5) + text(b"x") + b"\xc8" + padded(0, 3), b"B", 0, "0 0", "12 18", "0 25 1")
+refused(P + b"\x01" + padded(MOST - 23, 5), "2 17")
+refused(P + b"\x01" + padded(MOST - 22, 5), "4 17")
 
 # ---- the largest sizes, at them and one past
 
@@ -402,7 +419,7 @@ for past in (0, 1):
         long_case(head, UNIT, size // 64, behind, b"A", checked=said, asked="12 23", text_=text_)
         long_case(head, UNIT, size // 64, behind[:-1], checked="4 23" if past else "2 23")
         # bytes behind it
-        for more, number in ((b"\xff", 2), (b"\xff\x00", 4), (b"\xff\x80\x00", 7), (b"\xff\x80", 2), (b"\x02", 5)):
+        for more, number in ((b"\xff", 2), (b"\xff\x00", 4), (b"\xff\x80\x00", 4), (b"\xff\x80", 2), (b"\x02", 5)):
             if past == 0 and id_ == 3:
                 long_case(head, UNIT, size // 64, behind + more, checked="%d 4194304" % number, asked=UTC_ANSWER)
 # a pool that ends there, and a zone that ends there

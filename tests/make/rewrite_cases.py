@@ -10,7 +10,7 @@ import itertools
 import os
 import zlib
 
-from stored import Second, count, field, hex_, offset, parts, text, write_cases
+from stored import Second, count, field, hex_, offset, padded, parts, text, write_cases
 
 SECOND = Second()
 OUT = os.path.join(SECOND.folder.name, "out.nzd")
@@ -91,11 +91,11 @@ def zone(id_, moments, tail=UTC_DAYS, names=(0,), walls=(0,), savings=(0,)):
     return 1, source, wanted
 
 
-def files(*fields):
-    """The source and the preferred file."""
+def files(*fields, sizes=()):
+    """The source, its first sizes in so many bytes where these are given, and the preferred file."""
     source = wanted = V
-    for id_, data, better in fields:
-        source += field(id_, data)
+    for k, (id_, data, better) in enumerate(fields):
+        source += bytes([id_]) + padded(len(data), sizes[k] if k < len(sizes) else 1) + data
         wanted += field(id_, better)
     return source, wanted
 
@@ -132,9 +132,9 @@ def put(s, room, said, out, unit=None):
     assert cases.setdefault(line, result) == result
 
 
-def good(fields, rooms=None, unit=None):
+def good(fields, rooms=None, unit=None, sizes=()):
     """A well-formed file, in an output of some rooms, or else of a room that goes round from just enough to more than the source."""
-    source, wanted = files(*fields)
+    source, wanted = files(*fields, sizes=sizes)
     if source not in known:
         known[source] = second(source)
         assert known[source] == ("0 %d" % len(wanted), wanted), (source.hex()[:400], known[source])
@@ -364,6 +364,16 @@ n = len(files(*PREFERRED)[0])
 good(PREFERRED, (0, 1, n - 5, n - 4, n - 1, n, n + 1, n + 2, n + 30))
 good((pool(),), (0, 1, 3, 4, 6, 7, 8))
 
+# ---- 02, Ask 6: "Rewriting always shortens such a size": of every field, those that are only stepped over too
+
+STEPPED = (pool(b"A"), plain(200, b"\xaa\xaa"))
+assert files(*STEPPED, sizes=(2, 2)) == (hex_("00000000" "008300010141" "c88200aaaa"), hex_("00000000" "0003010141" "c802aaaa"))
+good(STEPPED, (0, 12, 13, 14, 15), sizes=(2, 2))
+for n in range(2, 6):
+    good((AB, zone(1, [(START, "mark"), (BASE, M), (END, "mark")]), fixed(0), plain(2, b"\x01x"), plain(4, b"")), sizes=(n, 1, 7 - n, n, n))
+    good((AB, zone(0, LONG[:2] + [(END, "mark")])), sizes=(1, n))
+good((AB, fixed(0)), (n for n in (16, 17, 20, 24)), sizes=(5, 4))
+
 # ---- damaged files: the check's number and place, in no room too, and the output as found. A zone that shrinks stands before the fault.
 
 GOOD = files(AB, zone(0, LONG[:2] + [(END, "mark")]))[0]
@@ -373,7 +383,7 @@ for s, said in ((b"", "2 0"), (V[:3], "2 0"), (GOOD[:-1], "2 11"), (GOOD[:12], "
                 (GOOD + hex_("04000200"), "5 %d" % (AT + 2)), (GOOD + hex_("07000700"), "5 %d" % (AT + 2))):
     refused(s, said)
 for number, h in ((2, "01"), (2, "0104" "010130"), (2, "0201"), (2, "ff80"), (4, "03" "80808002"), (4, "0104" "01028120"), (4, "0203" "8108ff"), (5, "0001" "00"),
-                  (7, "038000"), (7, "0104" "01016000"), (7, "010a" "010201" "00003030" "7f0000"), (7, "010a" "010201" "00003030" "800100"),
+                  (7, "038080808080"), (7, "0104" "01016000"), (7, "010a" "010201" "00003030" "7f0000"), (7, "010a" "010201" "00003030" "800100"),
                   (8, "0104" "01013002"), (8, "0104" "02013000"), (8, "0202" "01ff"),
                   (9, "0105" "0101300000"), (9, "0104" "01033000"), (9, "0200"), (9, "0107" "010201" "00003030"),
                   (10, "0103" "010200"), (10, "0109" "010201" "00003030" "0000"), (10, "0109" "010201" "01003030" "0100"),
@@ -396,4 +406,4 @@ for k in range(len(source)):
     else:
         refused(source[:k], "6 4" if k == 4 else "2 %d" % max(e for e in (0, *ends) if e <= k), (len(wanted),))
 
-write_cases("rewrite_cases", list(cases.items()))
+write_cases("rewrite_cases", list(cases.items()), 131072)

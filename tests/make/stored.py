@@ -7,10 +7,11 @@ import tempfile
 TOP = os.path.dirname(os.path.dirname(os.path.dirname(os.path.abspath(__file__))))
 
 
-def write_cases(program, cases):
-    """Writes the input lines and the expected output of a program: pairs of a line and what is written for it."""
+def write_cases(program, cases, room=65536):
+    """Writes the input lines and the expected output of a program: pairs of a line and what is written for it. The program has so much room for its
+    input."""
     lines = "".join(line + "\n" for line, _ in cases)
-    assert len(lines) <= 65536, "the program's input has %d bytes" % len(lines)
+    assert len(lines) <= room, "the program's input has %d bytes" % len(lines)
     for name, text_ in ("stdin", lines), ("stdout", "".join(said + "\n" for _, said in cases)):
         with open(os.path.join(TOP, "crates", program, name), "w") as f:
             f.write(text_)
@@ -24,6 +25,14 @@ def count(n):
         out.append(128 + n % 128)
         n //= 128
     return bytes(out + [n])
+
+
+def padded(n, length):
+    """A field's size in so many bytes: its count, and groups of zero behind it (02, Ask 6)."""
+    out = count(n)
+    while len(out) < length:
+        out = out[:-1] + bytes([out[-1] + 128, 0])
+    return out
 
 
 def signed(n):

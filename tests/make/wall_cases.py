@@ -5,7 +5,7 @@ The second reader (tests/second_reader) maps each local time; it tries every off
 02-change-requests.md or a sum done by hand gives it, and the second reader must give the same.
 The first word of the command line, if there is one, is the second reader's program; else it is built.
 """
-from stored import Second, count, field, hex_, offset, parts, signed, text, write_cases
+from stored import Second, count, field, hex_, offset, padded, parts, signed, text, write_cases
 
 SECOND = Second()
 FILE = SECOND.file
@@ -137,6 +137,14 @@ for zone, said in (
 case(V + field(0, b"\x01\x80\x00"), 0, "7 4")
 case(V + field(0, b"\x01\x01"), 0, "9 4")
 case(V + field(0, count(8193)), 0, "4 4")
+
+# 02, Ask 6: sizes with zero groups behind them; cut among these, and with too many
+PADDED = V + b"\x00" + padded(3, 5) + pool(b"A")[2:] + b"\x01" + padded(4, 2) + fixed(HOURS)
+case(PADDED, HOURS * 10000, one(0))
+case(PADDED, 0, "12 20", b"B")
+case(PADDED[:9], 0, "2 4")
+case(PADDED[:15], 0, "2 13")
+case(V + b"\x00" + padded(3, 6) + PADDED[10:], 0, "7 4")
 
 # ---- one change: the interval holds its start and not its end
 

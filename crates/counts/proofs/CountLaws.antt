@@ -15,7 +15,8 @@ use Rattle.base.specs.declared.Read.the-variants.{Value, Refused}
 use Rattle.base.proofs.Parts.{Bytes}
 use Rattle.counts.specs.Groups.{readGroups}
 use Rattle.counts.specs.Count.{readCount, writeCount, countForm}
-use Rattle.counts.proofs.GroupLaws.{group, read-written, Written, read-form, same-added, past-added, group-refused}
+use Rattle.counts.proofs.GroupLaws.{group, read-written, Written, read-form}
+use Rattle.counts.proofs.ShortestLaws.{same-added, past-added, group-refused}
 use Rattle.counts.proofs.GroupWriteLaws.{write-some, write-size, write-mono, write-most, write-least, write-bytes}
 pub use Rattle.counts.specs.Facts.{Counted, CountSize}
 

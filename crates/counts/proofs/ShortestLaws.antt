@@ -1,61 +1,19 @@
--- The shortest rule of a count, apart from reading its groups. Assumes nothing.
-use mathlib.Core.Path.{_≡_, refl, ap, _∙_, subst⁻¹}
-use mathlib.Core.List.{List, [], _∷_}
+-- The shortest rule of a count, apart from reading its groups; from it and the laws of any form, what more bytes do. Assumes nothing.
+use mathlib.Core.Path.{_≡_, refl, ap, sym, _∙_, subst}
+use mathlib.Core.List.{List, [], _∷_, _++_}
 use mathlib.Core.Bool.{Bool, true, false}
-use Prim.Native.Nat.{ℕ, zero, suc, _+_, _*_, _-_, _%_, _^_, _≤_, _<_}
+use mathlib.Core.Logic.{_⊎_, inl}
+use Prim.Native.Nat.{ℕ, zero, suc, _+_, _*_, _-_, _%_, _≤_, _<_}
 use native.Mathlib.Omega.{arith}
-use native.Mathlib.Nat.{pow-suc, one-le-pow}
-use lib.Dec.{ltb, leb, eqb, lit≤}
-use lib.ListN.{length, getD}
-use borrow.Author.Tests.{lt-ltb, eq-eqb, ne-eqb, ltb-true, ltb-false, leb-true, eqb-true, eqb-false}
+use lib.Dec.{ltb, leb, eqb}
+use lib.ListN.{length, getD, List·getD-append}
+use borrow.Author.Tests.{lt-ltb, le-ltb, eq-eqb, ne-eqb, ltb-false, eqb-true, eqb-false}
 use Rattle.base.specs.Pick.{pick, both}
 use Rattle.base.specs.declared.Read.{Read}
 use Rattle.base.specs.declared.Read.the-variants.{Value, Refused}
-use Rattle.base.proofs.Tests.{pick-holds}
+use Rattle.base.proofs.Tests.{clash}
 use Rattle.counts.specs.Groups.{grouped, anyGroups, shortest, more, readGroups}
-
--- a value v that s gives in n bytes, in any form
-pub record AnyGroup (k top : ℕ) (s : List ℕ) (v n : ℕ) : Type 0 where
-  pub small : v < (top + 1) * 128 ^ k
-  pub some : 1 ≤ n
-  pub size : n ≤ k + 1
-  pub within : n ≤ length s
-  pub zero-last : v ≡ 0 → getD s (n - 1) 0 ≡ 0
-  pub single : n ≡ 1 → v ≡ getD s 0 0
-
-abbrev IsAny : ℕ → ℕ → List ℕ → Read → Type 0
-IsAny k top s (Value v n) = AnyGroup k top s v n
-IsAny k top s (Refused j) = Unit
-
-any-more : (k top b : ℕ) (s : List ℕ) (g : Read) → IsAny k top s g → IsAny (suc k) top (b ∷ s) (grouped b g)
-any-more k top b s (Value v n) h =
-    let e : n + 1 - 1 ≡ suc (n - 1) = omega arith in
-    record {
-      small = rw pow-suc (omega arith);
-      some = omega arith;
-      size = omega arith;
-      within = omega arith;
-      zero-last = λ z. rw e (h .zero-last (omega arith));
-      single = λ l. absurd (omega arith);
-    }
-any-more k top b s (Refused j) h = tt
-
-last-any : (k top b : ℕ) (s : List ℕ) → b < (top + 1) * 128 ^ k → AnyGroup k top (b ∷ s) b 1
-last-any k top b s h =
-    record { small = h; some = omega arith; size = omega arith; within = omega arith; zero-last = λ z. z; single = λ l. refl }
-
-is-any : (k top : ℕ) (s : List ℕ) → IsAny k top s (anyGroups k top s)
-unfolding anyGroups
-is-any k top [] = tt
-is-any zero top (b ∷ s) =
-    pick-holds (IsAny zero top (b ∷ s)) (leb b top) (λ t. last-any zero top b s (omega (arith, leb-true b top t))) (λ _. tt)
-is-any (suc k) top (b ∷ s) =
-    pick-holds (IsAny (suc k) top (b ∷ s)) (ltb b 128)
-    (λ t. last-any (suc k) top b s (rw pow-suc (omega (arith, ltb-true b 128 t, one-le-pow k 128 (lit≤ tt)))))
-    (λ _. any-more k top b s (anyGroups k top s) (is-any k top s))
-
-pub any-group : (k top : ℕ) (s : List ℕ) {v n : ℕ} → Value v n ≡ anyGroups k top s → AnyGroup k top s v n
-any-group k top s e = subst⁻¹ (IsAny k top s) e (is-any k top s)
+use Rattle.counts.proofs.AnyGroupLaws.{IsAny, is-any, any-same, any-past, any-refused}
 
 -- a byte with its top bit set, before a code that is judged, and judged with it
 more-shortest : (k top b : ℕ) (s : List ℕ) (g : Read) → IsAny k top s g → more b (shortest s g) ≡ shortest (b ∷ s) (grouped b g)
@@ -90,3 +48,80 @@ groups-shortest (suc k) top (b ∷ s) = go (ltb b 128) (groups-shortest k top s)
         → pick t (Value b 1) (more b (readGroups k top s)) ≡ shortest (b ∷ s) (pick t (Value b 1) (grouped b (anyGroups k top s)))
     go true ih = refl
     go false ih = ap (more b) ih ∙ more-shortest k top b s (anyGroups k top s) (is-any k top s)
+
+-- a law for each way out of the reader
+module _ (k top : ℕ) (s : List ℕ) where
+  pub judged-refused : (j : ℕ) → Refused j ≡ anyGroups k top s → Refused j ≡ readGroups k top s
+  unfolding shortest
+  judged-refused j e = rw (groups-shortest k top s, ← e)
+
+  module _ (v n : ℕ) (e : Value v n ≡ anyGroups k top s) where
+    pub judged-one : n ≤ 1 → Value v n ≡ readGroups k top s
+    unfolding shortest
+    judged-one l = rw (groups-shortest k top s, ← e, le-ltb 1 n l)
+
+    module _ (l : 1 < n) where
+      pub judged-zero : getD s (n - 1) 0 ≡ 0 → Refused 7 ≡ readGroups k top s
+      unfolding shortest
+      judged-zero z = rw (groups-shortest k top s, ← e, lt-ltb 1 n l, eq-eqb (getD s (n - 1) 0) 0 z)
+
+      pub judged-shortest : (getD s (n - 1) 0 ≡ 0 → ⊥) → Value v n ≡ readGroups k top s
+      unfolding shortest
+      judged-shortest z = rw (groups-shortest k top s, ← e, lt-ltb 1 n l, ne-eqb (getD s (n - 1) 0) 0 z)
+
+-- what is judged good is as it was read, and what is cut was
+shortest-value : (s : List ℕ) (g : Read) {v n : ℕ} → Value v n ≡ shortest s g → Value v n ≡ g
+unfolding shortest
+shortest-value s (Refused k) e = e
+shortest-value s (Value w m) {v = v} {n = n} e = go (both (ltb 1 m) (eqb (getD s (m - 1) 0) 0)) e
+  where
+    go : (t : Bool) → Value v n ≡ pick t (Refused 7) (Value w m) → Value v n ≡ Value w m
+    go true q = clash cc
+    go false q = q
+
+shortest-cut : (s : List ℕ) (g : Read) → Refused 9 ≡ shortest s g → Refused 9 ≡ g
+unfolding shortest
+shortest-cut s (Refused k) e = e
+shortest-cut s (Value w m) e = go (both (ltb 1 m) (eqb (getD s (m - 1) 0) 0)) e
+  where
+    go : (t : Bool) → Refused 9 ≡ pick t (Refused 7) (Value w m) → Refused 9 ≡ Value w m
+    go true q = let z : _≡_ {A = ℕ} 9 7 = cc in absurd (omega arith)
+    go false q = q
+
+-- A SHORTEST FORM READS THE SAME among all forms
+pub any-shortest : (k top : ℕ) (s : List ℕ) {v n : ℕ} → Value v n ≡ readGroups k top s → Value v n ≡ anyGroups k top s
+any-shortest k top s e = shortest-value s (anyGroups k top s) (e ∙ groups-shortest k top s)
+
+any-cut : (k top : ℕ) (s : List ℕ) → Refused 9 ≡ readGroups k top s → Refused 9 ≡ anyGroups k top s
+any-cut k top s e = shortest-cut s (anyGroups k top s) (e ∙ groups-shortest k top s)
+
+-- a code that is not cut is the same with the bytes e added
+shortest-added : (e : List ℕ) (k top : ℕ) (s : List ℕ) (g : Read) → IsAny k top s g → shortest (s ++ e) g ≡ shortest s g
+unfolding shortest
+shortest-added e k top s (Refused j) h = refl
+shortest-added e k top s (Value v n) h = rw (List·getD-append s e 0 (n - 1) (omega (arith, h .some, h .within)))
+
+pub same-added : (e : List ℕ) (k top : ℕ) (s : List ℕ) → (Refused 9 ≡ readGroups k top s → ⊥) → readGroups k top (s ++ e) ≡ readGroups k top s
+unfolding shortest
+same-added e k top s p =
+    groups-shortest k top (s ++ e)
+    ∙ ap (shortest (s ++ e)) (any-same e k top s (λ z. p (subst (λ g. Refused 9 ≡ shortest s g) z refl ∙ sym (groups-shortest k top s))))
+    ∙ shortest-added e k top s (anyGroups k top s) (is-any k top s)
+    ∙ sym (groups-shortest k top s)
+
+-- a code that is cut ends, with the bytes e added, past the old end
+pub past-added : (e : List ℕ) (k top : ℕ) (s : List ℕ) {v n : ℕ} → Refused 9 ≡ readGroups k top s → Value v n ≡ readGroups k top (s ++ e) → length s < n
+past-added e k top s p q = any-past e k top s (any-cut k top s p) (any-shortest k top (s ++ e) q)
+
+-- a refusal is 7 or 9
+pub group-refused : (k top : ℕ) (s : List ℕ) {j : ℕ} → Refused j ≡ readGroups k top s → (j ≡ 7) ⊎ (j ≡ 9)
+unfolding shortest
+group-refused k top s {j = j} e = go (anyGroups k top s) refl (e ∙ groups-shortest k top s)
+  where
+    go : (g : Read) → g ≡ anyGroups k top s → Refused j ≡ shortest s g → (j ≡ 7) ⊎ (j ≡ 9)
+    go (Refused i) q r = any-refused k top s (r ∙ q)
+    go (Value v n) q r = by (both (ltb 1 n) (eqb (getD s (n - 1) 0) 0)) r
+      where
+        by : (t : Bool) → Refused j ≡ pick t (Refused 7) (Value v n) → (j ≡ 7) ⊎ (j ≡ 9)
+        by true z = inl cc
+        by false z = clash cc

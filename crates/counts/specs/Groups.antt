@@ -40,7 +40,12 @@ unfoldable pub writeGroups : ℕ → ℕ → List ℕ
 writeGroups zero v = (v % 128) ∷ []
 writeGroups (suc k) v = pick (ltb v 128) (v ∷ []) ((128 + v % 128) ∷ writeGroups k (v / 128))
 
+-- v in k + 1 bytes: its groups, and groups of 0 behind them where it needs fewer
+unfoldable pub paddedGroups : ℕ → ℕ → List ℕ
+paddedGroups zero v = (v % 128) ∷ []
+paddedGroups (suc k) v = (128 + v % 128) ∷ paddedGroups k (v / 128)
+
 -- in the reader's loop: i bytes with the top bit set, whose groups give v, before what the bytes after them give, counted in units
 abbrev pub before : ℕ → ℕ → ℕ → Read → Read
-before v unit i (Value w n) = pick (both (eqb w 0) (ltb 0 i)) (Refused 7) (Value (v + unit * w) (i + n))
+before v unit i (Value w n) = Value (v + unit * w) (i + n)
 before v unit i (Refused k) = Refused k

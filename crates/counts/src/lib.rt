@@ -5,31 +5,17 @@ use signed::Number;
 ghost use mathlib.Core.Path.{_≡_};
 ghost use Prim.Native.Nat.{_+_, _*_, _^_, _≤_, _<_};
 ghost use lib.ListN.{length};
-ghost use Rattle.base.specs.declared.Read.the-variants.{Value};
 ghost use Rattle.base.specs.Writing.{bytes, Writes};
-ghost use Rattle.counts.specs.Groups.{before, readGroups, writeGroups};
+ghost use Rattle.counts.specs.Groups.{anyGroups, readGroups, writeGroups};
 ghost use Rattle.counts.specs.Count.{readCount, writeCount, countForm};
 ghost use Rattle.counts.specs.SignedCount.{readSignedCount, signedCountForm};
 ghost use Rattle.counts.specs.Fixed.{fixedFrom, readFixed};
 
-// A last byte `b` behind `i` bytes whose groups give `v`: its group counts `unit`. A 0 behind others is not the shortest form.
-fn last_group(v: u64, unit: u64, b: u64, i: usize) -> Read
-    requires { ⌜ (v + unit * b < 2 ^ 64) × (i ≤ 4) ⌝ }
-    ensures { λ r. ⌜ r ≡ before v unit i (Value b 1) ⌝ }
-{
-    if b == 0 {
-        if 0 < i {
-            return Read::Refused(7);
-        }
-    }
-    Read::Value(v + unit * b, i + 1)
-}
-
-// At most four bytes with the top bit set, then a last one, which after all of them is at most `top`. The loop's end is a constant, so
-// that it can be unrolled.
-pub fn read_groups(s: &[u8], top: u64) -> Read
+// Groups in any form: at most four bytes with the top bit set, then a last one, which after all of them is at most `top`. The loop's end
+// is a constant, so that it can be unrolled.
+pub fn read_any(s: &[u8], top: u64) -> Read
     requires { ⌜ top < 16 ⌝ }
-    ensures { λ r. ⌜ r ≡ readGroups 4 top (now (s .entry)) ⌝ }
+    ensures { λ r. ⌜ r ≡ anyGroups 4 top (now (s .entry)) ⌝ }
 {
     let mut v: u64 = 0;
     let mut unit: u64 = 1;
@@ -40,7 +26,7 @@ pub fn read_groups(s: &[u8], top: u64) -> Read
         }
         let b = s[i] as u64;
         if b < 128 {
-            return last_group(v, unit, b, i);
+            return Read::Value(v + unit * b, i + 1);
         }
         v += unit * (b % 128);
         unit *= 128;
@@ -51,9 +37,27 @@ pub fn read_groups(s: &[u8], top: u64) -> Read
     }
     let e = s[4] as u64;
     if e <= top {
-        return last_group(v, unit, e, 4);
+        return Read::Value(v + unit * e, 5);
     }
     Read::Refused(7)
+}
+
+// The same in the shortest form only: no last byte 0 behind others.
+pub fn read_groups(s: &[u8], top: u64) -> Read
+    requires { ⌜ top < 16 ⌝ }
+    ensures { λ r. ⌜ r ≡ readGroups 4 top (now (s .entry)) ⌝ }
+{
+    match read_any(s, top) {
+        Read::Refused(k) => Read::Refused(k),
+        Read::Value(v, n) => {
+            if 1 < n {
+                if s[n - 1] == 0 {
+                    return Read::Refused(7);
+                }
+            }
+            Read::Value(v, n)
+        }
+    }
 }
 
 // The count at the front of `s`.

@@ -15,7 +15,7 @@ use Rattle.base.specs.declared.Read.the-variants.{Value, Refused}
 use Rattle.counts.specs.Groups.{readGroups}
 use Rattle.counts.specs.Count.{readCount}
 use Rattle.counts.specs.Fixed.{readFixed, fixedFrom}
-use Rattle.counts.proofs.GroupLaws.{group-refused}
+use Rattle.counts.proofs.ShortestLaws.{group-refused}
 use Rattle.offsets.specs.Offset.{inDay, offsetOf, inUnits, readSum}
 use Rattle.transitions.specs.Transition.{inRange, fromCount, fromTicks, afterCount as afterTransition, readMoment, hour, minute, year1800}
 use Rattle.signed.specs.Instant.{fromRaw}

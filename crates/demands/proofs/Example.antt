@@ -7,7 +7,7 @@ use lib.IntN.{pos}
 use lib.ListN.{length, getD}
 use Rattle.base.specs.Run.{iterate}
 use Rattle.base.specs.Parsed.{got, parseByte, ended, many}
-use Rattle.counts.specs.Groups.{readGroups}
+use Rattle.counts.specs.Groups.{anyGroups, readGroups}
 use Rattle.offsets.specs.Offset.{readSum}
 use Rattle.utf8.specs.Utf8.{chars}
 use Rattle.texts.specs.Text.{textSized}
@@ -48,7 +48,7 @@ abbrev text : Field
 text = record { place = 17; id = 2; start = 19; past = 20; body = 0 ∷ [] }
 
 pub well-formed : WellFormed file
-unfolding walk step act iterate frame version zeros field sized order readGroups judged poolKept zoneKept newId textKept textSized chars counted allStrings many ended among equal parseZone afterId afterFlag parseFixed afterFixedOffset zoneOf parseName judgeName parseByte readSum listing scan
+unfolding walk step act iterate frame version zeros field sized order anyGroups readGroups judged poolKept zoneKept newId textKept textSized chars counted allStrings many ended among equal parseZone afterId afterFlag parseFixed afterFixedOffset zoneOf parseName judgeName parseByte readSum listing scan
 well-formed = record {
   memory = record { pool = utc ∷ []; ids = utc ∷ []; text = placed 20 0 };
   ends = refl;
@@ -57,7 +57,7 @@ well-formed = record {
 
 -- the zone "UTC" is there
 pub asked : Asked file utc zone
-unfolding filePool listing scan frame version zeros field sized order readGroups textSized chars counted allStrings many ended parseZone afterId afterFlag parseFixed afterFixedOffset zoneOf parseName judgeName parseByte readSum
+unfolding filePool listing scan frame version zeros field sized order anyGroups readGroups textSized chars counted allStrings many ended parseZone afterId afterFlag parseFixed afterFixedOffset zoneOf parseName judgeName parseByte readSum
 asked = record {
   before = pool ∷ [];
   behind = text ∷ [];
@@ -67,7 +67,7 @@ asked = record {
 
 -- the zone "GMT" is not
 pub lacks : NoZone file gmt
-unfolding filePool listing scan frame version zeros field sized order readGroups textSized chars counted allStrings many ended parseZone afterId afterFlag parseFixed afterFixedOffset zoneOf parseName judgeName parseByte readSum
+unfolding filePool listing scan frame version zeros field sized order anyGroups readGroups textSized chars counted allStrings many ended parseZone afterId afterFlag parseFixed afterFixedOffset zoneOf parseName judgeName parseByte readSum
 lacks =
     all-also (λ h. let z : _≡_ {A = ℕ} 0 1 = h .is-zone in omega arith)
     (all-also (λ h. other (h .zone) (h .parsed) (h .bytes))

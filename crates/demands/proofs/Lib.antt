@@ -11,6 +11,7 @@ pub mod Rewritten
 pub mod Example
 pub mod Tailed
 pub mod Nameless
+pub mod Padded
 pub mod Worked
 pub mod ContentNumbers
 pub mod Numbers

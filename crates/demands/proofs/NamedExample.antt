@@ -11,7 +11,7 @@ use Rattle.base.specs.Equal.{equal}
 use Rattle.base.specs.All.{all-none, all-also}
 use Rattle.base.proofs.Tests.{clash}
 use Rattle.signed.specs.Instant.{biasedOf}
-use Rattle.counts.specs.Groups.{readGroups}
+use Rattle.counts.specs.Groups.{anyGroups, readGroups}
 use Rattle.offsets.specs.Offset.{readSum}
 use Rattle.utf8.specs.Utf8.{chars}
 use Rattle.texts.specs.Text.{textSized}
@@ -56,7 +56,7 @@ abbrev content : Zone
 content = record { id = 0; body = fixed 86400000 absent }
 
 pub well-formed : WellFormed file
-unfolding walk step act iterate frame version zeros field sized order readGroups judged poolKept zoneKept newId aliasesKept parseAliases allEntries parseEntries parseEntry afterKey keys textSized chars counted allStrings many ended among equal parseZone afterId afterFlag parseFixed afterFixedOffset zoneOf parseName judgeName parseByte readSum listing scan
+unfolding walk step act iterate frame version zeros field sized order anyGroups readGroups judged poolKept zoneKept newId aliasesKept parseAliases allEntries parseEntries parseEntry afterKey keys textSized chars counted allStrings many ended among equal parseZone afterId afterFlag parseFixed afterFixedOffset zoneOf parseName judgeName parseByte readSum listing scan
 well-formed = record {
   memory = record { pool = a ∷ b ∷ []; ids = a ∷ []; text = nowhere };
   ends = refl;
@@ -64,12 +64,12 @@ well-formed = record {
 }
 
 pub aliases : Aliases file dictionary
-unfolding listing scan frame version zeros field sized order readGroups
+unfolding listing scan frame version zeros field sized order anyGroups readGroups
 aliases = record { before = pool ∷ zone ∷ []; behind = []; splits = refl; is-aliases = refl }
 
 -- no zone has the ID "B"
 pub lacks : NoZone file b
-unfolding filePool listing scan frame version zeros field sized order readGroups textSized chars counted allStrings many ended parseZone afterId afterFlag parseFixed afterFixedOffset zoneOf parseName judgeName parseByte readSum
+unfolding filePool listing scan frame version zeros field sized order anyGroups readGroups textSized chars counted allStrings many ended parseZone afterId afterFlag parseFixed afterFixedOffset zoneOf parseName judgeName parseByte readSum
 lacks =
     all-also (λ h. let z : _≡_ {A = ℕ} 0 1 = h .is-zone in omega arith)
     (all-also (λ h. other (h .zone) (h .parsed) (h .bytes))
@@ -91,5 +91,5 @@ pub b-there : (k : ℕ) → k ≤ length file → ByAlias file b (pos 0) diction
 b-there k l = by-alias file b (pos 0) epoch-in-range well-formed lacks dictionary aliases k l
 
 pub b-answers : OfTarget file b (pos 0) dictionary
-unfolding filePool listing scan frame version zeros field sized order readGroups textSized chars counted allStrings many ended parseZone afterId afterFlag parseFixed afterFixedOffset zoneOf parseName judgeName parseByte readSum parseAliases allEntries parseEntries parseEntry afterKey keys among equal lookup targetOf zoneIn zonesOf seenOf
+unfolding filePool listing scan frame version zeros field sized order anyGroups readGroups textSized chars counted allStrings many ended parseZone afterId afterFlag parseFixed afterFixedOffset zoneOf parseName judgeName parseByte readSum parseAliases allEntries parseEntries parseEntry afterKey keys among equal lookup targetOf zoneIn zonesOf seenOf
 b-answers = alias-target file b (pos 0) dictionary content well-formed lacks aliases epoch-in-range refl

@@ -10,7 +10,7 @@ use Rattle.base.specs.Run.{iterate}
 use Rattle.base.specs.Parsed.{parseByte, ended, many}
 use Rattle.base.specs.Equal.{equal}
 use Rattle.signed.specs.Instant.{biasedOf}
-use Rattle.counts.specs.Groups.{readGroups}
+use Rattle.counts.specs.Groups.{anyGroups, readGroups}
 use Rattle.offsets.specs.Offset.{readSum}
 use Rattle.utf8.specs.Utf8.{chars}
 use Rattle.texts.specs.Text.{textSized}
@@ -47,12 +47,12 @@ zone = record { place = 9; id = 1; start = 11; past = 14; body = 0 ∷ 1 ∷ 48 
 
 -- demand 2: its zone is right at every instant in range
 pub a-right : Answered nameless zone
-unfolding listing scan frame version zeros field sized order readGroups
+unfolding listing scan frame version zeros field sized order anyGroups
 a-right = demand-2 nameless nameless-well-formed zone (record { before = pool ∷ []; behind = []; splits = refl; is-zone = refl })
 
 -- demand 3: every first part waits for it up to place 14, and the whole file answers
 pub asked : Asked nameless a zone
-unfolding filePool listing scan frame version zeros field sized order readGroups textSized chars counted allStrings many ended parseZone afterId afterFlag parseFixed afterFixedOffset zoneOf parseName judgeName parseByte readSum
+unfolding filePool listing scan frame version zeros field sized order anyGroups readGroups textSized chars counted allStrings many ended parseZone afterId afterFlag parseFixed afterFixedOffset zoneOf parseName judgeName parseByte readSum
 asked = record {
   before = pool ∷ [];
   behind = [];
@@ -95,5 +95,5 @@ utc place length = In (record {
 pub answers :
     ask nameless a (pos 0) More ∷ ask second a (pos 0) More ∷ ask empty [] (pos 0) More ∷ ask cut a (pos 0) More ∷ ask cut a (pos 0) All ∷ []
     ≡ utc 8 1 ∷ utc 10 1 ∷ utc 8 0 ∷ Refused 1 9 ∷ Refused 2 9 ∷ []
-unfolding ask says biasedOf walk iterate step act frame version zeros field order sized readGroups many counted allStrings ended chars textSized equal readStarts startsIn parseZone afterId afterFlag parseFixed afterFixedOffset zoneOf parseByte parseName judgeName readSum fixedNameOf inBody
+unfolding ask says biasedOf walk iterate step act frame version zeros field order sized anyGroups readGroups many counted allStrings ended chars textSized equal readStarts startsIn parseZone afterId afterFlag parseFixed afterFixedOffset zoneOf parseByte parseName judgeName readSum fixedNameOf inBody
 answers = refl

@@ -21,7 +21,6 @@ use Rattle.base.specs.Run.{next, iterate, follow}
 use Rattle.base.specs.declared.Read.{Read}
 use Rattle.base.specs.declared.Read.the-variants.{Value, Refused as Unread}
 use Rattle.signed.specs.Instant.{instantOf}
-use Rattle.counts.specs.Count.{readCount}
 use Rattle.texts.specs.Text.{readText}
 use Rattle.texts.specs.declared.Text.{Text}
 use Rattle.texts.specs.declared.Text.the-variants.{Part, Refused as Untext}
@@ -33,7 +32,7 @@ use Rattle.zones.specs.Parse.{parseZone}
 use Rattle.ids.specs.Ids.{among}
 use Rattle.aliases.specs.Dictionary.{Dictionary}
 use Rattle.aliases.specs.Field.{parseAliases}
-use Rattle.frames.specs.Frame.{largest, once, order, zeros, version, sized, field, frame, Field}
+use Rattle.frames.specs.Frame.{largest, once, order, zeros, version, sized, field, frame, Field, readSize}
 use Rattle.frames.specs.Machine.{Out, found, refused, cut, ended, Content, bad, answer, keep, Job, State, stateAt, fieldAt, verdict, onward, act, step, walk}
 use Rattle.frames.specs.declared.Frame.{Frame}
 use Rattle.frames.specs.declared.Frame.the-variants.{End, Cut, Refused, Version, Whole}
@@ -135,7 +134,7 @@ module _ {M A : Type 0} (J : Job M A) (P R : ℕ → Type 0) (of-file : (n : ℕ
       of-field [] a = tt
       of-field (i ∷ r) a =
           either (eqb (order seen prev i) 0) _ (Refused (order seen prev i))
-          (λ e. either (ltb (J .last) i) (Refused 12) _ (above i (all-head a)) (λ e. sized-number at i r (readCount r)))
+          (λ e. either (ltb (J .last) i) (Refused 12) _ (above i (all-head a)) (λ e. sized-number at i r (readSize r)))
           (λ e. order-number seen prev i (eqb-false (order seen prev i) 0 e))
 
   abbrev pub Comes : Out M A → Type 0

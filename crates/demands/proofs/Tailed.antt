@@ -8,7 +8,7 @@ use lib.ListN.{drop}
 use Rattle.base.specs.Run.{iterate}
 use Rattle.base.specs.Parsed.{parseByte, ended, many, behind}
 use Rattle.signed.specs.Instant.{biasedOf}
-use Rattle.counts.specs.Groups.{readGroups}
+use Rattle.counts.specs.Groups.{anyGroups, readGroups}
 use Rattle.offsets.specs.Offset.{readSum}
 use Rattle.transitions.specs.Transition.{fromCount, readMoment}
 use Rattle.utf8.specs.Utf8.{chars}
@@ -56,7 +56,7 @@ file =
     ∷ 0xB0 ∷ 0x27 ∷ 1 ∷ 0x32 ∷ 1 ∷ 0x1C ∷ 10 ∷ 1 ∷ 0x32 ∷ 2 ∷ 0x1C ∷ 3 ∷ 1 ∷ 0x32 ∷ 0x32 ∷ []
 
 pub well-formed : WellFormed file
-unfolding conclusion walk iterate step act frame version zeros field order sized readGroups many counted allStrings ended concluded poolKept judged chars textSized zoneKept newId among equal parseZone afterId afterFlag parseFixed afterFixedOffset zoneOf parseByte parseName judgeName readSum parseListed afterCount afterIntervals afterEnd afterTailByte parseTailed afterTail behind readMoment fromCount parseInterval afterStart parseDetails afterName afterWall parseTail parseDaylight afterDaylightName parseSavings afterSavings parseStandard afterOffset afterStandardName parseRule afterByte parseMonth afterMonth parseDay afterDay parseTime afterTime byteOk monthOk dayOk timeOk sumOk mostDay monthLength leapDay
+unfolding conclusion walk iterate step act frame version zeros field order sized anyGroups readGroups many counted allStrings ended concluded poolKept judged chars textSized zoneKept newId among equal parseZone afterId afterFlag parseFixed afterFixedOffset zoneOf parseByte parseName judgeName readSum parseListed afterCount afterIntervals afterEnd afterTailByte parseTailed afterTail behind readMoment fromCount parseInterval afterStart parseDetails afterName afterWall parseTail parseDaylight afterDaylightName parseSavings afterSavings parseStandard afterOffset afterStandardName parseRule afterByte parseMonth afterMonth parseDay afterDay parseTime afterTime byteOk monthOk dayOk timeOk sumOk mostDay monthLength leapDay
 well-formed = good-well-formed file refl
 
 abbrev pool : Field
@@ -70,11 +70,11 @@ zone-z = record { place = 19; id = 1; start = 21; past = 50; body = drop 21 file
 
 -- both zones are right at every instant in range
 pub s-right : Answered file zone-s
-unfolding listing scan frame version zeros field sized order readGroups
+unfolding listing scan frame version zeros field sized order anyGroups
 s-right = demand-2 file well-formed zone-s (record { before = pool ∷ []; behind = zone-z ∷ []; splits = refl; is-zone = refl })
 
 pub z-right : Answered file zone-z
-unfolding listing scan frame version zeros field sized order readGroups
+unfolding listing scan frame version zeros field sized order anyGroups
 z-right = demand-2 file well-formed zone-z (record { before = pool ∷ zone-s ∷ []; behind = []; splits = refl; is-zone = refl })
 
 -- the values of an answer, the name byte for byte; none of a refusal
@@ -103,5 +103,5 @@ pub answers :
     ∷ values (pos 3600000) (pos 0) (83 ∷ []) (at 1698541200) (at 1711846800)
     ∷ values (pos 7200000) (pos 3600000) (68 ∷ []) (at 1711846800) (at 1729990800)
     ∷ []
-unfolding ask says biasedOf walk iterate step act frame version zeros field order sized readGroups many counted allStrings ended chars textSized equal readStarts startsIn parseZone afterId afterFlag parseFixed afterFixedOffset zoneOf parseByte parseName judgeName readSum parseListed afterCount afterIntervals afterEnd afterTailByte parseTailed afterTail behind readMoment fromCount parseInterval afterStart parseDetails afterName afterWall parseTail parseDaylight afterDaylightName parseSavings afterSavings parseStandard afterOffset afterStandardName parseRule afterByte parseMonth afterMonth parseDay afterDay parseTime afterTime byteOk monthOk dayOk timeOk sumOk mostDay monthLength leapDay holding inList inTail behindList fixedNameOf inBody lookup lastAt nextAfter yearBefore searchFrom yearOf estimate standardIn daylightIn occurrence subtracted fallsOn moved onOrAfter onOrBefore monthDay dayNumber daysBefore yearStart
+unfolding ask says biasedOf walk iterate step act frame version zeros field order sized anyGroups readGroups many counted allStrings ended chars textSized equal readStarts startsIn parseZone afterId afterFlag parseFixed afterFixedOffset zoneOf parseByte parseName judgeName readSum parseListed afterCount afterIntervals afterEnd afterTailByte parseTailed afterTail behind readMoment fromCount parseInterval afterStart parseDetails afterName afterWall parseTail parseDaylight afterDaylightName parseSavings afterSavings parseStandard afterOffset afterStandardName parseRule afterByte parseMonth afterMonth parseDay afterDay parseTime afterTime byteOk monthOk dayOk timeOk sumOk mostDay monthLength leapDay holding inList inTail behindList fixedNameOf inBody lookup lastAt nextAfter yearBefore searchFrom yearOf estimate standardIn daylightIn occurrence subtracted fallsOn moved onOrAfter onOrBefore monthDay dayNumber daysBefore yearStart
 answers = refl

@@ -5,7 +5,7 @@ use Rattle.base.specs.Parsed.{parseByte, ended, many}
 use Rattle.base.specs.Run.{iterate}
 use Rattle.signed.specs.Instant.{biasedOf}
 use Rattle.signed.specs.Zigzag.{unzigzagOf}
-use Rattle.counts.specs.Groups.{readGroups, writeGroups}
+use Rattle.counts.specs.Groups.{anyGroups, readGroups, writeGroups}
 use Rattle.counts.specs.Fixed.{fixedFrom}
 use Rattle.offsets.specs.Offset.{readSum}
 use Rattle.transitions.specs.Transition.{fromCount, readMoment}
@@ -29,5 +29,5 @@ use Rattle.questions.specs.Question.{ask}
 use Rattle.demands.specs.Cases.{Case, given, cases}
 
 pub worked : map (λ (c : Case). given (c .asked)) cases ≡ map (λ (c : Case). c .expected) cases
-unfolding biasedOf unzigzagOf readGroups writeGroups fixedFrom readSum fromCount readMoment chars textSized leapDay monthLength daysBefore yearStart dayNumber mostDay monthDay onOrAfter onOrBefore moved fallsOn occurrence subtracted byteOk monthOk dayOk timeOk afterTime parseTime afterDay parseDay afterMonth parseMonth afterByte parseRule allStrings counted readStarts startsIn equal judgeName parseName fixedNameOf inBody zoneOf afterFixedOffset parseFixed afterFlag afterId parseZone order zeros version sized field frame act step walk says ask parseByte ended many iterate
+unfolding biasedOf unzigzagOf anyGroups readGroups writeGroups fixedFrom readSum fromCount readMoment chars textSized leapDay monthLength daysBefore yearStart dayNumber mostDay monthDay onOrAfter onOrBefore moved fallsOn occurrence subtracted byteOk monthOk dayOk timeOk afterTime parseTime afterDay parseDay afterMonth parseMonth afterByte parseRule allStrings counted readStarts startsIn equal judgeName parseName fixedNameOf inBody zoneOf afterFixedOffset parseFixed afterFlag afterId parseZone order zeros version sized field frame act step walk says ask parseByte ended many iterate
 worked = refl

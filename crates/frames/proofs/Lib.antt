@@ -11,6 +11,7 @@ pub mod ChainLaws
 pub mod PartLaws
 pub mod StepLaws
 pub mod Example
+pub mod PaddedExample
 pub mod CoverLaws
 pub mod NearLaws
 pub mod ThereLaws

@@ -7,7 +7,7 @@ use lib.Dec.{ltb, leb, eqb}
 use Rattle.base.specs.Pick.{pick}
 use Rattle.base.specs.declared.Read.{Read}
 use Rattle.base.specs.declared.Read.the-variants.{Value, Refused as Unread}
-use Rattle.counts.specs.Count.{readCount}
+use Rattle.counts.specs.Groups.{anyGroups}
 use Rattle.frames.specs.declared.Frame.{Frame}
 use Rattle.frames.specs.declared.Frame.the-variants.{End, Cut, Refused, Version, Whole}
 
@@ -33,9 +33,10 @@ zeros (b ∷ r) = pick (eqb b 0) (zeros r) false
 unfoldable pub version : List ℕ → Frame
 version r = pick (leb 4 (length r)) (pick (zeros (take 4 r)) Version (Refused 3)) Cut
 
--- "Field: ID byte, size as a count, data": the size that stands at the front of some bytes, and how many bytes its code takes
+-- "Field: ID byte, size as a count, data"; "Allow trailing zero groups in a field size only, up to five bytes; all other counts stay
+-- shortest. The size reading must now say how many bytes it took": a count in any form, which stands at the front of some bytes
 abbrev pub readSize : List ℕ → Read
-readSize r = readCount r
+readSize r = anyGroups 4 7 r
 
 -- "Then the size code (7), 4, then 1 or 2 if the field isn't whole": the field with the ID i at the place at, by what reading its size
 -- from r gives, the bytes behind the ID. A size that the bytes' end cuts, 9 for the code on its own, is a field that isn't whole.

@@ -88,11 +88,17 @@ fn beyond(at: usize, n: usize) -> bool
     LARGEST - at < n
 }
 
-// The size at the front of `r`.
-fn read_size(r: &[u8]) -> Read
+// The size at the front of `r`. One byte, the usual size, takes no call.
+pub fn read_size(r: &[u8]) -> Read
     ensures { λ x. ⌜ x ≡ readSize (now (r .entry)) ⌝ }
 {
-    counts::read_count(r)
+    if 0 < r.len() {
+        let b = r[0] as u64;
+        if b < 128 {
+            return Read::Value(b, 1);
+        }
+    }
+    counts::read_any(r, 7)
 }
 
 // The field with the ID `i` at the place `at`, where `r` is what follows its ID byte.

@@ -14,6 +14,6 @@ pub record FieldContent : Type 0 where
 abbrev pub fieldWith : ℕ → List ℕ → FieldContent
 fieldWith i d = record { id = i; content = contentOf i d }
 
--- "Field: ID byte, size as a count, data"; "each size to match"
+-- "Field: ID byte, size as a count, data"; "each size to match"; "Rewriting always shortens such a size": a padded one
 unfoldable pub printField : FieldContent → List ℕ
 printField c = c .id ∷ (writeCount (length (print (c .content))) ++ print (c .content))

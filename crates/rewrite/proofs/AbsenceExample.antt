@@ -6,7 +6,7 @@ use Rattle.base.specs.Run.{iterate}
 use Rattle.base.specs.Parsed.{got, parseByte, ended, many}
 use Rattle.base.specs.Equal.{equal}
 use Rattle.base.proofs.Parts.{Bytes}
-use Rattle.counts.specs.Groups.{readGroups, writeGroups}
+use Rattle.counts.specs.Groups.{anyGroups, readGroups, writeGroups}
 use Rattle.utf8.specs.Utf8.{chars}
 use Rattle.texts.specs.Text.{textSized}
 use Rattle.offsets.specs.Offset.{readSum}
@@ -36,16 +36,16 @@ abbrev pub named : List ℕ
 named = 0 ∷ 0 ∷ 0 ∷ 0 ∷ 0 ∷ 3 ∷ 1 ∷ 1 ∷ 65 ∷ 1 ∷ 4 ∷ 0 ∷ 1 ∷ 48 ∷ 0 ∷ []
 
 pub nameless-well-formed : WellFormed nameless
-unfolding conclusion walk iterate step act frame version zeros field order sized readGroups many counted allStrings ended concluded poolKept judged chars textSized zoneKept newId textKept among equal parseZone afterId afterFlag parseFixed afterFixedOffset zoneOf parseByte parseName judgeName readSum
+unfolding conclusion walk iterate step act frame version zeros field order sized anyGroups readGroups many counted allStrings ended concluded poolKept judged chars textSized zoneKept newId textKept among equal parseZone afterId afterFlag parseFixed afterFixedOffset zoneOf parseByte parseName judgeName readSum
 nameless-well-formed = good-well-formed nameless refl
 
 pub named-well-formed : WellFormed named
-unfolding conclusion walk iterate step act frame version zeros field order sized readGroups many counted allStrings ended concluded poolKept judged chars textSized zoneKept newId textKept among equal parseZone afterId afterFlag parseFixed afterFixedOffset zoneOf parseByte parseName judgeName readSum
+unfolding conclusion walk iterate step act frame version zeros field order sized anyGroups readGroups many counted allStrings ended concluded poolKept judged chars textSized zoneKept newId textKept among equal parseZone afterId afterFlag parseFixed afterFixedOffset zoneOf parseByte parseName judgeName readSum
 named-well-formed = good-well-formed named refl
 
 -- each is its own preferred file: no name is added, and none dropped
 pub copied : map preferred (nameless ∷ named ∷ []) ≡ nameless ∷ named ∷ []
-unfolding contents contentOf parseContent parseHead pastId pastFlag afterHead parsePieces parseByte readGroups listing scan frame version zeros field sized order print printPieces writeGroups printField printFields printFile
+unfolding contents contentOf parseContent parseHead pastId pastFlag afterHead parsePieces parseByte anyGroups readGroups listing scan frame version zeros field sized order print printPieces writeGroups printField printFields printFile
 copied = refl
 
 abbrev pool : Field
@@ -75,7 +75,7 @@ parsed-with = refl
 
 -- and they are of two contents
 pub two-contents : content nameless ≡ content named → ⊥
-unfolding listing scan frame version zeros field sized order readGroups
+unfolding listing scan frame version zeros field sized order anyGroups
 two-contents e =
     files-apart nameless named (pool ∷ []) [] (pool ∷ []) [] without with-name 1 0 86400000 0 refl refl refl refl bytes-without bytes-with
     parsed-without parsed-with e

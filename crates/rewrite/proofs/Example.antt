@@ -13,7 +13,7 @@ use Rattle.base.proofs.Parts.{Bytes}
 use Rattle.base.proofs.ByteLaws.{no-bytes, cons-bytes}
 use Rattle.base.proofs.Tests.{both-left, both-right}
 use Rattle.signed.specs.Instant.{biasedOf}
-use Rattle.counts.specs.Groups.{readGroups, writeGroups}
+use Rattle.counts.specs.Groups.{anyGroups, readGroups, writeGroups}
 use Rattle.counts.specs.Fixed.{fixedFrom, fixedBytes}
 use Rattle.utf8.specs.Utf8.{chars}
 use Rattle.texts.specs.Text.{textSized}
@@ -60,23 +60,23 @@ unfolding small
 file-bytes = small-bytes file refl
 
 pub file-well-formed : WellFormed file
-unfolding conclusion walk iterate step act frame version zeros field order sized readGroups many counted allStrings ended concluded poolKept judged chars textSized zoneKept newId textKept among equal parseZone afterId afterFlag parseListed afterCount afterIntervals afterEnd afterTailByte zoneOf behind parseByte parseName judgeName readSum readMoment fromCount fixedFrom biasedOf parseInterval afterStart parseDetails afterName afterWall
+unfolding conclusion walk iterate step act frame version zeros field order sized anyGroups readGroups many counted allStrings ended concluded poolKept judged chars textSized zoneKept newId textKept among equal parseZone afterId afterFlag parseListed afterCount afterIntervals afterEnd afterTailByte zoneOf behind parseByte parseName judgeName readSum readMoment fromCount fixedFrom biasedOf parseInterval afterStart parseDetails afterName afterWall
 file-well-formed = good-well-formed file refl
 
 -- its preferred file
 pub rewritten : preferred file ≡ shorter
-unfolding contents contentOf parseContent parseHead pastId pastFlag pastCount afterHead parsePieces parsePiece afterMoment pieceEnd parseWall parseByte readSum readMoment fromCount fixedFrom biasedOf readGroups listing scan frame version zeros field sized order print printPieces writeMoment unitsTo writeGroups fixedBytes printField printFields printFile
+unfolding contents contentOf parseContent parseHead pastId pastFlag pastCount afterHead parsePieces parsePiece afterMoment pieceEnd parseWall parseByte readSum readMoment fromCount fixedFrom biasedOf anyGroups readGroups listing scan frame version zeros field sized order print printPieces writeMoment unitsTo writeGroups fixedBytes printField printFields printFile
 rewritten = refl
 
 -- of the same content, preferred itself, and well formed
 pub same-content : content shorter ≡ content file
-unfolding contents contentOf parseContent parseHead pastId pastFlag pastCount afterHead parsePieces parsePiece afterMoment pieceEnd parseWall parseByte readSum readMoment fromCount fixedFrom biasedOf readGroups listing scan frame version zeros field sized order
+unfolding contents contentOf parseContent parseHead pastId pastFlag pastCount afterHead parsePieces parsePiece afterMoment pieceEnd parseWall parseByte readSum readMoment fromCount fixedFrom biasedOf anyGroups readGroups listing scan frame version zeros field sized order
 same-content = refl
 
 pub again : preferred shorter ≡ shorter
-unfolding contents contentOf parseContent parseHead pastId pastFlag pastCount afterHead parsePieces parsePiece afterMoment pieceEnd parseWall parseByte readSum readMoment fromCount fixedFrom biasedOf readGroups listing scan frame version zeros field sized order print printPieces writeMoment unitsTo writeGroups fixedBytes printField printFields printFile
+unfolding contents contentOf parseContent parseHead pastId pastFlag pastCount afterHead parsePieces parsePiece afterMoment pieceEnd parseWall parseByte readSum readMoment fromCount fixedFrom biasedOf anyGroups readGroups listing scan frame version zeros field sized order print printPieces writeMoment unitsTo writeGroups fixedBytes printField printFields printFile
 again = refl
 
 pub shorter-well-formed : WellFormed shorter
-unfolding conclusion walk iterate step act frame version zeros field order sized readGroups many counted allStrings ended concluded poolKept judged chars textSized zoneKept newId textKept among equal parseZone afterId afterFlag parseListed afterCount afterIntervals afterEnd afterTailByte zoneOf behind parseByte parseName judgeName readSum readMoment fromCount fixedFrom biasedOf parseInterval afterStart parseDetails afterName afterWall
+unfolding conclusion walk iterate step act frame version zeros field order sized anyGroups readGroups many counted allStrings ended concluded poolKept judged chars textSized zoneKept newId textKept among equal parseZone afterId afterFlag parseListed afterCount afterIntervals afterEnd afterTailByte zoneOf behind parseByte parseName judgeName readSum readMoment fromCount fixedFrom biasedOf parseInterval afterStart parseDetails afterName afterWall
 shorter-well-formed = good-well-formed shorter refl

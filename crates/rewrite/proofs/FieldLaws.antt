@@ -7,22 +7,21 @@ use lib.ListN.{length, getD, set, take, drop}
 use Rattle.base.specs.declared.Read.{Read}
 use Rattle.base.specs.declared.Read.the-variants.{Value, Refused}
 use Rattle.base.proofs.Parts.{part-from}
-use Rattle.counts.specs.Count.{readCount}
-use Rattle.counts.proofs.CountLaws.{counted}
 use Rattle.frames.specs.Fields.{FieldOf}
-use Rattle.frames.specs.Frame.{Field}
+use Rattle.frames.specs.Frame.{readSize, Field}
+use Rattle.frames.proofs.SizeLaws.{size-read}
 use Rattle.pieces.specs.View.{Put}
 use Rattle.rewrite.specs.View.{IsField}
 use Rattle.rewrite.specs.declared.Extent.{Extent}
 use Rattle.base.proofs.Tests.{clash}
 
 -- the size of the field at a place
-module _ (f : List ℕ) (at : ℕ) (r : Read) (e : r ≡ readCount (take (length f - (at + 1)) (drop (at + 1) f))) where
-  lent : r ≡ readCount (drop (at + 1) f)
+module _ (f : List ℕ) (at : ℕ) (r : Read) (e : r ≡ readSize (take (length f - (at + 1)) (drop (at + 1) f))) where
+  lent : r ≡ readSize (drop (at + 1) f)
   lent = rw (part-from (at + 1) f) at e
 
   size-of : (g : Field) (o : FieldOf f g) → g .place ≡ at → r ≡ Value (length (g .body)) (o .used)
-  size-of g o p = lent ∙ ap (λ (q : ℕ). readCount (drop (q + 1) f)) (sym p) ∙ o .size
+  size-of g o p = lent ∙ ap (λ (q : ℕ). readSize (drop (q + 1) f)) (sym p) ∙ o .size
 
   pub field-none : (k : ℕ) (x : Extent) → r ≡ Refused k → IsField f at x
   field-none k x h =
@@ -42,7 +41,7 @@ module _ (f : List ℕ) (at : ℕ) (r : Read) (e : r ≡ readCount (take (length
           (c, omega (arith, o .starts), omega (arith, o .starts, o .ends))
 
   pub field-small : (n u : ℕ) → r ≡ Value n u → (n ≤ 2147483647) × (u ≤ 5)
-  field-small n u h = let c = counted (drop (at + 1) f) (sym h ∙ lent) in (c .small, c .size)
+  field-small n u h = let c = size-read (drop (at + 1) f) (sym h ∙ lent) in (c .small, c .most)
 
 pub put-version : (d : List ℕ) → 4 ≤ length d → Put (0 ∷ 0 ∷ 0 ∷ 0 ∷ []) d 4 (set (set (set (set d 0 0) 1 0) 2 0) 3 0)
 put-version [] h = absurd (omega arith)

@@ -9,14 +9,14 @@ use lib.ListN.{length, take, drop, length-append}
 use lib.Seq.{take-append-seam, drop-at}
 use borrow.Author.Tests.{le-leb, ne-eqb}
 use Rattle.base.proofs.Parts.{Bytes}
-use Rattle.base.proofs.ByteLaws.{drop-bytes}
 use Rattle.counts.specs.Count.{writeCount}
-use Rattle.counts.proofs.CountLaws.{count-written, count-form, count-mono}
+use Rattle.counts.proofs.CountLaws.{count-mono}
 use Rattle.frames.specs.Frame.{largest, order, zeros, version, field, frame, Field}
 use Rattle.frames.specs.Fields.{FieldOf, endAt, noField, scan, listing, fields}
 use Rattle.frames.specs.declared.Frame.the-variants.{End, Whole}
 use Rattle.base.specs.All.{All}
 use Rattle.base.proofs.AllLaws.{all-head, all-tail}
+use Rattle.frames.proofs.SizeLaws.{size-read, size-written}
 use Rattle.frames.proofs.HeadLaws.{headed-whole}
 use Rattle.frames.proofs.ChainLaws.{Chain, listing-chain}
 use Rattle.rewrite.specs.Preferred.{contents, content, printFields, printFile, preferred}
@@ -71,16 +71,16 @@ module _ (i : ℕ) (d more : List ℕ) where
         reached = l;
         used = length (writeCount (length d));
         head = refl;
-        size = rw (append-assoc (writeCount (length d)) d more) (count-written (length d) (d ++ more) (omega arith));
+        size = rw (append-assoc (writeCount (length d)) d more) (size-written (length d) (d ++ more) (omega arith));
         limit = m;
         whole = rw printed-size (omega arith);
       })
 
 -- the field g of f, moved forward from its place or left there, ends no later
-moved-past : (f : List ℕ) (g : Field) (at : ℕ) → Bytes f → FieldOf f g → FieldKept g → at ≤ g .place → movedTo at g .past ≤ g .past
-moved-past f g at b o k l =
-    let w = count-form (drop (g .place + 1) f) (drop-bytes (g .place + 1) f b) (sym (o .size)) in
-    omega (arith, count-mono (length (preferredData (g .id) (g .body))) (length (g .body)) (k .shorter), w .size, o .starts, o .ends, k .shorter)
+moved-past : (f : List ℕ) (g : Field) (at : ℕ) → FieldOf f g → FieldKept g → at ≤ g .place → movedTo at g .past ≤ g .past
+moved-past f g at o k l =
+    let w = size-read (drop (g .place + 1) f) (sym (o .size)) in
+    omega (arith, count-mono (length (preferredData (g .id) (g .body))) (length (g .body)) (k .shorter), w .least, o .starts, o .ends, k .shorter)
 
 -- at the bytes' end
 no-more : (at : ℕ) (seen : Bool) (prev : ℕ) → 0 < at → frame 255 at seen prev [] ≡ End
@@ -105,7 +105,7 @@ module _ (f : List ℕ) (b : Bytes f) where
       let d = preferredData (g .id) (g .body) in
       let more = printFields (contents gs) in
       let o : FieldOf f g = c .1 in
-      let q : movedTo at′ g .past ≤ g .past = moved-past f g at′ b o (all-head a) (omega (arith, c .0)) in
+      let q : movedTo at′ g .past ≤ g .past = moved-past f g at′ o (all-head a) (omega (arith, c .0)) in
       let i : g .id ≤ 255 = omega (arith, b (g .place), o .id-byte) in
       let s : length (g .id ∷ ((writeCount (length d) ++ d) ++ more)) ≡ headFor (length d) + length d + length more = printed-size (g .id) d more in
       let rec = scan-printed k true (g .id) (g .past) (movedTo at′ g .past) gs (c .3) (all-tail a) (omega arith) q (omega arith) in
@@ -121,7 +121,7 @@ module _ (f : List ℕ) (b : Bytes f) where
       let d = preferredData (g .id) (g .body) in
       let more = printFields (contents gs) in
       let o : FieldOf f g = c .1 in
-      let q : movedTo at′ g .past ≤ g .past = moved-past f g at′ b o (all-head a) (omega (arith, c .0)) in
+      let q : movedTo at′ g .past ≤ g .past = moved-past f g at′ o (all-head a) (omega (arith, c .0)) in
       let s : length (g .id ∷ ((writeCount (length d) ++ d) ++ more)) ≡ headFor (length d) + length d + length more = printed-size (g .id) d more in
       let rec = printed-within true (g .id) (g .past) (movedTo at′ g .past) gs (c .3) (all-tail a) q (o .within) (o .limit) in
       record { in-file = omega (arith, rec .in-file); in-limit = omega (arith, rec .in-limit) }

@@ -1,6 +1,6 @@
 -- THE ONE PREFERRED FILE: a well-formed file of the same content that is no longer than the preferred one is the preferred one. Assumes
 -- nothing.
-use mathlib.Core.Path.{_≡_, ap, sym, _∙_}
+use mathlib.Core.Path.{_≡_, ap, sym, _∙_, subst}
 use mathlib.Core.Bool.{Bool, true, false}
 use mathlib.Core.List.{List, [], _∷_, _++_, append-assoc}
 use Prim.Native.Nat.{ℕ, suc, _+_, _≤_}
@@ -12,9 +12,10 @@ use Rattle.base.proofs.ByteLaws.{drop-bytes}
 use Rattle.base.specs.All.{All}
 use Rattle.base.proofs.AllLaws.{all-head, all-tail}
 use Rattle.counts.specs.Count.{writeCount}
-use Rattle.counts.proofs.CountLaws.{count-form, count-mono}
+use Rattle.counts.proofs.CountLaws.{count-mono}
 use Rattle.frames.specs.Frame.{largest, Field}
 use Rattle.frames.specs.Fields.{FieldOf, fields}
+use Rattle.frames.proofs.SizeLaws.{size-read, size-exact}
 use Rattle.frames.proofs.ChainLaws.{Chain, listing-chain}
 use Rattle.frames.proofs.CoverLaws.{starts-zero}
 use Rattle.field_checks.specs.Check.{WellFormed}
@@ -27,21 +28,21 @@ use Rattle.rewrite.proofs.PassMovedLaws.{fields-kept}
 use Rattle.rewrite.proofs.ReadyLaws.{file-ready}
 use Rattle.rewrite.proofs.Rewriting.{same-preferred, version-there}
 
--- the bytes of a field: its ID, the written form of its size, its data
-field-bytes-are : (f : List ℕ) (g : Field) → Bytes f → FieldOf f g
-    → drop (g .place) f ≡ (g .id ∷ (writeCount (length (g .body)) ++ g .body)) ++ drop (g .past) f
-field-bytes-are f g b o =
+-- the bytes of a field: its ID, its size's code, its data
+pub field-bytes-are : (f : List ℕ) (g : Field) (o : FieldOf f g) (code : List ℕ)
+    → drop (g .place + 1) f ≡ code ++ drop (o .used) (drop (g .place + 1) f)
+    → drop (g .place) f ≡ (g .id ∷ (code ++ g .body)) ++ drop (g .past) f
+field-bytes-are f g o code w =
     let n = length (g .body) in
     let s = drop (g .place + 1) f in
-    let w = count-form s (drop-bytes (g .place + 1) f b) (sym (o .size)) in
     let first : drop (g .place) f ≡ getD f (g .place) 0 ∷ drop (suc (g .place)) f = drop-cons f (g .place) 0 (omega (arith, o .starts, o .ends, o .within)) in
     let one : suc (g .place) ≡ g .place + 1 = omega arith in
     let start : drop (o .used) s ≡ drop (g .start) f = drop-drop (o .used) (g .place + 1) f ∙ ap (λ (p : ℕ). drop p f) (sym (o .starts)) in
     let past : drop n (drop (g .start) f) ≡ drop (g .past) f = drop-drop n (g .start) f ∙ ap (λ (p : ℕ). drop p f) (sym (o .ends)) in
     let body : drop (g .start) f ≡ g .body ++ drop (g .past) f
     = sym (take-append-drop n (drop (g .start) f)) ∙ ap (λ (xs : List ℕ). xs ++ drop n (drop (g .start) f)) (sym (o .bytes)) ∙ ap (λ (xs : List ℕ). g .body ++ xs) past in
-    let size : s ≡ (writeCount n ++ g .body) ++ drop (g .past) f
-    = w .form ∙ ap (λ (xs : List ℕ). writeCount n ++ xs) (start ∙ body) ∙ sym (append-assoc (writeCount n) (g .body) (drop (g .past) f)) in
+    let size : s ≡ (code ++ g .body) ++ drop (g .past) f
+    = w ∙ ap (λ (xs : List ℕ). code ++ xs) (start ∙ body) ∙ sym (append-assoc code (g .body) (drop (g .past) f)) in
     first ∙ ap (λ (i : ℕ). i ∷ drop (suc (g .place)) f) (o .id-byte) ∙ ap (λ (p : ℕ). g .id ∷ drop p f) one ∙ ap (λ (xs : List ℕ). g .id ∷ xs) size
 
 module _ (f : List ℕ) (b : Bytes f) where
@@ -55,14 +56,16 @@ module _ (f : List ℕ) (b : Bytes f) where
       let o : FieldOf f g = c .1 in
       let k : FieldKept g = all-head a in
       let p : g .place ≡ at = c .0 in
-      let w = count-form (drop (g .place + 1) f) (drop-bytes (g .place + 1) f b) (sym (o .size)) in
+      let w = size-read (drop (g .place + 1) f) (sym (o .size)) in
       let r = printed-within f b true (g .id) (g .past) (g .past) gs (c .3) (all-tail a) (omega arith) (o .within) (o .limit) in
       let t : length (g .id ∷ ((writeCount (length d) ++ d) ++ more)) ≡ headFor (length d) + length d + length more = printed-size (g .id) d more in
       let mono = count-mono (length d) (length (g .body)) (k .shorter) in
-      let n : length d ≡ length (g .body) = omega (arith, mono, w .size, o .starts, o .ends, k .shorter, r .in-file) in
+      let n : length d ≡ length (g .body) = omega (arith, mono, w .least, o .starts, o .ends, k .shorter, r .in-file) in
       let q : d ≡ g .body = k .exact n in
-      let rec = same-bytes true (g .id) (g .past) gs (c .3) (v .2) (all-tail a) (o .within) (o .limit) (omega (arith, mono, w .size, o .starts, o .ends)) in
-      ap (λ (x : ℕ). drop x f) (sym p) ∙ field-bytes-are f g b o
+      let few : o .used ≤ length (writeCount (length d)) = omega (arith, o .starts, o .ends, r .in-file) in
+      let u : o .used ≤ length (writeCount (length (g .body))) = subst (λ (x : ℕ). o .used ≤ length (writeCount x)) n few in
+      let rec = same-bytes true (g .id) (g .past) gs (c .3) (v .2) (all-tail a) (o .within) (o .limit) (omega (arith, mono, w .least, o .starts, o .ends)) in
+      ap (λ (x : ℕ). drop x f) (sym p) ∙ field-bytes-are f g o (writeCount (length (g .body))) (size-exact (drop (g .place + 1) f) (drop-bytes (g .place + 1) f b) (sym (o .size)) u)
       ∙ ap (λ (xs : List ℕ). (g .id ∷ (writeCount (length (g .body)) ++ g .body)) ++ xs) rec
       ∙ ap (λ (y : List ℕ). (g .id ∷ (writeCount (length y) ++ y)) ++ more) (sym q)
 

@@ -64,8 +64,8 @@ fn run_all(s: &[u8], buf: &mut [u8], out: &mut [u8]) {
 }
 
 fn main() {
-    let mut input = io::large_buffer();
-    // Both lie on the stack, which has 8 MiB.
+    let mut input = [0u8; 131072];
+    // All three lie on the stack, which has 8 MiB.
     let mut buf = [0u8; 3145728];
     let mut out = [0u8; 3145728];
     let n = io::read_full(STDIN_FILENO, &mut input);

@@ -40,6 +40,19 @@ pub fn in_ticks(content: &FileContent) -> Vec<u8> {
     file.bytes()
 }
 
+/// A well-formed file with each of its sizes in five bytes, those that it needs and groups of zero.
+pub fn padded(file: &[u8]) -> Result<Vec<u8>, Refusal> {
+    let mut out = vec![0; 4];
+    for field in read_file(file)?.fields {
+        let size = field.data.len();
+        out.push(field.id);
+        out.extend((0..4).map(|group| (size >> (7 * group)) as u8 | 0x80));
+        out.push((size >> 28) as u8);
+        out.extend(field.data);
+    }
+    Ok(out)
+}
+
 /// A file of one of four sizes, and what is asked of it.
 pub struct Grown {
     pub file: Vec<u8>,
@@ -62,7 +75,7 @@ pub struct Growing {
 }
 
 /// Files on which a reader with a cost that isn't linear would show it.
-pub const GROWING: [Growing; 16] = [
+pub const GROWING: [Growing; 17] = [
     Growing {
         name: "1,024 to 8,192 zones, IDs of 503 bytes that differ at the end",
         make: |factor| fixed_zones(1024 * factor, |number| format!("{}{number:04}", "x".repeat(499))),
@@ -162,6 +175,16 @@ pub const GROWING: [Growing; 16] = [
                 local: None,
                 alias: None,
             }
+        },
+        well_formed: true,
+    },
+    Growing {
+        name: "87,000 to 696,000 fields of no data, sizes in five bytes",
+        make: |factor| {
+            let mut grown = grown(names(1), vec![fixed(0)], preferred);
+            let field = [8, 0x80, 0x80, 0x80, 0x80, 0];
+            grown.file.extend(field.repeat(87_000 * factor));
+            grown
         },
         well_formed: true,
     },

@@ -6,7 +6,7 @@ mod files;
 mod measure;
 mod work;
 
-use files::{content, in_ticks, Grown, GROWING};
+use files::{content, in_ticks, padded, Grown, GROWING};
 use measure::{measure, FEW_SAMPLES, SAMPLES};
 use second_reader::generate::FileContent;
 use second_reader::zone::{Rest, Zone};
@@ -58,10 +58,15 @@ fn realistic() -> Result<(), String> {
         let file = std::fs::read(&path).map_err(|error| format!("{path}: {error}"))?;
         let content = content(&file).map_err(|refusal| format!("{path}: {refusal}"))?;
         let long = in_ticks(&content);
+        let wide = padded(&file).map_err(|refusal| format!("{path}: {refusal}"))?;
         let mut rows = vec![(&file, "check".to_string(), Work::Check)];
         rows.extend(questions(&content).into_iter().map(|(what, work)| (&file, what, work)));
         rows.push((&file, "rewrite, preferred already".to_string(), Work::Rewrite));
         rows.push((&long, "rewrite, every instant in ticks".to_string(), Work::Rewrite));
+        rows.push((&wide, "check, every size in five bytes".to_string(), Work::Check));
+        let absent = Work::Ask { id: b"No/Such_Zone".to_vec(), ticks: LISTED };
+        rows.push((&wide, "question, absent zone, every size in five bytes".to_string(), absent));
+        rows.push((&wide, "rewrite, every size in five bytes".to_string(), Work::Rewrite));
         for (file, what, work) in rows {
             agree(file, name, &what, &work)?;
             let times = measure(&mut work.pieces(file));

@@ -70,6 +70,34 @@ const FILES: [&str; 42] = [
     "00000000 0004 02014100 0103 000130 0303 010100",
 ];
 
+/// Files in hex whose sizes have zero groups behind them (document 02, Ask 6), and counts that have.
+const PADDED: [&str; 19] = [
+    // Up to five bytes, and no sixth.
+    "00000000 00 8300 010141",
+    "00000000 00 8380808000 010141",
+    "00000000 00 838080808000 010141",
+    "00000000 00 8380808080 010141",
+    "00000000 00 8080808000",
+    // The value's range: the fifth byte by itself, and a size that passes the largest place.
+    "00000000 00 8380808008 010141",
+    "00000000 00 8380808007 010141",
+    "00000000 00 ffffffff00 010141",
+    // The padding counts in the largest place.
+    "00000000 0007 03014101420143 01 eeffff01",
+    "00000000 0007 03014101420143 01 eeffff8100",
+    "00000000 0007 03014101420143 01 edffff8100",
+    // All other counts are shortest.
+    "00000000 0004 81000141",
+    "00000000 0005 0201410142 0304 81000100",
+    "00000000 0004 01810041",
+    "00000000 0003010141 0105 8000013000",
+    "00000000 0003010141 0203 810041",
+    // Every size is shortened, and places count the padding.
+    "00000000 00 8300 010141 c8 8200 aaaa",
+    "00000000 00 83808000 010141 01 8300 000130 02",
+    "00000000 00 83808000 010141 01 8400 00013000 02 828000 0178 03 8080808000 ff 818000 00",
+];
+
 /// The data in hex of a zone behind a pool that holds "A" only.
 const ZONES: [&str; 49] = [
     // Reading 3: hours where there is no instant before.
@@ -164,6 +192,28 @@ pub fn field(id: u8, data: &[u8]) -> Vec<u8> {
     [&[id], &count(data.len())[..], data].concat()
 }
 
+/// A count with zero groups behind it, in so many bytes, or in as many as it needs.
+fn padded_count(value: usize, length: usize) -> Vec<u8> {
+    let mut code = count(value);
+    while code.len() < length {
+        let last = code.len() - 1;
+        code[last] |= 0x80;
+        code.push(0);
+    }
+    code
+}
+
+/// A well-formed file with each of its sizes in as many bytes as `length` gives; no file where it isn't well formed.
+pub fn padded(file: &[u8], mut length: impl FnMut() -> usize) -> Option<Vec<u8>> {
+    let mut out = vec![0; 4];
+    for field in read_file(file).ok()?.fields {
+        out.push(field.id);
+        out.extend(padded_count(field.data.len(), length()));
+        out.extend(field.data);
+    }
+    Some(out)
+}
+
 /// Version, a pool of "A", and this data as a zone.
 pub fn zone_file(data: &[u8]) -> Vec<u8> {
     [&[0; 4], &field(0, &[1, 1, b'A'])[..], &field(1, data)].concat()
@@ -171,7 +221,7 @@ pub fn zone_file(data: &[u8]) -> Vec<u8> {
 
 /// Compares every case, and every prefix of it.
 pub fn all(tally: &mut Tally, prng: &mut Prng) -> Result<(), Difference> {
-    let files = FILES.iter().map(|text| hex(text));
+    let files = FILES.iter().chain(&PADDED).map(|text| hex(text));
     for file in files.chain(ZONES.iter().map(|text| zone_file(&hex(text)))) {
         whole(tally, &file)?;
         let mut asked = Vec::new();
@@ -243,6 +293,11 @@ fn largest(tally: &mut Tally) -> Result<(), Difference> {
     }
     // A field that ends one byte behind it.
     files.push([vec![0; 4], field(0, &[0]), field(8, &vec![0; LAST_END - 11])].concat());
+    // The same with the size in five bytes: the last place just met, and passed by the padding alone.
+    for length in [LAST_END - 15, LAST_END - 14] {
+        let head = [vec![0; 4], field(0, &[1, 1, b'A']), vec![8]].concat();
+        files.push([head, padded_count(length, 5), vec![0; length]].concat());
+    }
     // "The slice may be longer; only fields are limited."
     let mut longer = hex("00000000 0003010141 0104 00013000 08");
     longer.resize(LAST_END + 1000, 0xff);

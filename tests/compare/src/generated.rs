@@ -1,5 +1,6 @@
 //! Generated files, well formed and damaged.
 
+use crate::cases::padded;
 use crate::local::{map, times};
 use crate::questions::{ask, other_ids, prefixes, Question};
 use crate::tally::{Difference, Tally};
@@ -46,6 +47,23 @@ pub fn round(tally: &mut Tally, seed: u64, number: u64) -> Result<(), Difference
                 check(tally, &file[..length])?;
                 map(tally, &file[..length], &id, local)?;
             }
+        }
+    }
+    // The same with sizes of any length: answers and preferred file stay.
+    if let Some(file) = padded(&good.bytes(), || prng.below(6)) {
+        whole(tally, &file)?;
+        if let (Ok(short), Ok(long)) =
+            (second_reader::rewrite::preferred(&good.bytes()), second_reader::rewrite::preferred(&file))
+        {
+            assert_eq!(short, long, "the preferred file of a padded one");
+        }
+        let asked = questions(&content, &mut prng);
+        let few: Vec<Question> = (0..3).map(|_| prng.pick(&asked).clone()).collect();
+        for (id, ticks) in &few {
+            ask(tally, &file, id, *ticks)?;
+        }
+        if file.len() <= EVERY_PREFIX {
+            prefixes(tally, &file, &few, 1, &mut prng)?;
         }
     }
     // A preferred file gives itself.

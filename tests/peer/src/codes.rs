@@ -64,9 +64,35 @@ impl<'a> Cursor<'a> {
         Ok((mapped >> 1) as i32 ^ -((mapped & 1) as i32))
     }
 
-    /// Seven bits a byte, low first; the fifth byte is at most `fifth`. A last byte 0 behind others is not the shortest
-    /// form.
+    /// A field's size: a count with any groups of zero behind it, in five bytes at most.
+    #[inline]
+    pub fn size(&mut self) -> Result<u32, u8> {
+        match *self.rest {
+            [first, ref rest @ ..] if first < 0x80 => {
+                self.rest = rest;
+                Ok(first.into())
+            }
+            [first, second @ 0x00..0x80, ref rest @ ..] => {
+                self.rest = rest;
+                Ok(u32::from(first & 0x7f) | u32::from(second) << 7)
+            }
+            _ => self.any_groups(0x07),
+        }
+    }
+
+    /// Groups in the shortest form: no last byte 0 behind others.
     fn groups(&mut self, fifth: u8) -> Result<u32, u8> {
+        let before = self.rest;
+        let value = self.any_groups(fifth)?;
+        let length = before.len() - self.rest.len();
+        if length > 1 && before[length - 1] == 0 {
+            return Err(BAD_CODE);
+        }
+        Ok(value)
+    }
+
+    /// Seven bits a byte, low first; the fifth byte is at most `fifth`.
+    fn any_groups(&mut self, fifth: u8) -> Result<u32, u8> {
         let mut value = 0;
         for (place, &byte) in self.rest.iter().enumerate() {
             if place == 4 && byte > fifth {
@@ -74,9 +100,6 @@ impl<'a> Cursor<'a> {
             }
             value |= u32::from(byte & 0x7f) << (7 * place);
             if byte < 0x80 {
-                if byte == 0 && place > 0 {
-                    return Err(BAD_CODE);
-                }
                 self.rest = &self.rest[place + 1..];
                 return Ok(value);
             }

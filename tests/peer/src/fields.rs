@@ -1,6 +1,6 @@
 //! The version and the fields, stepped through in file order.
 
-use crate::codes::Cursor;
+use crate::codes::{count_length, Cursor};
 use crate::number::{BAD_DATA, FIELD_ORDER, FIRST_FIELD, TOO_LARGE, WRONG_VERSION};
 use crate::Refusal;
 
@@ -20,6 +20,11 @@ pub struct Field<'a> {
 impl Field<'_> {
     pub fn refuse(&self, number: u8) -> Refusal {
         Refusal { number, place: self.place }
+    }
+
+    /// Whether the size takes more bytes than it needs.
+    pub fn is_padded(&self) -> bool {
+        self.end - self.place > 1 + count_length(self.data.len() as u32) + self.data.len()
     }
 }
 
@@ -71,7 +76,7 @@ impl<'a> Fields<'a> {
     #[inline]
     pub fn field(&mut self, id: u8) -> Result<Field<'a>, Refusal> {
         let mut cursor = Cursor::new(&self.bytes[self.at + 1..]);
-        let size = cursor.count().map_err(|number| self.refuse(if number == BAD_DATA { self.cut } else { number }))?;
+        let size = cursor.size().map_err(|number| self.refuse(if number == BAD_DATA { self.cut } else { number }))?;
         let start = self.bytes.len() - cursor.left();
         let end = start + size as usize;
         if end > LAST_END {

@@ -1,22 +1,20 @@
 //! Rewriting to the preferred form.
 //!
 //! A preferred transition is shorter than every other form of it, so a zone whose length stays is preferred already.
-//! Only zones that change are read a second time; all else is copied.
+//! Only zones that change are read a second time; all else is copied, but for a size that is padded.
 
-use crate::codes::{count_length, Cursor, Form};
+use crate::codes::{count_length, Form};
 use crate::fields::Field;
 use crate::number::OUTPUT_SHORT;
-use crate::whole::walk;
+use crate::whole::{walk, ZoneData};
 use crate::zone::{read_rest, Visit};
 use crate::Refusal;
 
-/// A zone that isn't in preferred form.
+/// A field that isn't in preferred form.
 struct Change<'a> {
     field: Field<'a>,
-    /// The data behind the zone's ID.
-    rest: Cursor<'a>,
-    id: u32,
-    pool_count: u32,
+    /// A zone of which a transition changes.
+    zone: Option<ZoneData<'a>>,
     /// The length of the preferred data.
     length: usize,
 }
@@ -25,11 +23,14 @@ struct Change<'a> {
 pub fn rewrite(file: &[u8], out: &mut [u8]) -> Result<usize, Refusal> {
     let mut changes = Vec::new();
     let mut length = file.len();
-    walk(file, |field, rest, id, pool_count| {
+    walk(file, |field, zone| {
         let mut saved = Saved(0);
-        read_rest(rest, id, pool_count, &mut saved)?;
-        if saved.0 > 0 {
-            let change = Change { field: *field, rest, id, pool_count, length: field.data.len() - saved.0 };
+        if let Some(zone) = &zone {
+            read_rest(zone.rest, zone.id, zone.pool_count, &mut saved)?;
+        }
+        if saved.0 > 0 || field.is_padded() {
+            let change =
+                Change { field: *field, zone: zone.filter(|_| saved.0 > 0), length: field.data.len() - saved.0 };
             length -= field.end - field.place;
             length += 1 + count_length(change.length as u32) + change.length;
             changes.push(change);
@@ -41,11 +42,13 @@ pub fn rewrite(file: &[u8], out: &mut [u8]) -> Result<usize, Refusal> {
     }
     let mut write = Write { out, at: 0 };
     let mut copied = 0;
-    for Change { field, rest, id, pool_count, length } in changes {
+    for Change { field, zone, length } in changes {
         write.bytes(&file[copied..=field.place]);
         write.count(length as u32);
         let mut rewrite = Rewrite { write: &mut write, data: field.data, copied: 0 };
-        read_rest(rest, id, pool_count, &mut rewrite).map_err(|number| field.refuse(number))?;
+        if let Some(zone) = zone {
+            read_rest(zone.rest, zone.id, zone.pool_count, &mut rewrite).map_err(|number| field.refuse(number))?;
+        }
         let left = rewrite.copied;
         write.bytes(&field.data[left..]);
         copied = field.end;

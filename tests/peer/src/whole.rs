@@ -11,26 +11,37 @@ use crate::Refusal;
 
 /// Checks a whole file.
 pub fn check(file: &[u8]) -> Result<(), Refusal> {
-    walk(file, |_, rest, id, pool_count| read_rest(rest, id, pool_count, &mut ())).map(|_| ())
+    walk(file, |_, zone| check_zone(zone)).map(|_| ())
 }
 
 /// The text of field 2 of a well-formed file.
 pub fn version_text(file: &[u8]) -> Result<&[u8], Refusal> {
-    let text = walk(file, |_, rest, id, pool_count| read_rest(rest, id, pool_count, &mut ()))?;
+    let text = walk(file, |_, zone| check_zone(zone))?;
     text.ok_or(Refusal { number: NOT_FOUND, place: file.len() })
 }
 
-/// Checks a whole file and gives its version text. `read` is given each zone's field, the data behind its ID, the ID
-/// and the pool's count, and checks the data.
+/// A zone's data behind its ID, that ID, and the pool's count.
+pub struct ZoneData<'a> {
+    pub rest: Cursor<'a>,
+    pub id: u32,
+    pub pool_count: u32,
+}
+
+fn check_zone(zone: Option<ZoneData>) -> Result<(), u8> {
+    zone.map_or(Ok(()), |zone| read_rest(zone.rest, zone.id, zone.pool_count, &mut ()))
+}
+
+/// Checks a whole file and gives its version text. `read` is given each field, and checks the data of a zone.
 pub fn walk<'a>(
     file: &'a [u8],
-    mut read: impl FnMut(&Field<'a>, Cursor<'a>, u32, u32) -> Result<(), u8>,
+    mut read: impl FnMut(&Field<'a>, Option<ZoneData<'a>>) -> Result<(), u8>,
 ) -> Result<Option<&'a [u8]>, Refusal> {
     let mut fields = Fields::new(file, CUT_SHORT)?;
     let Some(field) = fields.first()? else {
         return Err(Refusal { number: FIRST_FIELD, place: 4 });
     };
     let pool = Pool::read(field.data).map_err(|number| field.refuse(number))?;
+    read(&field, None).map_err(|number| field.refuse(number))?;
     let mut ids = Ids::new(pool.count());
     let mut text = None;
     while let Some(id) = fields.id()? {
@@ -38,12 +49,13 @@ pub fn walk<'a>(
         let refuse = |number| field.refuse(number);
         match id {
             1 => {
-                let mut cursor = Cursor::new(field.data);
-                let zone_id = cursor.pool_number(pool.count()).map_err(refuse)?;
-                read(&field, cursor, zone_id, pool.count()).map_err(refuse)?;
-                if !ids.insert(zone_id, &pool) {
+                let mut rest = Cursor::new(field.data);
+                let id = rest.pool_number(pool.count()).map_err(refuse)?;
+                read(&field, Some(ZoneData { rest, id, pool_count: pool.count() })).map_err(refuse)?;
+                if !ids.insert(id, &pool) {
                     return Err(refuse(SECOND_ZONE));
                 }
+                continue;
             }
             2 => text = Some(read_text(field.data).map_err(refuse)?),
             3 => {
@@ -51,6 +63,7 @@ pub fn walk<'a>(
             }
             _ => {}
         }
+        read(&field, None).map_err(refuse)?;
     }
     Ok(text)
 }

@@ -240,7 +240,8 @@ fn limits() {
     full.extend(second_reader::codes::encode_count(size as i64).expect("a count"));
     full.resize(4_194_304, 0);
     let mut seen = Seen::default();
-    for behind in [&[][..], &[0xc8], &[0xc8, 0], &[0xc8, 0x80, 0], &[0xc8, 0x80]] {
+    for behind in [&[][..], &[0xc8], &[0xc8, 0], &[0xc8, 0x80, 0], &[0xc8, 0x80], &[0xc8, 0x80, 0x80, 0x80, 0x80, 0x80]]
+    {
         let file = [&full, behind].concat();
         same_whole(&file, &mut seen);
         same_question(&file, b"A", 0, &mut seen);

@@ -29,8 +29,8 @@ const LARGEST_COUNT: i64 = 2_147_483_647;
 /// "seven bits a byte, low first, top bit set on all but the last. Shortest form only."
 ///
 /// `largest` is the largest value: 2^31 - 1 for a count, 2^32 - 1 for the number behind a signed count. A code cut
-/// by the bytes' end is 9; the fifth byte alone decides before that (reading 6).
-fn read_groups(bytes: &[u8], largest: u64) -> Read<u64> {
+/// by the bytes' end is 9; the fifth byte alone decides before that (reading 6). A field's size may be padded.
+fn read_groups(bytes: &[u8], largest: u64, may_be_padded: bool) -> Read<u64> {
     let mut value: u64 = 0;
     let mut place = 0;
     loop {
@@ -39,7 +39,11 @@ fn read_groups(bytes: &[u8], largest: u64) -> Read<u64> {
         if byte & 0x80 == 0 {
             // A last byte 0 behind others adds nothing: the form isn't the shortest.
             let padded = place > 0 && byte == 0;
-            return if padded || value > largest { Err(Number::BadCode) } else { Ok((value, place + 1)) };
+            return if padded && !may_be_padded || value > largest {
+                Err(Number::BadCode)
+            } else {
+                Ok((value, place + 1))
+            };
         }
         if place == 4 {
             return Err(Number::BadCode);
@@ -60,7 +64,14 @@ fn groups(mut value: u64) -> Vec<u8> {
 
 /// "Count: 0 to 2147483647".
 pub fn read_count(bytes: &[u8]) -> Read<u32> {
-    let (value, length) = read_groups(bytes, LARGEST_COUNT as u64)?;
+    let (value, length) = read_groups(bytes, LARGEST_COUNT as u64, false)?;
+    Ok((value as u32, length))
+}
+
+/// A field's size, 02, Ask 6: "Allow trailing zero groups in a field size only, up to five bytes; all other counts stay
+/// shortest. The size reading must now say how many bytes it took".
+pub fn read_size(bytes: &[u8]) -> Read<u32> {
+    let (value, length) = read_groups(bytes, LARGEST_COUNT as u64, true)?;
     Ok((value as u32, length))
 }
 
@@ -74,7 +85,7 @@ pub fn encode_count(value: i64) -> Result<Vec<u8>, Number> {
 
 /// "Signed count: 0, -1, 1, -2 map to 0, 1, 2, 3 and so on, over all 32-bit values."
 pub fn read_signed_count(bytes: &[u8]) -> Read<i32> {
-    let (mapped, length) = read_groups(bytes, u64::from(u32::MAX))?;
+    let (mapped, length) = read_groups(bytes, u64::from(u32::MAX), false)?;
     let half = (mapped / 2) as i64;
     let value = if mapped % 2 == 0 { half } else { -half - 1 };
     Ok((value as i32, length))

@@ -113,12 +113,13 @@ impl<'a> Fields<'a> {
     /// "Then the size code (7), 4, then 1 or 2 if the field isn't whole." Steps over the field.
     pub(crate) fn field(&mut self, id: u8) -> Result<Field<'a>, Refusal> {
         let place = self.at;
-        let (size, length) = match codes::read_count(&self.bytes[place + 1..]) {
+        let (size, length) = match codes::read_size(&self.bytes[place + 1..]) {
             Ok(read) => read,
             // A size cut by the bytes' end: the field isn't whole (readings 7 and 8).
             Err(Number::BadData) => return Err(self.mark.cut().at(place)),
             Err(number) => return Err(number.at(place)),
         };
+        // The padding counts (reading 6.3).
         let data_place = place + 1 + length;
         let end = data_place + size as usize;
         if end > LAST_END {

@@ -4,7 +4,8 @@ use crate::codes;
 use crate::file::read_file;
 use crate::number::{Number, Refusal};
 
-/// The preferred file: "every transition in the writer's form below and each size to match; all else is copied".
+/// The preferred file: "every transition in the writer's form below and each size to match; all else is copied". 02, Ask 6:
+/// "Rewriting always shortens such a size", of every field (reading 6.6).
 pub fn preferred(bytes: &[u8]) -> Result<Vec<u8>, Refusal> {
     let contents = read_file(bytes)?;
     let mut zones = contents.zones.iter().peekable();

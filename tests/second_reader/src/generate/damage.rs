@@ -15,7 +15,7 @@ pub enum Damage {
     Flip,
     /// The version isn't 0.
     Version,
-    /// A count, or a size, has a byte more than it needs.
+    /// A count has a byte more than it needs, or a size more than five bytes.
     PaddedCount,
     /// Two fields change places.
     WrongOrder,
@@ -147,7 +147,12 @@ fn pad_count(file: &mut FilePlan, prng: &mut Prng) {
             return;
         }
     }
-    field.size = codes::encode_count(field.data_length() as i64).ok().map(|size| padded(&size, size.len()));
+    field.size = codes::encode_count(field.data_length() as i64).ok().map(|mut size| {
+        while size.len() < 6 {
+            size = padded(&size, size.len());
+        }
+        size
+    });
 }
 
 fn double_zone(file: &mut FilePlan, prng: &mut Prng) {
@@ -191,11 +196,14 @@ fn pass_limit(file: &mut FilePlan, prng: &mut Prng) {
         1 => replace(file, prng, |kind| kind == Kind::Text, |_| [count(1025), vec![b'y'; 1025]].concat()),
         2 => replace(file, prng, |kind| kind == Kind::IntervalCount, |_| count(4097)),
         3 => {
-            // The size alone passes the limit, or just doesn't.
+            // The size alone passes the limit, or just doesn't; its padding counts.
             let number = prng.below(file.fields.len());
             let place = file.extents()[number].start;
             let end = 4_194_304 + prng.below(2);
-            file.fields[number].size = Some(count(end - place - 5));
+            file.fields[number].size = Some(match prng.one_in(2) {
+                true => count(end - place - 5),
+                false => padded(&count(end - place - 6), 4),
+            });
         }
         _ => {
             let field = pick_field(file, prng);

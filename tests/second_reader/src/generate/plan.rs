@@ -59,6 +59,8 @@ pub struct FieldPlan {
     pub id: u8,
     /// The size code, where it isn't that of the data.
     pub size: Option<Vec<u8>>,
+    /// How many zero groups stand behind the size, as far as five bytes hold them.
+    pub padding: usize,
     /// The data.
     pub codes: Vec<Code>,
 }
@@ -71,7 +73,7 @@ impl FieldPlan {
 
     fn bytes(&self) -> Vec<u8> {
         let mut out = vec![self.id];
-        out.extend(self.size.clone().unwrap_or_else(|| count(self.data_length())));
+        out.extend(self.size.clone().unwrap_or_else(|| padded_count(self.data_length(), self.padding)));
         out.extend(self.codes.iter().flat_map(|code| &code.bytes));
         out
     }
@@ -108,11 +110,11 @@ impl FilePlan {
     }
 }
 
-/// How transitions are written.
+/// How transitions and sizes are written.
 pub enum Forms<'a> {
-    /// "The writer takes the first that fits: mark, hours, minutes, ticks."
+    /// "The writer takes the first that fits: mark, hours, minutes, ticks." Sizes are shortest.
     Preferred,
-    /// "The reader takes any form."
+    /// "The reader takes any form", and sizes with "trailing zero groups".
     Any(&'a mut Prng),
 }
 
@@ -132,6 +134,13 @@ impl Forms<'_> {
             Forms::Any(prng) => prng.pick(&forms).clone(),
         }
     }
+
+    fn padding(&mut self) -> usize {
+        match self {
+            Forms::Preferred => 0,
+            Forms::Any(prng) => [0, 0, 0, 0, 0, 1 + prng.below(4)][prng.below(6)],
+        }
+    }
 }
 
 /// Every value here comes from the content of a well-formed file, so that its code exists.
@@ -139,6 +148,18 @@ const HAS_CODE: &str = "a value of a well-formed file has a code";
 
 fn count(value: usize) -> Vec<u8> {
     codes::encode_count(value as i64).expect(HAS_CODE)
+}
+
+/// A count with up to `groups` zero groups behind it, in five bytes at most.
+fn padded_count(value: usize, groups: usize) -> Vec<u8> {
+    let mut code = count(value);
+    let length = (code.len() + groups).min(5);
+    while code.len() < length {
+        let last = code.len() - 1;
+        code[last] |= 0x80;
+        code.push(0);
+    }
+    code
 }
 
 fn text(value: &[u8]) -> Code {
@@ -161,22 +182,25 @@ fn byte(kind: Kind, value: u8) -> Code {
 pub fn plan(content: &FileContent, forms: &mut Forms) -> FilePlan {
     let mut pool = vec![counted(Kind::PoolCount, content.pool.len())];
     pool.extend(content.pool.iter().map(|string| text(string)));
-    let mut fields = vec![FieldPlan { id: 0, size: None, codes: pool }];
+    let mut fields = vec![FieldPlan { id: 0, size: None, padding: 0, codes: pool }];
     for zone in &content.zones {
-        fields.push(FieldPlan { id: 1, size: None, codes: zone_codes(zone, forms) });
+        fields.push(FieldPlan { id: 1, size: None, padding: 0, codes: zone_codes(zone, forms) });
     }
     if let Some(version) = &content.version {
-        fields.push(FieldPlan { id: 2, size: None, codes: vec![text(version)] });
+        fields.push(FieldPlan { id: 2, size: None, padding: 0, codes: vec![text(version)] });
     }
     if let Some(pairs) = &content.aliases {
         let mut codes = vec![counted(Kind::PairCount, pairs.len())];
         let number = |number: usize| counted(Kind::PoolNumber, number);
         codes.extend(pairs.iter().flat_map(|&(key, target)| [number(key), number(target)]));
-        fields.push(FieldPlan { id: 3, size: None, codes });
+        fields.push(FieldPlan { id: 3, size: None, padding: 0, codes });
     }
     for (id, data) in &content.others {
         let codes = vec![Code { kind: Kind::Opaque, bytes: data.clone() }];
-        fields.push(FieldPlan { id: *id, size: None, codes });
+        fields.push(FieldPlan { id: *id, size: None, padding: 0, codes });
+    }
+    for field in &mut fields {
+        field.padding = forms.padding();
     }
     FilePlan { version: [0; 4], fields }
 }

@@ -75,6 +75,7 @@ fn transition_form(code: &[u8]) -> &'static str {
 fn code_shapes(seen: &mut Seen, plan: &FilePlan, preferred: &FilePlan) {
     for (field, best) in plan.fields.iter().zip(&preferred.fields) {
         note(seen, true, &format!("field {}", field.id));
+        note(seen, true, &format!("padding of {}", field.padding));
         for (number, (code, best)) in field.codes.iter().zip(&best.codes).enumerate() {
             let length = code.bytes.len();
             match code.kind {
@@ -190,6 +191,7 @@ fn every_shape_is_generated() {
     .map(String::from)
     .to_vec();
     wanted.extend((0..=9).map(|id| format!("field {id}")));
+    wanted.extend((0..=4).map(|groups| format!("padding of {groups}")));
     for length in 1..=4 {
         wanted.extend(["offset", "tail savings", "time"].map(|kind| format!("{kind} of {length}")));
     }

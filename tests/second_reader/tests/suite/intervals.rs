@@ -1,7 +1,7 @@
 //! Demand 2: every instant falls in exactly one interval, the one that the content says.
 
 use crate::common::{ask_all, generated, utc};
-use second_reader::generate::{instants, FileContent, Size};
+use second_reader::generate::{instants, FileContent, FilePlan, Size};
 use second_reader::recurrence::Tail;
 use second_reader::transition::{FIRST, LAST};
 use second_reader::zone::{Rest, Zone};
@@ -51,18 +51,12 @@ fn expected(zone: &Zone, tail_lists: Option<&Occurrences>, ticks: i64) -> (i32, 
     }
 }
 
-/// Where each pool string stands in a generated file: the field is the first, at place 4.
-fn pool_places(content: &FileContent, file: &[u8]) -> Vec<std::ops::Range<usize>> {
+/// Where each pool string stands in a generated file: the field is the first, and its data ends with it.
+fn pool_places(content: &FileContent, plan: &FilePlan, file: &[u8]) -> Vec<std::ops::Range<usize>> {
     let prefix = |length: usize| if length < 128 { 1 } else { 2 };
     let data: usize =
         prefix(content.pool.len()) + content.pool.iter().map(|s| prefix(s.len()) + s.len()).sum::<usize>();
-    let size = match data {
-        0..128 => 1,
-        128..16_384 => 2,
-        16_384..2_097_152 => 3,
-        _ => 4,
-    };
-    let mut at = 5 + size + prefix(content.pool.len());
+    let mut at = plan.extents()[0].end - data + prefix(content.pool.len());
     let mut places = Vec::new();
     for string in &content.pool {
         at += prefix(string.len());
@@ -82,7 +76,7 @@ fn answers_are_those_of_the_content() {
         if file.len() > 50_000 {
             continue;
         }
-        let places = pool_places(&content, &file);
+        let places = pool_places(&content, &plan, &file);
         for zone in &content.zones {
             let lists = match &zone.rest {
                 Rest::Listed { tail: Some(tail), .. } => Some(Occurrences::of(tail)),

@@ -10,6 +10,7 @@ mod generator;
 mod intervals;
 mod nameless;
 mod numbers;
+mod padded_sizes;
 mod plain_question;
 mod program;
 mod readings;

@@ -139,11 +139,12 @@ fn number_6_first_field() {
 #[test]
 fn number_7_codes() {
     // The size, the pool's count, a string's length, a pool number.
-    everywhere("00000000 00 8000", 7, 4);
+    everywhere("00000000 00 8080808080", 7, 4);
+    everywhere("00000000 00 8080808008", 7, 4);
     everywhere("00000000 0002 8000", 7, 4);
     everywhere("00000000 0003 018000", 7, 4);
     zone("8000", 7);
-    everywhere(&format!("{A} 018000"), 7, 9);
+    everywhere(&format!("{A} 01808080808000"), 7, 9);
     // A fixed zone's offset and name.
     for offset in ["e0", "00", "60", "8000", "a15180", "c5265c00"] {
         zone(&format!("0001{offset}"), 7);
@@ -159,7 +160,7 @@ fn number_7_codes() {
     zone(&format!("{tail} 001c030132 001c0a0132 e0"), 7);
     // Field 2's text and a later field's size: the check only.
     gives(&hex(&format!("{B} 0202 8000")), (7, 17), (12, 17), (12, 17));
-    gives(&hex(&format!("{B} c8 8000")), (7, 17), (12, 17), (12, 17));
+    gives(&hex(&format!("{B} c8 808080808000")), (7, 17), (12, 17), (12, 17));
 }
 
 #[test]
@@ -194,6 +195,7 @@ fn number_9_data() {
     gives(&hex(&format!("{B} 0202 0000")), (9, 17), (12, 17), (12, 17));
     gives(&hex(&format!("{B} 0200")), (9, 17), (12, 17), (12, 17));
     everywhere("00000000 0000", 9, 4);
+    everywhere("00000000 008000", 9, 4);
     everywhere("00000000 0001 01", 9, 4);
     everywhere("00000000 0002 0101", 9, 4);
 }

@@ -107,12 +107,15 @@ fn reading_8_the_limit_waits_for_the_size() {
     let behind = |text: &str| [full.clone(), hex(text)].concat();
     assert_eq!(check(&behind("c8")), (2, end));
     assert_eq!(check(&behind("c800")), (4, end));
-    assert_eq!(check(&behind("c88000")), (7, end));
+    // A padded size (02, Ask 6).
+    assert_eq!(check(&behind("c88000")), (4, end));
+    assert_eq!(check(&behind("c8808080808000")), (7, end));
     // The same in a zone's field, asked.
     assert_eq!((part(&behind("01")), all(&behind("01"))), ((1, end), (2, end)));
     assert_eq!((part(&behind("0180")), all(&behind("0180"))), ((1, end), (2, end)));
     all_three(&behind("0100"), 4, end);
-    all_three(&behind("018000"), 7, end);
+    all_three(&behind("018000"), 4, end);
+    all_three(&behind("018080808080"), 7, end);
     // "The slice may be longer": a question stops at a higher ID.
     assert_eq!(part(&behind("c8")), (12, end));
     assert_eq!(part(&full), (1, end));
@@ -148,6 +151,9 @@ fn reading_12_ids_that_repeat() {
 #[test]
 fn reading_13_a_higher_id_before_all_of_its_field() {
     let file = with("028000");
+    // The check reads a padded size of 0 (02, Ask 6).
+    assert_eq!((check(&file), part(&file), all(&file)), ((9, 9), (12, 9), (12, 9)));
+    let file = with("028080808080");
     assert_eq!((check(&file), part(&file), all(&file)), ((7, 9), (12, 9), (12, 9)));
 }
 

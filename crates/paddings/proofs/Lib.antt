@@ -1,0 +1,2 @@
+pub mod PaddingLaws
+pub mod Example

@@ -53,7 +53,8 @@ enum nzd_number {
                                      code */
     NZD_BAD_TEXT = 8,             /* a string is not UTF-8, or a pool number is not below the pool's count */
     NZD_BAD_DATA = 9,             /* unknown zone or tail flag, data ending early, or data left over */
-    NZD_BAD_INTERVAL = 10,        /* interval count 0, or a start or end that is not allowed */
+    NZD_BAD_INTERVAL = 10,        /* interval count 0, a start or end that is not allowed, or a standard offset of 24
+                                     hours or more either way */
     NZD_BAD_RECURRENCE = 11,      /* a recurrence or a tail sum is out of its ranges */
     NZD_NOT_FOUND = 12,           /* no such zone, no zone or alias of an alias' target, or no version text */
     NZD_SECOND_ZONE = 13,         /* a second zone with the same ID (never given by a question) */
@@ -92,7 +93,7 @@ static inline const char *nzd_words(unsigned number) {
     case NZD_BAD_CODE: return "a count, offset or transition code is not allowed";
     case NZD_BAD_TEXT: return "a string is not UTF-8, or a pool number is too high";
     case NZD_BAD_DATA: return "an unknown flag, or data that ends early or is left over";
-    case NZD_BAD_INTERVAL: return "an interval count, start or end is not allowed";
+    case NZD_BAD_INTERVAL: return "an interval count, start, end or standard offset is not allowed";
     case NZD_BAD_RECURRENCE: return "a recurrence or tail sum is out of range";
     case NZD_NOT_FOUND: return "no such zone, or no version text";
     case NZD_SECOND_ZONE: return "a second zone has the same ID";
@@ -119,6 +120,7 @@ uint64_t nzd_check(const uint8_t *file, size_t n);
 struct nzd_answer {
     int64_t wall_ms;     /* what to add to UTC for the time on the wall */
     int64_t savings_ms;  /* how much of that is daylight saving */
+    int64_t standard_ms; /* the standard offset: wall_ms minus savings_ms, inside 24 hours either way */
     int64_t name_place;  /* the name in force, as "CEST", or a fixed zone's ID where it has no name: its place in file, */
     int64_t name_length; /* and how many bytes it has */
     int64_t start;       /* ticks, or NZD_START_OF_TIME */

@@ -1,5 +1,5 @@
 //! Asks a file by a zone's ID or an alias at an instant: `named FILE NAME TICKS part|all`. Writes a line as the program zone_query does: 0, wall
-//! offset and savings in milliseconds, and name; or a refusal's number and place. Exit code: 0 answered, 1 refused, 2 wrong use.
+//! offset, savings and standard offset in milliseconds, and name; or a refusal's number and place. Exit code: 0 answered, 1 refused, 2 wrong use.
 
 use std::io::Write;
 use std::os::unix::ffi::OsStrExt;
@@ -20,7 +20,7 @@ fn main() -> ExitCode {
     };
     let (line, code) = match nzd::ask_named(&bytes, name.as_bytes(), ticks, mark) {
         Ok(answer) => {
-            let numbers = format!("0 {} {} ", answer.wall_offset_ms, answer.savings_ms);
+            let numbers = format!("0 {} {} {} ", answer.wall_offset_ms, answer.savings_ms, answer.standard_offset_ms);
             ([numbers.as_bytes(), answer.name, b"\n"].concat(), 0)
         }
         Err(error) => (format!("{} {}\n", error.number.value(), error.place).into_bytes(), 1),

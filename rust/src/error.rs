@@ -24,7 +24,7 @@ pub enum Number {
     BadText,
     /// 9: an unknown zone or tail flag, or data that ends early or is left over.
     BadData,
-    /// 10: an interval count of 0, or a start or end that is not allowed.
+    /// 10: an interval count of 0, a start or end that is not allowed, or a standard offset of 24 hours or more either way.
     BadInterval,
     /// 11: a recurrence or a tail sum is out of its ranges.
     BadRecurrence,
@@ -58,7 +58,7 @@ const NUMBERS: [(u8, Number, &str); 18] = [
     (7, Number::BadCode, "a count, offset or transition code is not allowed"),
     (8, Number::BadText, "a string is not UTF-8, or a pool number is too high"),
     (9, Number::BadData, "an unknown flag, or data that ends early or is left over"),
-    (10, Number::BadInterval, "an interval count, start or end is not allowed"),
+    (10, Number::BadInterval, "an interval count, start, end or standard offset is not allowed"),
     (11, Number::BadRecurrence, "a recurrence or tail sum is out of range"),
     (12, Number::NotFound, "no such zone, or no version text"),
     (13, Number::SecondZone, "a second zone has the same ID"),

@@ -16,7 +16,7 @@ mod c {
             id_n: usize,
             ticks: i64,
             more: bool,
-            out: *mut [i64; 6],
+            out: *mut [i64; 7],
         ) -> u64;
         pub fn nzd_ask_named(
             file: *const u8,
@@ -25,7 +25,7 @@ mod c {
             name_n: usize,
             ticks: i64,
             more: bool,
-            out: *mut [i64; 6],
+            out: *mut [i64; 7],
         ) -> u64;
         pub fn nzd_ask_plain(
             file: *const u8,
@@ -33,7 +33,7 @@ mod c {
             id: *const u8,
             id_n: usize,
             ticks: i64,
-            out: *mut [i64; 6],
+            out: *mut [i64; 7],
         ) -> u64;
         pub fn nzd_map_local(
             file: *const u8,
@@ -71,17 +71,17 @@ pub fn check(file: &[u8]) -> u64 {
 }
 
 /// `nzd_ask`.
-pub fn ask(file: &[u8], id: &[u8], ticks: i64, more: bool, out: &mut [i64; 6]) -> u64 {
+pub fn ask(file: &[u8], id: &[u8], ticks: i64, more: bool, out: &mut [i64; 7]) -> u64 {
     unsafe { c::nzd_ask(file.as_ptr(), file.len(), id.as_ptr(), id.len(), ticks, more, out) }
 }
 
 /// `nzd_ask_named`.
-pub fn ask_named(file: &[u8], name: &[u8], ticks: i64, more: bool, out: &mut [i64; 6]) -> u64 {
+pub fn ask_named(file: &[u8], name: &[u8], ticks: i64, more: bool, out: &mut [i64; 7]) -> u64 {
     unsafe { c::nzd_ask_named(file.as_ptr(), file.len(), name.as_ptr(), name.len(), ticks, more, out) }
 }
 
 /// `nzd_ask_plain`.
-pub fn ask_plain(file: &[u8], id: &[u8], ticks: i64, out: &mut [i64; 6]) -> u64 {
+pub fn ask_plain(file: &[u8], id: &[u8], ticks: i64, out: &mut [i64; 7]) -> u64 {
     unsafe { c::nzd_ask_plain(file.as_ptr(), file.len(), id.as_ptr(), id.len(), ticks, out) }
 }
 

@@ -68,6 +68,8 @@ pub struct Answer<'a> {
     pub wall_offset_ms: i64,
     /// How much of the wall offset is daylight saving, in milliseconds.
     pub savings_ms: i64,
+    /// The standard offset, in milliseconds: the wall offset minus the savings, inside 24 hours either way.
+    pub standard_offset_ms: i64,
     /// The name in force, as "CEST", or the ID of a fixed zone that has no name: a part of the file's bytes, in UTF-8.
     /// [`name_str`](Answer::name_str) has it as text.
     pub name: &'a [u8],
@@ -109,6 +111,7 @@ pub fn check(file: &[u8]) -> Result<(), Error> {
 /// let file = b"\0\0\0\0\x00\x05\x01\x03UTC\x01\x04\x00\x01\x30\x00";
 /// let answer = nzd::ask(file, "UTC", 0, Mark::MoreMayCome)?;
 /// assert_eq!((answer.start, answer.end), (Bound::StartOfTime, Bound::EndOfTime));
+/// assert_eq!(answer.standard_offset_ms, answer.wall_offset_ms - answer.savings_ms);
 ///
 /// // Of the first 16 bytes nothing can be said yet: wait for more.
 /// let error = nzd::ask(&file[..16], "UTC", 0, Mark::MoreMayCome).unwrap_err();
@@ -116,7 +119,7 @@ pub fn check(file: &[u8]) -> Result<(), Error> {
 /// # Ok::<(), nzd::Error>(())
 /// ```
 pub fn ask(file: &[u8], id: impl AsRef<[u8]>, ticks: i64, mark: Mark) -> Result<Answer<'_>, Error> {
-    let mut out = [0; 6];
+    let mut out = [0; 7];
     decode(ffi::ask(file, id.as_ref(), ticks, mark == Mark::MoreMayCome, &mut out))?;
     Ok(answer(file, out))
 }
@@ -135,7 +138,7 @@ pub fn ask(file: &[u8], id: impl AsRef<[u8]>, ticks: i64, mark: Mark) -> Result<
 /// # Ok::<(), nzd::Error>(())
 /// ```
 pub fn ask_plain(file: &[u8], id: impl AsRef<[u8]>, ticks: i64) -> Result<Answer<'_>, Error> {
-    let mut out = [0; 6];
+    let mut out = [0; 7];
     decode(ffi::ask_plain(file, id.as_ref(), ticks, &mut out))?;
     Ok(answer(file, out))
 }
@@ -157,14 +160,18 @@ pub fn ask_plain(file: &[u8], id: impl AsRef<[u8]>, ticks: i64) -> Result<Answer
 /// # Ok::<(), nzd::Error>(())
 /// ```
 pub fn ask_named(file: &[u8], name: impl AsRef<[u8]>, ticks: i64, mark: Mark) -> Result<Answer<'_>, Error> {
-    let mut out = [0; 6];
+    let mut out = [0; 7];
     decode(ffi::ask_named(file, name.as_ref(), ticks, mark == Mark::MoreMayCome, &mut out))?;
     Ok(answer(file, out))
 }
 
 /// The numbers of an answered question, with the name as a part of the file.
-fn answer(file: &[u8], [wall_offset_ms, savings_ms, place, length, start, end]: [i64; 6]) -> Answer<'_> {
-    Answer { wall_offset_ms, savings_ms, name: part(file, place, length), start: bound(start), end: bound(end) }
+fn answer(
+    file: &[u8],
+    [wall_offset_ms, savings_ms, standard_offset_ms, place, length, start, end]: [i64; 7],
+) -> Answer<'_> {
+    let name = part(file, place, length);
+    Answer { wall_offset_ms, savings_ms, standard_offset_ms, name, start: bound(start), end: bound(end) }
 }
 
 /// The marks are the numbers that no instant has.

@@ -25,6 +25,7 @@ fn the_worked_file() {
     for answer in [ask_plain(UTC, "UTC", 0), ask(UTC, b"UTC", 0, Mark::MoreMayCome)] {
         let answer = answer.expect("an answer");
         assert_eq!((answer.wall_offset_ms, answer.savings_ms, answer.name), (0, 0, &b"UTC"[..]));
+        assert_eq!(answer.standard_offset_ms, 0);
         assert_eq!((answer.start, answer.end), start_and_end);
     }
     assert_eq!(check(UTC), Ok(()));
@@ -57,12 +58,30 @@ fn summer_and_winter() {
     let (spring, autumn) = (1_711_846_800 * TICKS_PER_SECOND, 1_729_990_800 * TICKS_PER_SECOND);
     let summer = ask(&file, "Europe/Oslo", spring, Mark::ThisIsAll).expect("an answer");
     assert_eq!((summer.wall_offset_ms, summer.savings_ms, summer.name), (2 * HOUR, HOUR, &b"CEST"[..]));
+    assert_eq!(summer.standard_offset_ms, HOUR);
     assert_eq!((summer.start, summer.end), (Bound::At(spring), Bound::At(autumn)));
     let winter = ask(&file, "Europe/Oslo", spring - 1, Mark::ThisIsAll).expect("an answer");
     assert_eq!((winter.wall_offset_ms, winter.savings_ms, winter.name), (HOUR, 0, &b"CET"[..]));
+    assert_eq!(winter.standard_offset_ms, HOUR);
     assert!(winter.start < winter.end && winter.end == Bound::At(spring));
     assert_eq!(version_text(&file), Ok("2025b"));
     assert_eq!(summer.name_str(), "CEST");
+}
+
+#[test]
+fn standard_offsets() {
+    // Zones "A" and "B"; A's interval is at +23:30 with savings of -00:30, which is 24 hours of standard time.
+    let [ahead, before, behind] = [0x5f, 0x2f, 0x30];
+    let file = |savings| {
+        let zone = [1, 9, 0, 2, 1, 0, 0, ahead, savings, 1, 0];
+        [&[0, 0, 0, 0, 0, 5, 2, 1, b'A', 1, b'B'], &zone[..], &[1, 3, 1, 1, 0x30]].concat()
+    };
+    for id in ["A", "B", "C"] {
+        assert_eq!(refused(ask(&file(before), id, 0, Mark::MoreMayCome)), (Number::BadInterval, 11));
+    }
+    let file = file(behind);
+    let answer = ask(&file, "A", 0, Mark::ThisIsAll).expect("an answer");
+    assert_eq!((answer.wall_offset_ms, answer.savings_ms, answer.standard_offset_ms), (84_600_000, 0, 84_600_000));
 }
 
 #[test]

@@ -17,7 +17,7 @@ static void expect(int holds, const char *what) {
 #define EXPECT(x) expect(x, #x)
 
 /* The structs are their numbers in a row. */
-typedef char answer_is_six_numbers[sizeof(struct nzd_answer) == 6 * sizeof(int64_t) ? 1 : -1];
+typedef char answer_is_seven_numbers[sizeof(struct nzd_answer) == 7 * sizeof(int64_t) ? 1 : -1];
 typedef char local_is_three_numbers[sizeof(struct nzd_local) == 3 * sizeof(int64_t) ? 1 : -1];
 typedef char text_is_two_numbers[sizeof(struct nzd_text) == 2 * sizeof(int64_t) ? 1 : -1];
 typedef char value_is_two_numbers[sizeof(struct nzd_value) == 2 * sizeof(int64_t) ? 1 : -1];
@@ -80,10 +80,10 @@ static void members(void) {
 
 /* The number and place of a named question, which leaves out as found where it is refused. */
 static uint64_t named(const uint8_t *s, size_t n, const char *name, bool more) {
-    struct nzd_answer out = {-1, -2, -3, -4, -5, -6};
+    struct nzd_answer out = {-1, -2, -3, -4, -5, -6, -7};
     uint64_t r = nzd_ask_named(s, n, (const uint8_t *)name, strlen(name), 0, more, &out);
     if (r == NZD_ANSWERED) EXPECT(out.wall_ms == 0 && out.name_place == 8 && out.name_length == 1);
-    else EXPECT(out.wall_ms == -1 && out.name_length == -4 && out.end == -6);
+    else EXPECT(out.wall_ms == -1 && out.name_length == -5 && out.end == -7);
     return r;
 }
 
@@ -168,7 +168,7 @@ int main(void) {
     local_times();
     words();
     if (failures) return 1;
-    printf("0 %" PRId64 " %" PRId64 " %.*s\n", out.wall_ms, out.savings_ms, (int)out.name_length,
-           (const char *)file + out.name_place);
+    printf("0 %" PRId64 " %" PRId64 " %" PRId64 " %.*s\n", out.wall_ms, out.savings_ms, out.standard_ms,
+           (int)out.name_length, (const char *)file + out.name_place);
     return 0;
 }

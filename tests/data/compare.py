@@ -128,8 +128,9 @@ def main():
                 given = answers(program, file, [line for line, _ in asked])
                 assert len(given) == len(asked), (program, len(given), len(asked))
                 for (line, (wall, zone_name)), answer in zip(asked, given):
-                    words = answer.split(" ", 3)
-                    if words[:2] + words[3:] != ["0", str(wall), zone_name]:
+                    words = answer.split(" ", 4)
+                    standard = wall - int(words[2]) if len(words) == 5 else None
+                    if words[:2] + words[3:] != ["0", str(wall), str(standard), zone_name]:
                         different += 1
                         if different <= 10:
                             print("%s, %s: %s gives %s, zoneinfo %d %s" % (name, line, os.path.basename(program), answer, wall, zone_name))

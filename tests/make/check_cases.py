@@ -6,7 +6,7 @@ it doesn't give, is found here, by the field sizes, and the bytes there must be 
 Where a case below has numbers with places beside it, 01-scope.md gives them, and the second reader must give the same.
 The first word of the command line, if there is one, is the second reader's program; else it is built.
 """
-from stored import Second, count, field, hex_, padded, parts, text, write_cases
+from stored import Second, count, field, hex_, offset, padded, parts, text, write_cases
 
 SECOND = Second()
 FILE = SECOND.file
@@ -19,8 +19,8 @@ def pool(*strings):
     return field(0, count(len(strings)) + b"".join(text(s) for s in strings))
 
 
-def fixed(id_, offset=0x30, name=0):
-    return count(id_) + b"\x01" + bytes([offset]) + (b"" if name is None else count(name))
+def fixed(id_, byte=0x30, name=0):
+    return count(id_) + b"\x01" + bytes([byte]) + (b"" if name is None else count(name))
 
 
 V = bytes(4)
@@ -70,7 +70,7 @@ def ask(id_, ticks):
     said = second("ask", FILE, id_, str(ticks), "all")
     if not said.startswith(b"0 "):
         return said.decode()
-    values, name = said.split(b" ", 5)[:5], said.split(b" ", 5)[5]
+    values, name = said.split(b" ", 6)[:6], said.split(b" ", 6)[6]
     return b" ".join(values).decode() + " " + (name.hex() or "-")
 
 
@@ -98,7 +98,7 @@ def long_case(front, unit, times, end, *more, **said):
 # ---- the worked file, whole, longer and cut
 
 UTC = V + pool(b"UTC") + field(1, fixed(0))
-UTC_ANSWER = "0 0 0 start end 555443"
+UTC_ANSWER = "0 0 0 0 start end 555443"
 assert UTC == hex_("00000000" "00050103555443" "010400013000")
 for ticks in (0, FIRST, LAST):
     case(UTC, b"UTC", ticks, "0 0", UTC_ANSWER, "12 17")
@@ -130,11 +130,11 @@ for k in range(len(UTC)):
 
 IDS = V + pool(b"UTC", b"", b"\xc3\xa9", b"UT") + field(1, fixed(0, 0x31)) + field(1, fixed(1, 0x32)) + field(1, fixed(2, 0x33, 2)) + field(1, fixed(3, 0x2F, 1))
 END = len(IDS)
-for id_, offset, name in ((b"UTC", 1800000, "555443"), (b"", 3600000, "555443"), (b"\xc3\xa9", 5400000, "c3a9"), (b"UT", -1800000, "-")):
-    case(IDS, id_, 0, "0 0", "0 %d 0 start end %s" % (offset, name))
+for id_, ms, name in ((b"UTC", 1800000, "555443"), (b"", 3600000, "555443"), (b"\xc3\xa9", 5400000, "c3a9"), (b"UT", -1800000, "-")):
+    case(IDS, id_, 0, "0 0", "0 %d 0 %d start end %s" % (ms, ms, name))
 for id_ in (b"utc", b"U", b"UTCC", b"UTC ", b"\xc3", b"\xa9", b"\xff", b"\xc3\xa9\xff", b"a" * 1025):
     case(IDS, id_, 0, "0 0", "12 %d" % END)
-case(V + pool(b"") + field(1, fixed(0)), b"", 0, "0 0", "0 0 0 start end -")
+case(V + pool(b"") + field(1, fixed(0)), b"", 0, "0 0", "0 0 0 0 start end -")
 # a string that is no zone's ID
 case(V + pool(b"UTC", b"GMT") + field(1, fixed(0, 0x30, 1)), b"GMT", 0, "0 0", "12 21")
 
@@ -146,7 +146,7 @@ LISTED = V + pool(b"CET", b"CEST", b"Europe/Oslo") + field(1, OSLO)
 for ticks in (FIRST, 0, 9466848000000000 - 1, 9466848000000000, 9648288000000000 - 1, 9648288000000000, 17118468000000000 - 1, 17118468000000000, 17299908000000000,
               LAST):
     case(LISTED, b"Europe/Oslo", ticks, "0 0")
-case(LISTED, b"Europe/Oslo", 17118468000000000, "0 0", "0 7200000 3600000 17118468000000000 17299908000000000 43455354")
+case(LISTED, b"Europe/Oslo", 17118468000000000, "0 0", "0 7200000 3600000 3600000 17118468000000000 17299908000000000 43455354")
 for k in (28, 29, 30, 31, 40, len(LISTED) - 1):
     case(LISTED[:k], b"Europe/Oslo", 0, "2 28" if k > 28 else "0 0", "2 28" if k > 28 else "12 28")
 
@@ -293,7 +293,7 @@ case(P + TEXT, b"UTC", 0, "0 0", "12 17", "0 20 5")
 
 ONE, TWO, SAME = field(1, fixed(0, 0x31)), field(1, fixed(0, 0x32)), field(1, fixed(2, 0x33))
 OTHER = field(1, fixed(1, 0x34))
-FIRST_ANSWER, OTHER_ANSWER = "0 1800000 0 start end 555443", "0 7200000 0 start end 555443"
+FIRST_ANSWER, OTHER_ANSWER = "0 1800000 0 1800000 start end 555443", "0 7200000 0 7200000 start end 555443"
 for twice in (ONE, TWO, SAME):
     case(P + ONE + twice, b"UTC", 0, "13 23", FIRST_ANSWER, "13 23")
     case(P + ONE + twice, b"A", 0, "13 23", "12 29", "13 23")
@@ -310,15 +310,15 @@ for twice in (ONE, TWO, SAME):
     case(P + ONE + twice + b"\x00", b"A", 0, "13 23", "5 29")
     case(P + ONE + twice + b"\x01", b"A", 0, "13 23", "2 29")
     case(P + ONE + twice[:-1], b"A", 0, "2 23", "2 23")
-case(P + SAME + ONE, b"UTC", 0, "13 23", "0 5400000 0 start end 555443")
+case(P + SAME + ONE, b"UTC", 0, "13 23", "0 5400000 0 5400000 start end 555443")
 EMPTY = V + pool(b"", b"A", b"") + field(1, fixed(0))
-case(EMPTY + field(1, fixed(2)), b"", 0, "13 17", "0 0 0 start end -")
-case(EMPTY + field(1, fixed(1)), b"A", 0, "0 0", "0 0 0 start end -")
+case(EMPTY + field(1, fixed(2)), b"", 0, "13 17", "0 0 0 0 start end -")
+case(EMPTY + field(1, fixed(1)), b"A", 0, "0 0", "0 0 0 0 start end -")
 # IDs that share length, start or end are different
 NEAR = V + pool(b"AB", b"AC", b"CB", b"ABA", b"BA", b"A") + b"".join(field(1, fixed(k)) for k in range(6))
-case(NEAR, b"BA", 0, "0 0", "0 0 0 start end 4142")
+case(NEAR, b"BA", 0, "0 0", "0 0 0 0 start end 4142")
 MANY = V + pool(*[b"%02d" % (k % 30) for k in range(31)]) + b"".join(field(1, fixed(k)) for k in range(30))
-case(MANY, b"29", 0, "0 0", "0 0 0 start end 3030")
+case(MANY, b"29", 0, "0 0", "0 0 0 0 start end 3030")
 case(MANY + field(1, fixed(30)), b"30", 0, "13 %d" % len(MANY), "12 %d" % (len(MANY) + 6))
 
 # ---- a question stops at the first zone with the asked ID, and checks all before
@@ -333,7 +333,7 @@ case(P + ONE[:-1] + b"\x01" + OTHER[:3], b"A", 0, "2 23", "2 23")
 PA = hex_("00000000" "0003010141")
 DOUBLE = hex_("00000000" "000703014101420141" "010400013000" "010402013200" "00")
 case(DOUBLE, b"B", 0, "13 19", "5 25")
-case(DOUBLE, b"A", 0, "13 19", "0 0 0 start end 41")
+case(DOUBLE, b"A", 0, "13 19", "0 0 0 0 start end 41")
 refused(V + hex_("0000"), "9 4")
 case(V + hex_("000100"), b"A", 0, "0 0", "12 7", "12 7")
 for number, h in ((7, "0002020000303080010030300100"), (7, "0002018001"), (7, "000201000030308001"), (9, "0002010000303000"), (9, "000201000030300002"),
@@ -346,23 +346,23 @@ refused(hex_("00000001"), "3 0")
 refused(hex_("01"), "2 0")
 case(V, b"", LAST + 1, "6 4", "14 0")
 case(PA + hex_("028000"), b"A", 0, "9 9", "12 9", "9 9")
-case(PA + hex_("01180002010000303080c2d72f0132001c030132001c0a013232"), b"A", LAST, "0 0", "0 7200000 3600000 2533969476000000000 end 41")
+case(PA + hex_("01180002010000303080c2d72f0132001c030132001c0a013232"), b"A", LAST, "0 0", "0 7200000 3600000 3600000 2533969476000000000 end 41")
 
 # ---- 02, Ask 2: "A fixed zone ending right after its offset is well formed and its name is its ID."
 
-case(PA + hex_("0103000130"), b"A", 0, "0 0", "0 0 0 start end 41", "12 14")
+case(PA + hex_("0103000130"), b"A", 0, "0 0", "0 0 0 0 start end 41", "12 14")
 case(PA + hex_("0103000130"), b"B", 0, "0 0", "12 14")
 case(PA + hex_("0104000130"), b"A", 0, "2 9", "2 9", "2 9")
 for number, h in ((9, "00013080"), (8, "00013001"), (7, "0001308000"), (9, "0001300000"), (8, "000201003030" "01")):
     refused(PA + field(1, hex_(h)), "%d 9" % number, b"A")
 # the ID's own number, where the bytes stand twice; offsets of every length; the empty ID; several zones
-case(P + field(1, fixed(2, 0x32, None)), b"UTC", 0, "0 0", "0 3600000 0 start end 555443")
+case(P + field(1, fixed(2, 0x32, None)), b"UTC", 0, "0 0", "0 3600000 0 3600000 start end 555443")
 for h, ms in (("31", 1800000), ("86f9", 20700000), ("a15135", -75000), ("c5265c01", 1)):
-    case(P + field(1, b"\x01\x01" + hex_(h)) + TEXT, b"A", LAST, "0 0", "0 %d 0 start end 41" % ms, "0 %d 5" % (24 + len(h) // 2))
-case(V + pool(b"") + field(1, fixed(0, 0x30, None)), b"", FIRST, "0 0", "0 0 0 start end -")
+    case(P + field(1, b"\x01\x01" + hex_(h)) + TEXT, b"A", LAST, "0 0", "0 %d 0 %d start end 41" % (ms, ms), "0 %d 5" % (24 + len(h) // 2))
+case(V + pool(b"") + field(1, fixed(0, 0x30, None)), b"", FIRST, "0 0", "0 0 0 0 start end -")
 NAMELESS = P + field(1, fixed(1, 0x31, None)) + field(1, fixed(0, 0x32)) + TEXT
-case(NAMELESS, b"A", 0, "0 0", "0 1800000 0 start end 41")
-case(NAMELESS, b"UTC", 0, "0 0", "0 3600000 0 start end 555443")
+case(NAMELESS, b"A", 0, "0 0", "0 1800000 0 1800000 start end 41")
+case(NAMELESS, b"UTC", 0, "0 0", "0 3600000 0 3600000 start end 555443")
 case(NAMELESS, b"B", 0, "0 0", "12 28")
 case(P + field(1, fixed(0, 0x31, None)) + field(1, fixed(2, 0x32, None)), b"A", 0, "13 22", "12 27")
 
@@ -378,27 +378,54 @@ refused(V + hex_("000481000141"), "7 4")
 case(PA + hex_("0203810041"), b"A", 0, "7 9", "12 9", "7 9")
 # places count the padding, and so does the largest place
 PADDED = V + b"\x00" + padded(3, 4) + PA[6:] + b"\x01" + padded(3, 2) + fixed(0, 0x30, None)
-case(PADDED, b"A", 0, "0 0", "0 0 0 start end 41", "12 18")
+case(PADDED, b"A", 0, "0 0", "0 0 0 0 start end 41", "12 18")
 case(PADDED + b"\x02" + padded(2, 5) + text(b"x") + b"\xc8" + padded(0, 3), b"B", 0, "0 0", "12 18", "0 25 1")
 refused(P + b"\x01" + padded(MOST - 23, 5), "2 17")
 refused(P + b"\x01" + padded(MOST - 22, 5), "4 17")
+
+# ---- 02, Ask 7: "A zone where that leaves the open range of 24 hours either way is no longer well formed: number 10 in an interval, after its
+# savings are read."
+
+def one_interval(wall, savings):
+    return hex_("0002010000") + offset(wall) + offset(savings)
+
+
+# 24 hours and more, and a millisecond less, in half hours and in milliseconds
+DAY, HALF = 86400000, 1800000
+for wall, savings in ((DAY - HALF, -HALF), (HALF - DAY, HALF), (DAY - HALF, HALF - DAY), (DAY - 1, -1), (1 - DAY, 1), (1 - DAY, DAY - 1), (60000, 60000 - DAY)):
+    refused(PA + field(1, one_interval(wall, savings) + b"\x01\x00"), "10 9", b"A")
+    # at once: before 9 where the data end there, before the next code's 7, and before 9 for what is left over
+    for more in ("", "03", "0100ff"):
+        refused(PA + field(1, one_interval(wall, savings) + hex_(more)), "10 9", b"A")
+for wall, savings in ((DAY - HALF, 0), (DAY - HALF, HALF), (HALF - DAY, 0), (HALF, 2 * HALF - DAY), (DAY - 1, 0), (1 - DAY, 0), (1 - DAY, -1), (60000, 60001 - DAY)):
+    case(PA + field(1, one_interval(wall, savings) + b"\x01\x00"), b"A", 0, "0 0", "0 %d %d %d start end 41" % (wall, savings, wall - savings))
+# after the faults of start, name, wall offset and savings
+for number, h in ((10, "0002010100" "5f2f"), (8, "0002010001" "5f2f"), (7, "0002010000" "602f"), (7, "0002010000" "5f60"), (9, "0002010000" "5f")):
+    refused(PA + field(1, hex_(h)), "%d 9" % number, b"A")
+# a tail's ranges are as before, and its standard offset is the one that it stores; a fixed zone's is its offset
+case(PA + hex_("01180002010000303080c2d72f015f001c030132001c0a01322f"), b"A", LAST, "0 0", "0 82800000 -1800000 84600000 2533969476000000000 end 41")
+case(PA + hex_("010300015f"), b"A", 0, "0 0", "0 84600000 0 84600000 start end 41")
+# every zone that a question passes is refused for it
+AB = V + hex_("0005" "0201410142")
+case(AB + hex_("01090002010000" "5f2f" "0100" "0103010130"), b"B", 0, "10 11", "10 11")
+case(AB + hex_("0103010130" "01090002010000" "5f2f" "0100"), b"B", 0, "10 16", "0 0 0 0 start end 42")
 
 # ---- the largest sizes, at them and one past
 
 for strings, said in ((8192, "0 0"), (8193, "4 4")):
     head = V + b"\x00" + count(2 + strings) + count(strings)
     good = said == "0 0"
-    long_case(head, b"\x00", strings, field(1, fixed(8191)), b"", checked=said, asked="0 0 0 start end -" if good else said)
+    long_case(head, b"\x00", strings, field(1, fixed(8191)), b"", checked=said, asked="0 0 0 0 start end -" if good else said)
     long_case(head, b"\x00", strings, b"", b"", checked=said, asked="12 8201" if good else said)
     long_case(head, b"\x00", strings, field(1, fixed(8192)), b"", checked="8 8201" if good else said)
 # the last string is the zone's ID and name; a question's index has 256 places, or 8,192 for more strings
 for strings in (1, 255, 256, 257, 8191, 8192):
     last = text(b"A")
     head = V + b"\x00" + count(len(count(strings)) + strings - 1 + len(last)) + count(strings)
-    long_case(head, b"\x00", strings - 1, last + field(1, fixed(strings - 1, 0x32, strings - 1)), b"A", checked="0 0", asked="0 3600000 0 start end 41")
+    long_case(head, b"\x00", strings - 1, last + field(1, fixed(strings - 1, 0x32, strings - 1)), b"A", checked="0 0", asked="0 3600000 0 3600000 start end 41")
 for length, good in ((1024, True), (1025, False)):
     head = V + b"\x00" + count(3 + length) + b"\x01" + count(length)
-    long_case(head, b"a", length, field(1, fixed(0)), b"a" * length, checked="0 0" if good else "4 4", asked="0 0 0 start end " + "61" * 1024 if good else "4 4")
+    long_case(head, b"a", length, field(1, fixed(0)), b"a" * length, checked="0 0" if good else "4 4", asked="0 0 0 0 start end " + "61" * 1024 if good else "4 4")
     long_case(Z + b"\x02" + count(2 + length) + count(length), b"a", length, b"", checked="0 0" if good else "4 23", asked=UTC_ANSWER,
               text_="0 28 1024" if good else "4 23")
 for intervals, good in ((4096, True), (4097, False)):
@@ -433,10 +460,10 @@ for end in (MOST - 7, MOST - 6, MOST, MOST + 1):
     with_zone = "0 0" if end == MOST - 7 else "4 %d" % end
     last = text(id_)
     if end < MOST:
-        long_case(head, text(WORD), times, last + field(1, fixed(times)), id_, checked=with_zone, asked="0 0 0 start end " + "61" * 512 if end == MOST - 7 else with_zone)
+        long_case(head, text(WORD), times, last + field(1, fixed(times)), id_, checked=with_zone, asked="0 0 0 0 start end " + "61" * 512 if end == MOST - 7 else with_zone)
     else:
         long_case(head, text(WORD), times, last, id_, checked=whole, asked="12 4194304" if end == MOST else "4 4")
     if end == MOST:
         long_case(head, text(WORD), times, last + b"\x01", id_, checked="2 4194304", asked="2 4194304")
 
-write_cases("check_cases", [(line, " | ".join(said)) for line, said in cases.items()])
+write_cases("check_cases", [(line, " | ".join(said)) for line, said in cases.items()], 131072)

@@ -38,7 +38,7 @@ def named(name, ticks, mark):
     said = SECOND.says("named", FILE, name, str(ticks), mark)
     if not said.startswith(b"0 "):
         return said.decode()
-    values, shown = said.split(b" ", 5)[:5], said.split(b" ", 5)[5]
+    values, shown = said.split(b" ", 6)[:6], said.split(b" ", 6)[6]
     return b" ".join(values).decode() + " " + (shown.hex() or "-")
 
 
@@ -57,7 +57,7 @@ def both(s, name, said, checked=None, **more):
     case(s, name, said, said, checked, **more)
 
 
-A = "0 0 0 start end 41"
+A = "0 0 0 0 start end 41"
 ONE = V + pool(b"A") + zone(0)
 TWO = V + pool(b"A", b"B") + zone(0)
 THREE = V + pool(b"A", b"B", b"C") + zone(0)
@@ -148,9 +148,9 @@ both(THREE + field(3, aliases((0, 2), (1, 0))), b"A", A)
 # ---- the answer is the zone's; the first zone of an ID answers, and every zone before field 3 is checked
 
 both(TWO + field(3, aliases((1, 0))), b"B", A, "0 0")
-both(V + pool(b"A", b"B") + zone(0, b"\x32") + zone(0, b"\x34") + field(3, aliases((1, 0))), b"B", "0 3600000 0 start end 41", "13 16")
+both(V + pool(b"A", b"B") + zone(0, b"\x32") + zone(0, b"\x34") + field(3, aliases((1, 0))), b"B", "0 3600000 0 3600000 start end 41", "13 16")
 both(V + pool(b"A", b"B") + zone(0, b"\x32") + field(1, b"\x01\x03") + field(3, aliases((1, 0))), b"B", "9 16", "9 16")
-both(V + pool(b"A", b"B", b"C") + zone(2) + field(1, b"\x00\x01\x30\x02") + field(3, aliases((1, 0))), b"B", "0 0 0 start end 43", "0 0")
+both(V + pool(b"A", b"B", b"C") + zone(2) + field(1, b"\x00\x01\x30\x02") + field(3, aliases((1, 0))), b"B", "0 0 0 0 start end 43", "0 0")
 
 # ---- "an alias is 'not yet' until field 3 is whole"
 

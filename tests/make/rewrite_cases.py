@@ -255,9 +255,10 @@ assert [next(iter(forms(t, prev))) for prev, t in zip([START] + STEPS, STEPS)] =
 # ---- what stands between the transitions is copied: names and offsets of every length, tails, other fields
 
 LONG = [(START, "mark"), (BASE, T), (BASE + 128 * HOUR, T), (BASE + 20000 * HOUR, T)]
-EVERY = (0, 20700000, -75000, 1, -84600000, 86399999)
+EVERY = ((0, 20700000), (20700000, -75000), (-75000, 1), (1, 0), (-84600000, -84600000), (86399999, 86399999))
 for k in range(6):
-    good((AB, zone(0, LONG + [(END, "mark")], names=(k % 2, 1), walls=EVERY[k:] + EVERY[:k], savings=EVERY[k // 2:])))
+    walls, savings = zip(*(EVERY[k:] + EVERY[:k]))
+    good((AB, zone(0, LONG + [(END, "mark")], names=(k % 2, 1), walls=walls, savings=savings)))
 good((AB, zone(1, LONG, names=(0, 1), walls=(-3600000, 0, 1), savings=(0, 3600000))))
 for tail in ("30" "00" "1c030132" "01" "1c0a0132" "2f", "a15135" "01" "3e031034" "00" "3e0b0234" "32", "c5265c01" "00" "43020230" "01" "210c3d5f" "30",
              "30" "01" "00010230" "01" "00010230" "30"):
@@ -387,7 +388,7 @@ for number, h in ((2, "01"), (2, "0104" "010130"), (2, "0201"), (2, "ff80"), (4,
                   (8, "0104" "01013002"), (8, "0104" "02013000"), (8, "0202" "01ff"),
                   (9, "0105" "0101300000"), (9, "0104" "01033000"), (9, "0200"), (9, "0107" "010201" "00003030"),
                   (10, "0103" "010200"), (10, "0109" "010201" "00003030" "0000"), (10, "0109" "010201" "01003030" "0100"),
-                  (10, "010d" "010202" "00003030" "00003030" "0100"),
+                  (10, "010d" "010202" "00003030" "00003030" "0100"), (10, "0109" "010201" "00005f2f" "0100"), (10, "0107" "010201" "00000131"),
                   (11, "0118" "010201" "00003030" "80c2d72f" "01" "3200" "1c0d0132" "00" "1c0a0132" "32"), (13, "0104" "00013000")):
     refused(GOOD + hex_(h), "%d %d" % (number, AT))
 # the range's ends passed: by hours, by minutes never, by ticks

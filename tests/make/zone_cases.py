@@ -116,10 +116,10 @@ def good(pool, d, instants=(), ahead=2, back=1, words=None):
     def at(t):
         """Start and end of the interval that holds t."""
         if t not in asked:
-            number, wall, savings, start, end, name = second("ask", FILE, id_, str(t), "all")
+            number, wall, savings, standard, start, end, name = second("ask", FILE, id_, str(t), "all")
             assert number == "0"
             asked[t] = start, end
-            store(t, pool, words, " ".join(["0", id_, wall, savings, name, start, end]))
+            store(t, pool, words, " ".join(["0", id_, wall, savings, standard, name, start, end]))
         return asked[t]
 
     def around(bound):
@@ -326,6 +326,22 @@ refused(7, 1, data(listed(0, [(hours(128), 0, 0, 0)], END)))
 refused(7, 1, data(listed(0, one + [(hours(128), 0, 0, 0)], END)))
 refused(7, 1, data(listed(0, late + [(hours(128), 0, 0, 0)], END)))
 refused(7, 3, data(listed(0, late, hours(128), EUROPE)))
+
+# ---- 10: wall minus savings not inside 24 hours (02, Ask 7), in the first interval, in one of five bytes, in one of twelve and in a long one
+
+DAY, HALF = 86400000, 1800000
+ODD = ((DAY - HALF, -HALF), (HALF - DAY, HALF), (DAY - HALF, HALF - DAY), (DAY - 1, -1), (1 - DAY, 1))
+EVEN = ((DAY - HALF, 0), (HALF - DAY, -HALF), (0, 1 - DAY))
+for before, start in (([], START), (two, hours(128)), (two, ticks(IN_2024)), (one, minutes(IN_1900))):
+    for wall, savings in ODD:
+        d = data(listed(0, before + [(start, 0, wall, savings)], END))
+        refused(10, 1, d[:-2])
+    # at once: before the next code's 7 and before the tail byte; after the name's 8
+    refused(10, 1, d)
+    refused(10, 1, d[:-2] + b"\x03")
+    refused(8, 1, data(listed(0, before + [(start, 1, wall, savings)], END)))
+    for wall, savings in EVEN:
+        good(1, data(listed(0, before + [(start, 0, wall, savings)], END)), ahead=0, back=0)
 
 # ---- 11: the days of each length of month, and the sum, which comes before bytes left over
 

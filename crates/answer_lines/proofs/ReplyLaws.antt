@@ -129,10 +129,10 @@ put-slice s d last at h e =
 
 -- ---- whole lines
 
-pub answer-length : (wall savings : ℤ) (name : List ℕ)
-    → length (answerLine wall savings name) ≡ 5 + length (signed wall) + length (signed savings) + length name
+pub answer-length : (wall savings standard : ℤ) (name : List ℕ)
+    → length (answerLine wall savings standard name) ≡ 6 + length (signed wall) + length (signed savings) + length (signed standard) + length name
 unfolding answerLine
-answer-length wall savings name = rw (decimal-one 0 (omega arith)) (simp length-append (omega arith))
+answer-length wall savings standard name = rw (decimal-one 0 (omega arith)) (simp length-append (omega arith))
 
 pub refusal-length : (number place : ℕ) → length (refusalLine number place) ≡ 2 + length (decimal number) + length (decimal place)
 unfolding refusalLine

@@ -9,10 +9,14 @@ ghost use Rattle.answer_lines.specs.Reply.{answerLine, refusalLine};
 use base::Wrote;
 
 // The line of an answer.
-pub fn write_answer(wall: i64, savings: i64, name: &[u8], out: &mut [u8]) -> Wrote
-    ensures { λ r. ⌜ Writes (bytes (answerLine wall savings (now (name .entry)))) (now (out .entry)) r (now (out .exit)) ⌝ }
+pub fn write_answer(wall: i64, savings: i64, standard: i64, name: &[u8], out: &mut [u8]) -> Wrote
+    ensures { λ r. ⌜ Writes (bytes (answerLine wall savings standard (now (name .entry)))) (now (out .entry)) r (now (out .exit)) ⌝ }
 {
-    let room = 5 + signed_length(wall) + signed_length(savings) + name.len();
+    let room = 6
+        + signed_length(wall)
+        + signed_length(savings)
+        + signed_length(standard)
+        + name.len();
     if out.len() < room {
         return Wrote::Refused(15);
     }
@@ -22,9 +26,11 @@ pub fn write_answer(wall: i64, savings: i64, name: &[u8], out: &mut [u8]) -> Wro
     out[b] = b' ';
     let c = put_signed(savings, out, b + 1);
     out[c] = b' ';
-    let d = put_bytes(name, out, c + 1);
-    out[d] = b'\n';
-    Wrote::Length(d + 1)
+    let d = put_signed(standard, out, c + 1);
+    out[d] = b' ';
+    let e = put_bytes(name, out, d + 1);
+    out[e] = b'\n';
+    Wrote::Length(e + 1)
 }
 
 // The line of a refusal.

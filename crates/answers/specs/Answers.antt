@@ -6,6 +6,7 @@ use Rattle.base.specs.Numbers.{numberGiven, placeGiven}
 use Rattle.signed.specs.Instant.{ticksOf}
 use Rattle.signed.specs.OffsetSum.{millisecondsOf}
 use Rattle.pool.specs.Index.{spanOf}
+use Rattle.intervals.specs.Interval.{standardSum}
 use Rattle.strings.specs.Holder.{textOf}
 use Rattle.strings.specs.declared.Holder.the-variants.{InPool}
 use Rattle.zones.specs.declared.Found.{Found as Interval}
@@ -33,12 +34,14 @@ pub record Pool : Type 0 where
 abbrev pub noPool : Pool
 noPool = record { start = 0; body = [] }
 
--- "An answer carries wall offset, savings, the name as a part of the lent bytes, and the interval's start and end."
+-- "An answer carries wall offset, savings, the name as a part of the lent bytes, and the interval's start and end."; "The answer record gains
+-- the standard offset, wall minus savings"
 abbrev pub answered : Pool → Interval → Found
 answered p x =
     record {
       wall = millisecondsOf (x .wall);
       savings = millisecondsOf (x .savings);
+      standard = millisecondsOf (standardSum (x .wall) (x .savings));
       name = p .start + spanOf (p .body) (x .name) .at;
       length = spanOf (p .body) (x .name) .len;
       start = ticksOf (x .start);

@@ -15,11 +15,12 @@ pub enum Mark {
     All,
 }
 
-// An answer: offsets in milliseconds, the place and the length of the name in the asked bytes, start and end in ticks since 1970; the
+// An answer: offsets in milliseconds, the standard offset being wall minus savings, the place and the length of the name in the asked bytes, start and end in ticks since 1970; the
 // least i64 is start of time and the largest is end of time.
 pub struct Found {
     pub wall: i64,
     pub savings: i64,
+    pub standard: i64,
     pub name: usize,
     pub length: usize,
     pub start: i64,
@@ -48,11 +49,13 @@ pub fn answered(pool: &[u8], starts: &[u32], start: usize, x: Interval) -> Found
     let p = strings::span_by(pool, starts, k);
     let wall = signed::milliseconds(x.wall);
     let savings = signed::milliseconds(x.savings);
+    let standard = signed::milliseconds(x.wall + 86400000 - x.savings);
     let from = signed::ticks(x.start);
     let to = signed::ticks(x.end);
     Found {
         wall: wall,
         savings: savings,
+        standard: standard,
         name: start + p.at,
         length: p.len,
         start: from,

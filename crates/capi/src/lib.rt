@@ -33,7 +33,7 @@ pub extern "C" fn nzd_check(file: &[u8]) -> u64
 
 // The marked question.
 #[no_mangle]
-pub extern "C" fn nzd_ask(file: &[u8], id: &[u8], ticks: i64, more: bool, out: &mut [i64; 6]) -> u64
+pub extern "C" fn nzd_ask(file: &[u8], id: &[u8], ticks: i64, more: bool, out: &mut [i64; 7]) -> u64
     ensures { λ r. ⌜ Gives (answerReply (askOf (now (file .entry)) (now (id .entry)) ticks (markOf more))) (now (out .entry)) r (now (out .exit)) ⌝ }
 {
     let mark = file_replies::mark_of(more);
@@ -43,7 +43,7 @@ pub extern "C" fn nzd_ask(file: &[u8], id: &[u8], ticks: i64, more: bool, out: &
 
 // The plain question.
 #[no_mangle]
-pub extern "C" fn nzd_ask_plain(file: &[u8], id: &[u8], ticks: i64, out: &mut [i64; 6]) -> u64
+pub extern "C" fn nzd_ask_plain(file: &[u8], id: &[u8], ticks: i64, out: &mut [i64; 7]) -> u64
     ensures { λ r. ⌜ Gives (answerReply (askPlain (now (file .entry)) (now (id .entry)) ticks)) (now (out .entry)) r (now (out .exit)) ⌝ }
 {
     let a = questions::ask_plain(file, id, ticks);
@@ -57,7 +57,7 @@ pub extern "C" fn nzd_ask_named(
     name: &[u8],
     ticks: i64,
     more: bool,
-    out: &mut [i64; 6],
+    out: &mut [i64; 7],
 ) -> u64
     ensures { λ r. ⌜ Gives (answerReply (askNamed (now (file .entry)) (now (name .entry)) ticks (markOf more))) (now (out .entry)) r (now (out .exit)) ⌝ }
 {

@@ -2,7 +2,8 @@
 // A line is `TICKS ID FILE` or `TICKS ID FRONT UNIT TIMES END`, where the file is the front, the unit so many times, and the end.
 // The instant is in ticks since 1970; the zone's ID, the file's parts and the times, three bytes, are in hexadecimal, `-` for none.
 // For each it writes the check's number and place, `0 0` for a well-formed file; the version text's number and place, with its length behind a
-// 0; and the number and place of the question as all there is, or 0, wall offset, savings, start, end and name, the name in hexadecimal.
+// 0; and the number and place of the question as all there is, or 0, wall offset, savings, standard offset, start, end and name, the name in
+// hexadecimal.
 // The stored output comes from tests/make/check_cases.py.
 use answers::Answer;
 use answers::Found;
@@ -45,6 +46,7 @@ fn show_found(s: &[u8], x: Found) {
     cases::say(b"0");
     offset(x.wall);
     offset(x.savings);
+    offset(x.standard);
     moment(x.start);
     moment(x.end);
     cases::say(b" ");
@@ -84,7 +86,7 @@ fn run_all(s: &[u8], buf: &mut [u8]) {
 }
 
 fn main() {
-    let mut input = io::large_buffer();
+    let mut input = [0u8; 131072];
     // Room for a field that ends at 4,194,304 and bytes behind it.
     let mut buf = [0u8; 4194560];
     let n = io::read_full(STDIN_FILENO, &mut input);

@@ -22,7 +22,7 @@ use Rattle.signed.specs.Instant.{fromRaw}
 use Rattle.rules.specs.Fields.{byteOk, monthOk, dayOk, timeOk, ruleOf, sumOk}
 use Rattle.places.specs.Name.{readZigzag, judgeName, parseName}
 use Rattle.intervals.specs.declared.Interval.{Interval}
-use Rattle.intervals.specs.Interval.{rises, intervalOf, startOf, afterWall, afterName, parseDetails, afterStart, parseInterval}
+use Rattle.intervals.specs.Interval.{standardSum, rises, startOf, judgeStandard, afterWall, afterName, parseDetails, afterStart, parseInterval}
 use Rattle.tails.specs.Tail.{afterTime, parseTime, afterDay, parseDay, afterMonth, parseMonth, afterByte, parseRule}
 use Rattle.tails.specs.Tail.{standardOf, tailOf, afterStandardName, afterOffset, parseStandard, afterSavings, parseSavings, afterDaylightName, parseDaylight, parseTail}
 use Rattle.zones.specs.Parse.{zoneOf, afterTail, parseTailed, afterTailByte, afterEnd, afterIntervals, afterCount, parseListed}
@@ -168,13 +168,14 @@ tail pool start s =
     either (sumOk (x .offset) v) (got (tailOf x n d v) r₄) (bad 11) tt eleven))))
 
 interval : (pool prev : ℕ) (s : List ℕ) → Fine (parseInterval pool prev s)
-unfolding parseInterval afterStart parseDetails afterName afterWall
+unfolding parseInterval afterStart parseDetails afterName afterWall judgeStandard
 interval pool prev s =
     row (parse (readMoment prev) s) (afterStart pool prev) (code (readMoment prev) s (moment-codes prev s)) (λ m r₁.
     either (rises prev m) (parseDetails pool m r₁) (bad 10)
     (row (parseName pool r₁) (afterName m) (name pool r₁) (λ n r₂.
     row (parse readSum r₂) (afterWall m n) (code readSum r₂ (sum-codes r₂)) (λ w r₃.
-    row (parse readSum r₃) (intervalOf m n w) (code readSum r₃ (sum-codes r₃)) (λ v r₄. tt))))
+    row (parse readSum r₃) (judgeStandard m n w) (code readSum r₃ (sum-codes r₃)) (λ v r₄.
+    either (inDay (standardSum w v)) (got (record { start = m; name = n; wall = w; savings = v }) r₄) (bad 10) tt ten))))
     ten)
 
 intervals : (pool n prev : ℕ) (s : List ℕ) → Fine (many (parseInterval pool) startOf n prev s)

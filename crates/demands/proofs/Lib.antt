@@ -5,6 +5,7 @@ pub mod Exact
 pub mod Agree
 pub mod Growth
 pub mod RangeLaws
+pub mod Standard
 pub mod Right
 pub mod Rewriting
 pub mod Rewritten

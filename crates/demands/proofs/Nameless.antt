@@ -84,6 +84,7 @@ abbrev utc : ℕ → ℕ → Answer
 utc place length = In (record {
   wall = pos 0;
   savings = pos 0;
+  standard = pos 0;
   name = place;
   length = length;
   start = negsuc 9223372036854775807;

@@ -13,6 +13,7 @@ use Rattle.base.specs.Parsed.{got}
 use Rattle.base.proofs.Parts.{Bytes}
 use Rattle.signed.specs.Instant.{instantOf, ticksOf}
 use Rattle.signed.specs.OffsetSum.{millisecondsOf}
+use Rattle.intervals.specs.Interval.{standardSum}
 use Rattle.zones.specs.Content.{Zone}
 use Rattle.zones.specs.Parse.{parseZone}
 use Rattle.zones.specs.declared.Found.{Found as Interval}
@@ -98,6 +99,8 @@ module _ (f : List ℕ) (w : WellFormed f) (b : Bytes f) where
       let e : SameFound f (preferred f) (r .given) (s .given) = record {
         wall = r .wall-is ∙ sym (s .wall-is ∙ ap (λ (x : Interval). millisecondsOf (x .wall)) i);
         savings = r .savings-is ∙ sym (s .savings-is ∙ ap (λ (x : Interval). millisecondsOf (x .savings)) i);
+        standard = r .standard-is
+            ∙ sym (s .standard-is ∙ ap (λ (x : Interval). millisecondsOf (standardSum (x .wall) (x .savings))) i);
         start = r .start-is ∙ sym (s .start-is ∙ ap (λ (x : Interval). ticksOf (x .start)) i);
         end = r .end-is ∙ sym (s .end-is ∙ ap (λ (x : Interval). ticksOf (x .end)) i);
         name = r .named

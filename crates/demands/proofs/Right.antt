@@ -1,5 +1,5 @@
 -- DEMAND 2, for readers: on a well-formed file each instant from year 1 to year 9999 falls in exactly one interval of each zone, and the
--- offset, savings, name and bounds given are those of that interval. Assumes nothing.
+-- offset, savings, standard offset, name and bounds given are those of that interval. Assumes nothing.
 use mathlib.Core.Path.{_≡_, refl, sym, ap, _∙_, subst, subst⁻¹}
 use mathlib.Core.Bool.{false}
 use mathlib.Core.List.{List, [], _∷_}
@@ -40,6 +40,7 @@ use Rattle.demands.specs.Zones.{InRange, ZoneIn, Asked}
 use Rattle.demands.specs.Right.{Right, Answered}
 use Rattle.demands.proofs.Beside.{Alike, Passed, keeps, answers, zone-pool}
 use Rattle.questions.proofs.NameLaws.{by-kept}
+use Rattle.demands.proofs.Standard.{standard-right}
 use Rattle.demands.proofs.Lone.{none-before}
 use Rattle.demands.proofs.Exact.{asks, passed, begin-alike}
 
@@ -116,10 +117,12 @@ right f id z g w a h =
       only = λ x e k. lookup-only (length ts) t zone ok fin x e k;
       wall-is = refl;
       savings-is = refl;
+      standard-is = refl;
       start-is = refl;
       end-is = refl;
       named = name-is f y i (u .2 .located) (subst⁻¹ (λ (ss : List (List ℕ)). i .name < length ss) same (zone-found (length ts) t zone ok fin .name-ok))
           ∙ ap (λ (ss : List (List ℕ)). getD ss (i .name) []) same;
+      standard = standard-right y (length ts) i (zone-found (length ts) t zone ok fin);
     }
 
 -- a zone of a file is the asked one where its ID bytes are asked

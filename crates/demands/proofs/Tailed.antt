@@ -23,7 +23,7 @@ use Rattle.pool.specs.Pool.{allStrings, counted}
 use Rattle.pool.specs.Index.{readStarts, startsIn}
 use Rattle.base.specs.Equal.{equal}
 use Rattle.places.specs.Name.{judgeName, parseName}
-use Rattle.intervals.specs.Interval.{afterWall, afterName, parseDetails, afterStart, parseInterval}
+use Rattle.intervals.specs.Interval.{judgeStandard, afterWall, afterName, parseDetails, afterStart, parseInterval}
 use Rattle.tails.specs.Tail.{afterTime, parseTime, afterDay, parseDay, afterMonth, parseMonth, afterByte, parseRule}
 use Rattle.tails.specs.Tail.{afterStandardName, afterOffset, parseStandard, afterSavings, parseSavings, afterDaylightName, parseDaylight, parseTail}
 use Rattle.zones.specs.Parse.{zoneOf, afterTail, parseTailed, afterTailByte, afterEnd, afterIntervals, afterCount, parseListed}
@@ -56,7 +56,7 @@ file =
     ∷ 0xB0 ∷ 0x27 ∷ 1 ∷ 0x32 ∷ 1 ∷ 0x1C ∷ 10 ∷ 1 ∷ 0x32 ∷ 2 ∷ 0x1C ∷ 3 ∷ 1 ∷ 0x32 ∷ 0x32 ∷ []
 
 pub well-formed : WellFormed file
-unfolding conclusion walk iterate step act frame version zeros field order sized anyGroups readGroups many counted allStrings ended concluded poolKept judged chars textSized zoneKept newId among equal parseZone afterId afterFlag parseFixed afterFixedOffset zoneOf parseByte parseName judgeName readSum parseListed afterCount afterIntervals afterEnd afterTailByte parseTailed afterTail behind readMoment fromCount parseInterval afterStart parseDetails afterName afterWall parseTail parseDaylight afterDaylightName parseSavings afterSavings parseStandard afterOffset afterStandardName parseRule afterByte parseMonth afterMonth parseDay afterDay parseTime afterTime byteOk monthOk dayOk timeOk sumOk mostDay monthLength leapDay
+unfolding conclusion walk iterate step act frame version zeros field order sized anyGroups readGroups many counted allStrings ended concluded poolKept judged chars textSized zoneKept newId among equal parseZone afterId afterFlag parseFixed afterFixedOffset zoneOf parseByte parseName judgeName readSum parseListed afterCount afterIntervals afterEnd afterTailByte parseTailed afterTail behind readMoment fromCount parseInterval afterStart parseDetails afterName afterWall judgeStandard parseTail parseDaylight afterDaylightName parseSavings afterSavings parseStandard afterOffset afterStandardName parseRule afterByte parseMonth afterMonth parseDay afterDay parseTime afterTime byteOk monthOk dayOk timeOk sumOk mostDay monthLength leapDay
 well-formed = good-well-formed file refl
 
 abbrev pool : Field
@@ -79,11 +79,11 @@ z-right = demand-2 file well-formed zone-z (record { before = pool ∷ zone-s �
 
 -- the values of an answer, the name byte for byte; none of a refusal
 pub data Values : Type 0 where
-  values : ℤ → ℤ → List ℕ → ℤ → ℤ → Values
+  values : ℤ → ℤ → ℤ → List ℕ → ℤ → ℤ → Values
   none : Values
 
 abbrev valuesOf : Answer → Values
-valuesOf (In x) = values (x .wall) (x .savings) (nameOf file x) (x .start) (x .end)
+valuesOf (In x) = values (x .wall) (x .savings) (x .standard) (nameOf file x) (x .start) (x .end)
 valuesOf (Refused n p) = none
 
 abbrev asked : ℤ → Values
@@ -97,11 +97,11 @@ at second = pos (second * 10000000)
 -- 1970-07-30; the last tick before the change of 2024-03-31, and its instant
 pub answers :
     map asked (negsuc 0 ∷ pos 0 ∷ at 18144000 ∷ pos (1711846800 * 10000000 - 1) ∷ at 1711846800 ∷ [])
-    ≡ values (pos 3600000) (pos 0) (83 ∷ []) (negsuc 9223372036854775807) (pos 0)
-    ∷ values (pos 7200000) (pos 3600000) (68 ∷ []) (pos 0) (at 18144000)
-    ∷ values (pos 7200000) (pos 3600000) (68 ∷ []) (at 18144000) (at 25664400)
-    ∷ values (pos 3600000) (pos 0) (83 ∷ []) (at 1698541200) (at 1711846800)
-    ∷ values (pos 7200000) (pos 3600000) (68 ∷ []) (at 1711846800) (at 1729990800)
+    ≡ values (pos 3600000) (pos 0) (pos 3600000) (83 ∷ []) (negsuc 9223372036854775807) (pos 0)
+    ∷ values (pos 7200000) (pos 3600000) (pos 3600000) (68 ∷ []) (pos 0) (at 18144000)
+    ∷ values (pos 7200000) (pos 3600000) (pos 3600000) (68 ∷ []) (at 18144000) (at 25664400)
+    ∷ values (pos 3600000) (pos 0) (pos 3600000) (83 ∷ []) (at 1698541200) (at 1711846800)
+    ∷ values (pos 7200000) (pos 3600000) (pos 3600000) (68 ∷ []) (at 1711846800) (at 1729990800)
     ∷ []
-unfolding ask says biasedOf walk iterate step act frame version zeros field order sized anyGroups readGroups many counted allStrings ended chars textSized equal readStarts startsIn parseZone afterId afterFlag parseFixed afterFixedOffset zoneOf parseByte parseName judgeName readSum parseListed afterCount afterIntervals afterEnd afterTailByte parseTailed afterTail behind readMoment fromCount parseInterval afterStart parseDetails afterName afterWall parseTail parseDaylight afterDaylightName parseSavings afterSavings parseStandard afterOffset afterStandardName parseRule afterByte parseMonth afterMonth parseDay afterDay parseTime afterTime byteOk monthOk dayOk timeOk sumOk mostDay monthLength leapDay holding inList inTail behindList fixedNameOf inBody lookup lastAt nextAfter yearBefore searchFrom yearOf estimate standardIn daylightIn occurrence subtracted fallsOn moved onOrAfter onOrBefore monthDay dayNumber daysBefore yearStart
+unfolding ask says biasedOf walk iterate step act frame version zeros field order sized anyGroups readGroups many counted allStrings ended chars textSized equal readStarts startsIn parseZone afterId afterFlag parseFixed afterFixedOffset zoneOf parseByte parseName judgeName readSum parseListed afterCount afterIntervals afterEnd afterTailByte parseTailed afterTail behind readMoment fromCount parseInterval afterStart parseDetails afterName afterWall judgeStandard parseTail parseDaylight afterDaylightName parseSavings afterSavings parseStandard afterOffset afterStandardName parseRule afterByte parseMonth afterMonth parseDay afterDay parseTime afterTime byteOk monthOk dayOk timeOk sumOk mostDay monthLength leapDay holding inList inTail behindList fixedNameOf inBody lookup lastAt nextAfter yearBefore searchFrom yearOf estimate standardIn daylightIn occurrence subtracted fallsOn moved onOrAfter onOrBefore monthDay dayNumber daysBefore yearStart
 answers = refl

@@ -35,12 +35,13 @@ pub data Asking : Type 0 where
   question : List ℕ → List ℕ → ℤ → Mark → Asking
   plain : List ℕ → List ℕ → ℤ → Asking
 
--- what is given: a code's bytes; number, place and values; a day and a Unix second; wall offset, savings and name
+-- what is given: a code's bytes; number, place and values; a day and a Unix second; wall offset, savings, standard offset and
+-- name
 pub data Given : Type 0 where
   code : List ℕ → Given
   told : GivenBack → Given
   falls : ℕ → ℕ → Given
-  reply : ℤ → ℤ → List ℕ → Given
+  reply : ℤ → ℤ → ℤ → List ℕ → Given
 
 -- a value and the length of its code
 abbrev pub value : ℤ → ℕ → Given
@@ -60,7 +61,7 @@ ofRule y (got r q) = falls (fallsOn r (y + 399)) (occurrence r (subtracted (r .m
 ofRule y (bad n) = refusal n 0
 
 abbrev pub ofAnswer : List ℕ → Answer → Given
-ofAnswer bs (In x) = reply (x .wall) (x .savings) (nameOf bs x)
+ofAnswer bs (In x) = reply (x .wall) (x .savings) (x .standard) (nameOf bs x)
 ofAnswer bs (Refused n p) = told (givenByAnswer (Refused n p))
 
 abbrev pub given : Asking → Given
@@ -98,8 +99,8 @@ cases =
     ∷ record { asked = rule (0x1C ∷ 0x03 ∷ 0x01 ∷ 0x32 ∷ []) 2024; expected = falls (dayNumber (2024 + 399) 3 31) (1711846800 * 10000000) }
     -- 6. "Rule 3E 03 10 34 (Sunday on or after 8 March, 02:00 wall) falls on 2024-03-10": 02:00 of that day is Unix second 1710036000
     ∷ record { asked = rule (0x3E ∷ 0x03 ∷ 0x10 ∷ 0x34 ∷ []) 2024; expected = falls (dayNumber (2024 + 399) 3 10) (1710036000 * 10000000) }
-    -- 7. "`UTC 0` writes `0 0 0 UTC`"
-    ∷ record { asked = plain file utc (pos 0); expected = reply (pos 0) (pos 0) utc }
+    -- 7. "`UTC 0` writes `0 0 0 UTC`", and by Ask 7 "01's output lines gain it after savings": `0 0 0 0 UTC`
+    ∷ record { asked = plain file utc (pos 0); expected = reply (pos 0) (pos 0) (pos 0) utc }
     -- 8. Ask 1: "unmarked lines .. write `1 17` for GMT"
     ∷ record { asked = plain file gmt (pos 0); expected = refusal 1 17 }
     -- 9. Ask 1: "`1 11` on 16 bytes"

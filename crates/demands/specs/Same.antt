@@ -11,6 +11,7 @@ use Rattle.answers.specs.declared.Answer.the-variants.{In, Refused}
 pub record SameFound (f h : List ℕ) (x y : Found) : Type 0 where
   pub wall : x .wall ≡ y .wall
   pub savings : x .savings ≡ y .savings
+  pub standard : x .standard ≡ y .standard
   pub start : x .start ≡ y .start
   pub end : x .end ≡ y .end
   pub name : nameOf f x ≡ nameOf h y

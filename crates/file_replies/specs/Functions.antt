@@ -32,9 +32,10 @@ abbrev pub markOf : Bool → Mark
 markOf true = More
 markOf false = All
 
--- "An answer carries wall offset, savings, the name as a part of the lent bytes, and the interval's start and end."
+-- "An answer carries wall offset, savings, the name as a part of the lent bytes, and the interval's start and end."; after savings, "the standard
+-- offset"
 abbrev pub answerReply : Answer → Reply
-answerReply (In x) = numbers (x .wall ∷ x .savings ∷ pos (x .name) ∷ pos (x .length) ∷ x .start ∷ x .end ∷ [])
+answerReply (In x) = numbers (x .wall ∷ x .savings ∷ x .standard ∷ pos (x .name) ∷ pos (x .length) ∷ x .start ∷ x .end ∷ [])
 answerReply (Denied n p) = refused n p
 
 -- "how many instants in range read that way, with the earliest and the latest"

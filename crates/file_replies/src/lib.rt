@@ -42,7 +42,7 @@ pub fn mark_of(more: bool) -> Mark
 }
 
 // The numbers of an answer.
-pub fn give_answer(a: Answer, out: &mut [i64; 6]) -> u64
+pub fn give_answer(a: Answer, out: &mut [i64; 7]) -> u64
     requires { ⌜ SmallAnswer a ⌝ }
     ensures { λ r. ⌜ Gives (answerReply a) (now (out .entry)) r (now (out .exit)) ⌝ }
 {
@@ -51,6 +51,7 @@ pub fn give_answer(a: Answer, out: &mut [i64; 6]) -> u64
             *out = [
                 x.wall,
                 x.savings,
+                x.standard,
                 x.name as i64,
                 x.length as i64,
                 x.start,

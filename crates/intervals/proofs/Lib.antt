@@ -1,4 +1,6 @@
 pub mod ScanLaws
 pub mod SoundLaws
+pub mod StandardLaws
 pub mod ShortLaws
 pub mod InOrderLaws
+pub mod Vectors

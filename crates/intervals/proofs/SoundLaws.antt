@@ -14,13 +14,14 @@ use Rattle.base.specs.Moment.{Finite, startOfTime, endOfTime}
 use Rattle.base.proofs.Tests.{both-left, both-right}
 use Rattle.base.proofs.ParseLaws.{bind-good, pick-good}
 use Rattle.base.proofs.MomentLaws.{Moment}
-use Rattle.offsets.specs.Offset.{readSum}
+use Rattle.offsets.specs.Offset.{inDay, readSum}
 use Rattle.transitions.specs.Transition.{readMoment}
 use Rattle.places.specs.Name.{parseName}
 use Rattle.places.proofs.ValueLaws.{moment-is, name-ok, sum-high}
 use Rattle.intervals.specs.declared.Interval.{Interval}
-use Rattle.intervals.specs.Interval.{intervalOf, afterWall, afterName, parseDetails, rises, afterStart, parseInterval, startOf}
+use Rattle.intervals.specs.Interval.{standardSum, judgeStandard, afterWall, afterName, parseDetails, rises, afterStart, parseInterval, startOf}
 use Rattle.intervals.specs.Sound.{Ranged, Rising, ListOk}
+use Rattle.intervals.proofs.StandardLaws.{standard-range}
 
 pub record IntervalOk (pool prev : ℕ) (i : Interval) : Type 0 where
   pub start-ok : rises prev (i .start) ≡ true
@@ -28,16 +29,24 @@ pub record IntervalOk (pool prev : ℕ) (i : Interval) : Type 0 where
   pub ranged : Ranged pool i
 
 details-sound : (pool m : ℕ) (s : List ℕ) (i : Interval) (q : List ℕ) → parseDetails pool m s ≡ got i q → (m ≡ i .start) × Ranged pool i
-unfolding parseDetails afterName afterWall
+unfolding parseDetails afterName afterWall judgeStandard
 details-sound pool m s i q e =
     let a = bind-good (parseName pool s) (afterName m) i q e in
     let b = bind-good (parse readSum (a .rest)) (afterWall m (a .first)) i q (a .on) in
-    let c = bind-good (parse readSum (b .rest)) (intervalOf m (a .first) (b .first)) i q (b .on) in
-    let f : got (record { start = m; name = a .first; wall = b .first; savings = c .first }) (c .rest) ≡ got i q = c .on in
+    let c = bind-good (parse readSum (b .rest)) (judgeStandard m (a .first) (b .first)) i q (b .on) in
+    let d = pick-good (inDay (standardSum (b .first) (c .first))) (got (record { start = m; name = a .first; wall = b .first; savings = c .first }) (c .rest)) 10 i q (c .on) in
+    let r = standard-range (b .first) (c .first) (d .0) in
+    let f : got (record { start = m; name = a .first; wall = b .first; savings = c .first }) (c .rest) ≡ got i q = d .1 in
     let g : record { start = m; name = a .first; wall = b .first; savings = c .first } ≡ i = cc in
     subst (λ (x : Interval). (m ≡ x .start) × Ranged pool x) g (
       refl,
-      record { name-ok = name-ok pool _ _ _ (a .is); wall-high = sum-high _ _ _ (b .is); savings-high = sum-high _ _ _ (c .is) },
+      record {
+        name-ok = name-ok pool _ _ _ (a .is);
+        wall-high = sum-high _ _ _ (b .is);
+        savings-high = sum-high _ _ _ (c .is);
+        standard-low = r .0;
+        standard-high = r .1;
+      },
     )
 
 pub interval-sound : (pool prev : ℕ) (s : List ℕ) (i : Interval) (q : List ℕ) → parseInterval pool prev s ≡ got i q → IntervalOk pool prev i

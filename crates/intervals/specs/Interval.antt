@@ -1,24 +1,29 @@
 -- The listed intervals of a zone, read left to right, for the proofs: each thing that is read is a stage of its own, last stage first. In the
--- paper's order an interval stands in InOrder.antt. `rises` is to be believed; the stages are the code's way, tied to that by
+-- paper's order an interval stands in InOrder.antt. `standardSum` and `rises` are to be believed; the stages are the code's way, tied to that by
 -- `interval-stages` (proofs/InOrderLaws.antt).
-use Prim.Native.Nat.{ℕ}
+use Prim.Native.Nat.{ℕ, _+_, _-_}
 use mathlib.Core.Bool.{Bool}
 use mathlib.Core.List.{List}
 use lib.Dec.{ltb, eqb}
 use Rattle.base.specs.Pick.{pick, both}
 use Rattle.base.specs.Parsed.{Parsed, got, bad, bind, parse}
 use Rattle.base.specs.Moment.{startOfTime, endOfTime}
-use Rattle.offsets.specs.Offset.{readSum}
+use Rattle.offsets.specs.Offset.{inDay, readSum}
 use Rattle.transitions.specs.Transition.{readMoment}
 use Rattle.places.specs.Name.{parseName}
 use Rattle.intervals.specs.declared.Interval.{Interval}
 
--- An interval: "transition, name, wall offset, savings".
-abbrev pub intervalOf : ℕ → ℕ → ℕ → ℕ → List ℕ → Parsed Interval
-intervalOf m n w v s = got (record { start = m; name = n; wall = w; savings = v }) s
+-- "the standard offset, wall minus savings", as a sum: all three have 86,400,000 added. 0 where it would be less
+abbrev pub standardSum : ℕ → ℕ → ℕ
+standardSum wall savings = wall + 86400000 - savings
+
+-- An interval: "transition, name, wall offset, savings". "A zone where that leaves the open range of 24 hours either way is no longer well
+-- formed: number 10 in an interval, after its savings are read"
+unfoldable pub judgeStandard : ℕ → ℕ → ℕ → ℕ → List ℕ → Parsed Interval
+judgeStandard m n w v s = pick (inDay (standardSum w v)) (got (record { start = m; name = n; wall = w; savings = v }) s) (bad 10)
 
 unfoldable pub afterWall : ℕ → ℕ → ℕ → List ℕ → Parsed Interval
-afterWall m n w s = bind (parse readSum s) (intervalOf m n w)
+afterWall m n w s = bind (parse readSum s) (judgeStandard m n w)
 
 unfoldable pub afterName : ℕ → ℕ → List ℕ → Parsed Interval
 afterName m n s = bind (parse readSum s) (afterWall m n)

@@ -6,10 +6,11 @@ ghost use Prim.Native.Nat.{_+_, _≤_};
 ghost use lib.ListN.{length, drop};
 ghost use Rattle.base.specs.Parsed.{many};
 ghost use Rattle.base.specs.Moment.{endOfTime};
+ghost use Rattle.offsets.specs.Offset.{inDay};
 ghost use Rattle.places.specs.Placed.{Stands};
-ghost use Rattle.intervals.specs.Interval.{rises as risesOf, parseDetails, parseInterval, startOf};
+ghost use Rattle.intervals.specs.Interval.{standardSum, rises as risesOf, parseDetails, parseInterval, startOf};
 ghost use Rattle.intervals.specs.Scan.{ofInterval, ofScan, advance as advanceOf, scanOf};
-ghost use Rattle.intervals.specs.Short.{shortInterval, shortStart};
+ghost use Rattle.intervals.specs.Short.{shortInterval, shortOk, shortStart};
 
 pub struct Interval {
     pub start: u64,
@@ -49,6 +50,17 @@ fn rises(prev: u64, m: u64) -> bool
     false
 }
 
+// Whether the standard offset, wall minus savings, is inside 24 hours.
+fn standard_ok(wall: u64, savings: u64) -> bool
+    requires { ⌜ (wall ≤ 172799999) × (savings ≤ 172799999) ⌝ }
+    ensures { λ r. ⌜ r ≡ inDay (standardSum wall savings) ⌝ }
+{
+    if wall + 86400000 <= savings {
+        return false;
+    }
+    wall < savings + 86400000
+}
+
 // What stands behind an interval's start m.
 fn read_details(s: &[u8], at: usize, pool: u64, m: u64) -> IntervalRead
     requires { ⌜ at ≤ length (now s) ⌝ }
@@ -60,15 +72,20 @@ fn read_details(s: &[u8], at: usize, pool: u64, m: u64) -> IntervalRead
             Read::Refused(k) => IntervalRead::Refused(k),
             Read::Value(w, b) => match places::sum_at(s, b) {
                 Read::Refused(k) => IntervalRead::Refused(k),
-                Read::Value(v, e) => IntervalRead::Got(
-                    Interval {
-                        start: m,
-                        name: n,
-                        wall: w,
-                        savings: v,
-                    },
-                    e,
-                ),
+                Read::Value(v, e) => {
+                    if standard_ok(w, v) {
+                        return IntervalRead::Got(
+                            Interval {
+                                start: m,
+                                name: n,
+                                wall: w,
+                                savings: v,
+                            },
+                            e,
+                        );
+                    }
+                    IntervalRead::Refused(10)
+                }
             },
         },
     }
@@ -90,8 +107,24 @@ fn read_any_interval(s: &[u8], at: usize, pool: u64, prev: u64) -> IntervalRead
     }
 }
 
+// Whether the codes of a byte each at a place have a name of the pool and a standard offset inside 24 hours. In half hours two bytes tell that;
+// their difference, with what keeps it above 0, is in one range, which is one test of the machine's.
+fn short_ok(s: &[u8], at: usize, pool: u64) -> bool
+    requires { ⌜ at + 3 ≤ length (now s) ⌝ }
+    ensures { λ r. ⌜ r ≡ shortOk (now (s .entry)) pool at ⌝ }
+{
+    if pool <= s[at] as u64 {
+        return false;
+    }
+    let standard = s[at + 1] as u64 + 303 - s[at + 2] as u64;
+    if standard < 256 {
+        return false;
+    }
+    standard < 351
+}
+
 // The start of an interval whose start takes n bytes, two of hours or nine of ticks, and whose other codes take one each; 0 where other codes
-// stand there.
+// stand there, or where it is refused.
 fn short_start(s: &[u8], at: usize, n: usize, pool: u64, prev: u64) -> u64
     requires { ⌜ (at ≤ length (now s)) × (n ≤ 9) ⌝ }
     ensures { λ r. ⌜ r ≡ shortStart (now (s .entry)) pool at n prev ⌝ }
@@ -100,7 +133,7 @@ fn short_start(s: &[u8], at: usize, n: usize, pool: u64, prev: u64) -> u64
     if m == 0 {
         return 0;
     }
-    if (s[at + n] as u64) < pool {
+    if short_ok(s, at + n, pool) {
         return m;
     }
     0

@@ -46,14 +46,14 @@ reply-near s l =
 pub output-in-blocks : (s : List ℕ) (blocks : List (List ℕ)) → flatten (map (replyOf s) (linesInBlocks 2049 blocks [])) ≡ outputOf s (flatten blocks)
 output-in-blocks s blocks = ap flatten (lines-in-blocks (replyOf s) 2049 (omega arith) (reply-near s) blocks)
 
--- ---- a reply has at most 65,583 bytes
+-- ---- a reply has at most 65,605 bytes
 
-refusal-fits : (number place : ℕ) → number < 2 ^ 64 → place < 2 ^ 64 → length (refusalLine number place) ≤ 65583
+refusal-fits : (number place : ℕ) → number < 2 ^ 64 → place < 2 ^ 64 → length (refusalLine number place) ≤ 65605
 refusal-fits number place h l =
     rw (refusal-length number place) (omega (arith, decimal-short number h, decimal-short place l))
 
 pub refused-fits : (s : List ℕ) (a : Answer) (number place : ℕ) → a ≡ Refused number place → number < 2 ^ 64 → place < 2 ^ 64
-    → length (lineOf s a) ≤ 65583
+    → length (lineOf s a) ≤ 65605
 unfolding lineOf
 refused-fits s a number place e h l = rw e (refusal-fits number place h l)
 
@@ -63,16 +63,16 @@ name-within s f =
     (λ h. rw (lt-leb (f .name + f .length) (length s) h) (omega arith))
     (λ h. rw (le-leb (f .name + f .length) (length s) h) (omega (arith, length-take (f .length) (drop (f .name) s), length-drop (f .name) s)))
 
-pub answered-fits : (s : List ℕ) (a : Answer) (f : Found) → a ≡ In f → SFits w64 (f .wall) → SFits w64 (f .savings) → length s ≤ 65536
-    → length (lineOf s a) ≤ 65583
+pub answered-fits : (s : List ℕ) (a : Answer) (f : Found) → a ≡ In f → SFits w64 (f .wall) → SFits w64 (f .savings) → SFits w64 (f .standard)
+    → length s ≤ 65536 → length (lineOf s a) ≤ 65605
 unfolding lineOf
-answered-fits s a f e w g h =
-    rw (e, answer-length (f .wall) (f .savings) (nameOf s f))
-    (omega (arith, signed-short (f .wall) w, signed-short (f .savings) g, name-within s f))
+answered-fits s a f e w g d h =
+    rw (e, answer-length (f .wall) (f .savings) (f .standard) (nameOf s f))
+    (omega (arith, signed-short (f .wall) w, signed-short (f .savings) g, signed-short (f .standard) d, name-within s f))
 
-pub too-long-fits : (s line : List ℕ) → 65536 < length s → length (replyOf s line) ≤ 65583
+pub too-long-fits : (s line : List ℕ) → 65536 < length s → length (replyOf s line) ≤ 65605
 too-long-fits s line h = rw (file-too-long s line h) (refusal-fits 4 0 (omega arith) (omega arith))
 
-pub unclear-fits : (s line : List ℕ) → length s ≤ 65536 → parseLine line ≡ Unclear → length (replyOf s line) ≤ 65583
+pub unclear-fits : (s line : List ℕ) → length s ≤ 65536 → parseLine line ≡ Unclear → length (replyOf s line) ≤ 65605
 unfolding replyTo
 unclear-fits s line h e = rw (reply-is s line h Unclear e) (refusal-fits 16 0 (omega arith) (omega arith))

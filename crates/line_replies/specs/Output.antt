@@ -20,7 +20,7 @@ use Rattle.lines.specs.declared.Line.the-variants.{Ask, Unclear}
 
 -- the line of an answer from the file s
 unfoldable pub lineOf : List ℕ → Answer → List ℕ
-lineOf s (In f) = answerLine (f .wall) (f .savings) (nameOf s f)
+lineOf s (In f) = answerLine (f .wall) (f .savings) (f .standard) (nameOf s f)
 lineOf s (Refused number place) = refusalLine number place
 
 -- an unmarked line asks the plain question, `part` says "more may come" and `all` "this is all"

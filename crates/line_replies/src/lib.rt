@@ -10,11 +10,11 @@ use base::Wrote;
 use lines::Kind;
 use lines::Line;
 
-// The line that the program writes for a question line, with the file s. It has at most 65,583 bytes: a name of at most 65,536, two
-// numbers of at most 21, and five more.
+// The line that the program writes for a question line, with the file s. It has at most 65,605 bytes: a name of at most 65,536, three
+// numbers of at most 21, and six more.
 pub fn reply(s: &[u8], line: &[u8], out: &mut [u8]) -> Wrote
     ensures { λ r. ⌜ (r ≡ wrote (bytes (replyOf (now (s .entry)) (now (line .entry)))) (now (out .entry))) × (now (out .exit) ≡ placed (bytes (replyOf (now (s .entry)) (now (line .entry)))) (now (out .entry))) ⌝ }
-    ensures { λ r. ⌜ length (replyOf (now (s .entry)) (now (line .entry))) ≤ 65583 ⌝ }
+    ensures { λ r. ⌜ length (replyOf (now (s .entry)) (now (line .entry))) ≤ 65605 ⌝ }
 {
     if 65536 < s.len() {
         return answer_lines::write_refusal(4, 0, out);
@@ -37,12 +37,13 @@ fn ask(s: &[u8], zone: &[u8], t: i64, kind: Kind) -> Answer
 
 fn write_line(s: &[u8], answer: Answer, out: &mut [u8]) -> Wrote
     ensures { λ r. ⌜ (r ≡ wrote (bytes (lineOf (now (s .entry)) answer)) (now (out .entry))) × (now (out .exit) ≡ placed (bytes (lineOf (now (s .entry)) answer)) (now (out .entry))) ⌝ }
-    ensures { λ r. ⌜ (length (now (s .entry)) ≤ 65536 → length (lineOf (now (s .entry)) answer) ≤ 65583) ⌝ }
+    ensures { λ r. ⌜ (length (now (s .entry)) ≤ 65536 → length (lineOf (now (s .entry)) answer) ≤ 65605) ⌝ }
 {
     match answer {
         Answer::In(found) => answer_lines::write_answer(
             found.wall,
             found.savings,
+            found.standard,
             answers::name_of(s, found),
             out,
         ),

@@ -41,8 +41,8 @@ twenty : parseLine (65 ∷ 32 ∷ nine (nine (48 ∷ 48 ∷ []))) ≡ Unclear
 unfolding parseLine ticks digits behindDigits marked ticksOf equal indexOf indexAfter nine
 twenty = refl
 
--- `0 0 0 UTC`, `12 17`, and an offset of -75 seconds without a name
-answer : answerLine (pos 0) (pos 0) (85 ∷ 84 ∷ 67 ∷ []) ≡ 48 ∷ 32 ∷ 48 ∷ 32 ∷ 48 ∷ 32 ∷ 85 ∷ 84 ∷ 67 ∷ 10 ∷ []
+-- `0 0 0 0 UTC`, `12 17`, and an offset of -75 seconds without savings and name
+answer : answerLine (pos 0) (pos 0) (pos 0) (85 ∷ 84 ∷ 67 ∷ []) ≡ 48 ∷ 32 ∷ 48 ∷ 32 ∷ 48 ∷ 32 ∷ 48 ∷ 32 ∷ 85 ∷ 84 ∷ 67 ∷ 10 ∷ []
 unfolding answerLine signed decimal decimalIn
 answer = refl
 
@@ -50,7 +50,8 @@ refusal : refusalLine 12 17 ≡ 49 ∷ 50 ∷ 32 ∷ 49 ∷ 55 ∷ 10 ∷ []
 unfolding refusalLine decimal decimalIn
 refusal = refl
 
-no-name : answerLine (negsuc 74999) (pos 0) [] ≡ 48 ∷ 32 ∷ 45 ∷ 55 ∷ 53 ∷ 48 ∷ 48 ∷ 48 ∷ 32 ∷ 48 ∷ 32 ∷ 10 ∷ []
+no-name : answerLine (negsuc 74999) (pos 0) (negsuc 74999) []
+    ≡ 48 ∷ 32 ∷ 45 ∷ 55 ∷ 53 ∷ 48 ∷ 48 ∷ 48 ∷ 32 ∷ 48 ∷ 32 ∷ 45 ∷ 55 ∷ 53 ∷ 48 ∷ 48 ∷ 48 ∷ 32 ∷ 10 ∷ []
 unfolding answerLine signed decimal decimalIn
 no-name = refl
 

@@ -44,7 +44,7 @@ module _ (pool l : ℕ) (s : List ℕ) where
   -- a fixed zone
   module _ (id offset n : ℕ) (e : (m : FixedName) × (zone ≡ got (record { id = id; body = fixed offset m }) []) × (n ≡ fixedNameOf id m)) where
     pub fixed-high : offset ≤ 172799999
-    fixed-high = zone-sound pool s _ _ (e .1) .0 .body-ok .0
+    fixed-high = zone-sound pool s _ _ (e .1) .0 .body-ok .1
 
     pub find-fixed : (t : ℕ) (r : Tally) → t ≡ candidate l offset 0 endOfTime → r ≡ counted nothing t → Instants r ≡ answerOf l zone
     unfolding instantsOf

@@ -1,8 +1,8 @@
 // Asks one name of each of the files that the lines of its input spell, at one instant, and checks the file.
 // A line is `TICKS NAME FILE` or `TICKS NAME FRONT UNIT TIMES END`, where the file is the front, the unit so many times, and the end.
 // The instant is in ticks since 1970; the name, the file's parts and the times, three bytes, are in hexadecimal, `-` for none.
-// For each it writes the number and place of the named question with more to come, or 0, wall offset, savings, start, end and name, the name in
-// hexadecimal; the same as all there is; and the check's number and place, `0 0` for a well-formed file.
+// For each it writes the number and place of the named question with more to come, or 0, wall offset, savings, standard offset, start, end
+// and name, the name in hexadecimal; the same as all there is; and the check's number and place, `0 0` for a well-formed file.
 // The stored output comes from tests/make/name_cases.py.
 use answers::Answer;
 use answers::Found;
@@ -26,6 +26,7 @@ fn show_found(s: &[u8], x: Found) {
     cases::say(b"0");
     offset(x.wall);
     offset(x.savings);
+    offset(x.standard);
     moment(x.start);
     moment(x.end);
     cases::say(b" ");

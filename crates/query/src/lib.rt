@@ -80,12 +80,12 @@ fn answer_blocks(s: &[u8], block: &mut [u8], held: &mut [u8], out: &mut [u8], fr
 }
 
 // Answers the question lines that come from `from` with the file at `path`, and writes the replies to `to`.
-// A byte more than the largest file tells a longer one, 2,049 bytes tell a line that is too long, and 65,583 hold every reply.
+// A byte more than the largest file tells a longer one, 2,049 bytes tell a line that is too long, and 65,605 hold every reply.
 pub fn answer_all(path: &[u8], from: i32, to: i32) {
     let mut file = [0u8; 65537];
     let n = read_file(path, &mut file);
     let mut block = [0u8; 4096];
     let mut held = [0u8; 2049];
-    let mut out = [0u8; 65583];
+    let mut out = [0u8; 65605];
     answer_blocks(&file[..n], &mut block, &mut held, &mut out, from, to);
 }

@@ -23,7 +23,7 @@ use Rattle.places.specs.Name.{judgeName, parseName}
 use Rattle.pool.specs.Pool.{allStrings, counted}
 use Rattle.base.specs.Equal.{equal}
 use Rattle.ids.specs.Ids.{among}
-use Rattle.intervals.specs.Interval.{parseInterval, afterStart, parseDetails, afterName, afterWall}
+use Rattle.intervals.specs.Interval.{parseInterval, afterStart, parseDetails, afterName, afterWall, judgeStandard}
 use Rattle.zones.specs.Parse.{zoneOf, afterTailByte, afterEnd, afterIntervals, afterCount, parseListed, afterFlag, afterId, parseZone}
 use Rattle.frames.specs.Frame.{order, zeros, version, sized, field, frame}
 use Rattle.frames.specs.Fields.{scan, listing}
@@ -60,7 +60,7 @@ unfolding small
 file-bytes = small-bytes file refl
 
 pub file-well-formed : WellFormed file
-unfolding conclusion walk iterate step act frame version zeros field order sized anyGroups readGroups many counted allStrings ended concluded poolKept judged chars textSized zoneKept newId textKept among equal parseZone afterId afterFlag parseListed afterCount afterIntervals afterEnd afterTailByte zoneOf behind parseByte parseName judgeName readSum readMoment fromCount fixedFrom biasedOf parseInterval afterStart parseDetails afterName afterWall
+unfolding conclusion walk iterate step act frame version zeros field order sized anyGroups readGroups many counted allStrings ended concluded poolKept judged chars textSized zoneKept newId textKept among equal parseZone afterId afterFlag parseListed afterCount afterIntervals afterEnd afterTailByte zoneOf behind parseByte parseName judgeName readSum readMoment fromCount fixedFrom biasedOf parseInterval afterStart parseDetails afterName afterWall judgeStandard
 file-well-formed = good-well-formed file refl
 
 -- its preferred file
@@ -78,5 +78,5 @@ unfolding contents contentOf parseContent parseHead pastId pastFlag pastCount af
 again = refl
 
 pub shorter-well-formed : WellFormed shorter
-unfolding conclusion walk iterate step act frame version zeros field order sized anyGroups readGroups many counted allStrings ended concluded poolKept judged chars textSized zoneKept newId textKept among equal parseZone afterId afterFlag parseListed afterCount afterIntervals afterEnd afterTailByte zoneOf behind parseByte parseName judgeName readSum readMoment fromCount fixedFrom biasedOf parseInterval afterStart parseDetails afterName afterWall
+unfolding conclusion walk iterate step act frame version zeros field order sized anyGroups readGroups many counted allStrings ended concluded poolKept judged chars textSized zoneKept newId textKept among equal parseZone afterId afterFlag parseListed afterCount afterIntervals afterEnd afterTailByte zoneOf behind parseByte parseName judgeName readSum readMoment fromCount fixedFrom biasedOf parseInterval afterStart parseDetails afterName afterWall judgeStandard
 shorter-well-formed = good-well-formed shorter refl

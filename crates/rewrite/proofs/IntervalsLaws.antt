@@ -10,10 +10,10 @@ use Rattle.base.specs.Parsed.{got, bind, parse, prepend, many, behind}
 use Rattle.base.proofs.Parts.{Bytes}
 use Rattle.base.proofs.ParseLaws.{got-value, got-rest, bind-good, pick-good}
 use Rattle.counts.specs.Count.{readCount}
-use Rattle.offsets.specs.Offset.{readSum}
+use Rattle.offsets.specs.Offset.{inDay, readSum}
 use Rattle.transitions.specs.Transition.{readMoment, writeMoment}
 use Rattle.places.specs.Name.{judgeName, parseName}
-use Rattle.intervals.specs.Interval.{intervalOf, afterWall, afterName, parseDetails, rises, afterStart, parseInterval, startOf}
+use Rattle.intervals.specs.Interval.{standardSum, judgeStandard, afterWall, afterName, parseDetails, rises, afterStart, parseInterval, startOf}
 use Rattle.intervals.specs.declared.Interval.{Interval}
 use Rattle.pieces.specs.Content.{Piece, bytesUpTo, parseWall, pieceEnd, afterMoment, parsePiece, parsePieces, printPieces}
 use Rattle.rewrite.proofs.CodeLaws.{Front, count-front, sum-front, Renewed, moment-renewed, up-to-front}
@@ -45,16 +45,17 @@ pub record DetailsFront (pool m : ℕ) (s : List ℕ) (i : Interval) (r : List �
   pub bytes : Bytes r
 
 pub details-front : (pool m : ℕ) (s : List ℕ) (i : Interval) (r : List ℕ) → Bytes s → parseDetails pool m s ≡ got i r → DetailsFront pool m s i r
-unfolding parseDetails afterName afterWall pieceEnd parseWall
+unfolding parseDetails afterName afterWall judgeStandard pieceEnd parseWall
 details-front pool m s i r b e =
     let a = bind-good (parseName pool s) (afterName m) i r e in
     let n = name-front pool s (a .first) (a .rest) b (a .is) in
     let c = bind-good (parse readSum (a .rest)) (afterWall m (a .first)) i r (a .on) in
     let w = sum-front (a .rest) (c .first) (c .rest) (n .code .bytes) (c .is) in
-    let d = bind-good (parse readSum (c .rest)) (intervalOf m (a .first) (c .first)) i r (c .on) in
+    let d = bind-good (parse readSum (c .rest)) (judgeStandard m (a .first) (c .first)) i r (c .on) in
     let v = sum-front (c .rest) (d .first) (d .rest) (w .bytes) (d .is) in
-    let h : record { start = m; name = a .first; wall = c .first; savings = d .first } ≡ i = got-value (d .on) in
-    let j : d .rest ≡ r = got-rest (d .on) in
+    let o = pick-good (inDay (standardSum (c .first) (d .first))) (got (record { start = m; name = a .first; wall = c .first; savings = d .first }) (d .rest)) 10 i r (d .on) in
+    let h : record { start = m; name = a .first; wall = c .first; savings = d .first } ≡ i = got-value (o .1) in
+    let j : d .rest ≡ r = got-rest (o .1) in
     let u : List ℕ = n .code .used ++ (w .used ++ v .used) in
     let q : (x : List ℕ) → u ++ x ≡ n .code .used ++ (w .used ++ (v .used ++ x)) =
     λ x. append-assoc (n .code .used) (w .used ++ v .used) x ∙ ap (λ (y : List ℕ). n .code .used ++ y) (append-assoc (w .used) (v .used) x) in
@@ -65,7 +66,7 @@ details-front pool m s i r b e =
           ∙ ap (λ (y : List ℕ). n .code .used ++ y) (w .splits ∙ ap (λ (y : List ℕ). w .used ++ y) (v .splits ∙ ap (λ (y : List ℕ). v .used ++ y) j))
           ∙ sym (q r);
       starts = sym (ap startOf h);
-      again = λ x. ap (parseDetails pool m) (q x) ∙ rw (n .again (w .used ++ (v .used ++ x)), w .again (v .used ++ x), v .again x) (ap (λ (y : Interval). got y x) h);
+      again = λ x. ap (parseDetails pool m) (q x) ∙ rw (n .again (w .used ++ (v .used ++ x)), w .again (v .used ++ x), v .again x, o .0) (ap (λ (y : Interval). got y x) h);
       value = d .first;
       ends = λ k x. ap (pieceEnd (suc k)) (q x) ∙ rw (n .code .again (w .used ++ (v .used ++ x)), w .again (v .used ++ x), v .again x);
       bytes = subst Bytes j (v .bytes);

@@ -14,7 +14,7 @@ use Rattle.rules.specs.Fields.{byteOk, monthOk, dayOk, timeOk, ruleOf, sumOk}
 use Rattle.rules.proofs.FieldLaws.{rule-ok}
 use Rattle.places.specs.Placed.{Placed, at, Stands}
 use Rattle.places.specs.Name.{readZigzag, parseName}
-use Rattle.places.proofs.ValueLaws.{sum-high, name-ok}
+use Rattle.places.proofs.ValueLaws.{sum-low, sum-high, name-ok}
 use Rattle.tails.specs.Tail.{afterTime, parseTime, afterDay, parseDay, afterMonth, parseMonth, afterByte, parseRule, standardOf, afterStandardName, afterOffset, parseStandard, tailOf, afterSavings, parseSavings, afterDaylightName, parseDaylight, parseTail}
 use Rattle.tails.specs.Sound.{StandardOk, NamedTailOk}
 use Rattle.tails.specs.declared.Standard.{Standard}
@@ -49,6 +49,7 @@ standard-sound pool start s x q e =
     let g : record { start = start; offset = a .first; name = b .first; rule = c .first } ≡ x = cc in
     subst (StandardOk pool start) g (record {
       starts = refl;
+      offset-low = sum-low _ _ _ (a .is);
       offset-high = sum-high _ _ _ (a .is);
       name-ok = name-ok pool _ _ _ (b .is);
       rule-ok = rule-sound _ _ _ (c .is);
@@ -75,6 +76,7 @@ tail-sound pool start s n q h e =
         standard-ok = y .rule-ok;
         daylight-ok = rule-sound _ _ _ (c .is);
       };
+      offset-low = y .offset-low;
       savings-high = sum-high _ _ _ (d .is);
       standard-ok = y .name-ok;
       daylight-ok = name-ok pool _ _ _ (b .is);

@@ -8,6 +8,7 @@ use Rattle.tails.specs.declared.NamedTail.{NamedTail}
 
 pub record StandardOk (pool start : ℕ) (x : Standard) : Type 0 where
   pub starts : x .start ≡ start
+  pub offset-low : 1 ≤ x .offset
   pub offset-high : x .offset ≤ 172799999
   pub name-ok : x .name < pool
   pub rule-ok : RuleOk (x .rule)
@@ -16,6 +17,7 @@ pub record StandardOk (pool start : ℕ) (x : Standard) : Type 0 where
 pub record NamedTailOk (pool start : ℕ) (n : NamedTail) : Type 0 where
   pub starts : n .tail .start ≡ start
   pub tail-ok : TailOk (n .tail)
+  pub offset-low : 1 ≤ n .tail .offset
   pub savings-high : n .tail .savings ≤ 172799999
   pub standard-ok : n .standard < pool
   pub daylight-ok : n .daylight < pool

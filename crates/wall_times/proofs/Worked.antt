@@ -20,7 +20,7 @@ use Rattle.recurrence.specs.Search.{searchFrom, yearBefore, lastAt, nextAfter}
 use Rattle.recurrence.specs.Tails.{standardIn, daylightIn, lookup}
 use Rattle.pool.specs.Pool.{allStrings, counted}
 use Rattle.places.specs.Name.{judgeName, parseName}
-use Rattle.intervals.specs.Interval.{afterWall, afterName, parseDetails, afterStart, parseInterval}
+use Rattle.intervals.specs.Interval.{judgeStandard, afterWall, afterName, parseDetails, afterStart, parseInterval}
 use Rattle.tails.specs.Tail.{afterTime, parseTime, afterDay, parseDay, afterMonth, parseMonth, afterByte, parseRule}
 use Rattle.tails.specs.Tail.{afterStandardName, afterOffset, parseStandard, afterSavings, parseSavings, afterDaylightName, parseDaylight, parseTail}
 use Rattle.zones.specs.Parse.{zoneOf, afterTail, parseTailed, afterTailByte, afterEnd, afterIntervals, afterCount, parseListed}
@@ -60,12 +60,12 @@ at second = pos (second * 10000000)
 
 -- THE AUTUMN NIGHT, 2024-10-27T01:30: at 00:30Z and at 01:30Z
 pub autumn : MapsTo tailed (65 ∷ []) (at 1729992600) (Instants 2 (at 1729989000) (at 1729992600))
-unfolding says biasedOf walk iterate step act frame version zeros field order sized anyGroups readGroups counted allStrings many ended chars textSized equal parseZone afterId afterFlag parseFixed afterFixedOffset zoneOf parseByte parseName judgeName readSum candidate instantsOf mappingOf latestOf parseListed afterCount afterIntervals afterEnd afterTailByte behind readMoment fromCount parseInterval afterStart parseDetails afterName afterWall inListing ofList behindList parseTailed afterTail parseTail parseDaylight afterDaylightName parseSavings afterSavings parseStandard afterOffset afterStandardName parseRule afterByte parseMonth afterMonth parseDay afterDay parseTime afterTime byteOk monthOk dayOk timeOk sumOk mostDay monthLength leapDay inForceAt tailCandidate ofTail lookup lastAt nextAfter yearBefore searchFrom yearOf estimate standardIn daylightIn occurrence subtracted fallsOn moved onOrAfter onOrBefore monthDay dayNumber daysBefore yearStart
+unfolding says biasedOf walk iterate step act frame version zeros field order sized anyGroups readGroups counted allStrings many ended chars textSized equal parseZone afterId afterFlag parseFixed afterFixedOffset zoneOf parseByte parseName judgeName readSum candidate instantsOf mappingOf latestOf parseListed afterCount afterIntervals afterEnd afterTailByte behind readMoment fromCount parseInterval afterStart parseDetails afterName afterWall judgeStandard inListing ofList behindList parseTailed afterTail parseTail parseDaylight afterDaylightName parseSavings afterSavings parseStandard afterOffset afterStandardName parseRule afterByte parseMonth afterMonth parseDay afterDay parseTime afterTime byteOk monthOk dayOk timeOk sumOk mostDay monthLength leapDay inForceAt tailCandidate ofTail lookup lastAt nextAfter yearBefore searchFrom yearOf estimate standardIn daylightIn occurrence subtracted fallsOn moved onOrAfter onOrBefore monthDay dayNumber daysBefore yearStart
 autumn = meant tailed (at 1729992600) _ refl
 
 -- THE SPRING GAP, 2024-03-31T01:30
 pub spring : MapsTo tailed (65 ∷ []) (at 1711848600) (Refused 17 0)
-unfolding says biasedOf walk iterate step act frame version zeros field order sized anyGroups readGroups counted allStrings many ended chars textSized equal parseZone afterId afterFlag parseFixed afterFixedOffset zoneOf parseByte parseName judgeName readSum candidate instantsOf mappingOf latestOf parseListed afterCount afterIntervals afterEnd afterTailByte behind readMoment fromCount parseInterval afterStart parseDetails afterName afterWall inListing ofList behindList parseTailed afterTail parseTail parseDaylight afterDaylightName parseSavings afterSavings parseStandard afterOffset afterStandardName parseRule afterByte parseMonth afterMonth parseDay afterDay parseTime afterTime byteOk monthOk dayOk timeOk sumOk mostDay monthLength leapDay inForceAt tailCandidate ofTail lookup lastAt nextAfter yearBefore searchFrom yearOf estimate standardIn daylightIn occurrence subtracted fallsOn moved onOrAfter onOrBefore monthDay dayNumber daysBefore yearStart
+unfolding says biasedOf walk iterate step act frame version zeros field order sized anyGroups readGroups counted allStrings many ended chars textSized equal parseZone afterId afterFlag parseFixed afterFixedOffset zoneOf parseByte parseName judgeName readSum candidate instantsOf mappingOf latestOf parseListed afterCount afterIntervals afterEnd afterTailByte behind readMoment fromCount parseInterval afterStart parseDetails afterName afterWall judgeStandard inListing ofList behindList parseTailed afterTail parseTail parseDaylight afterDaylightName parseSavings afterSavings parseStandard afterOffset afterStandardName parseRule afterByte parseMonth afterMonth parseDay afterDay parseTime afterTime byteOk monthOk dayOk timeOk sumOk mostDay monthLength leapDay inForceAt tailCandidate ofTail lookup lastAt nextAfter yearBefore searchFrom yearOf estimate standardIn daylightIn occurrence subtracted fallsOn moved onOrAfter onOrBefore monthDay dayNumber daysBefore yearStart
 spring = meant tailed (at 1711848600) _ refl
 
 -- RULES THAT DON'T ALTERNATE: standard time from the Sunday on or after 29 December, an hour more from 1 January on. After 2025-01-01 the next
@@ -78,12 +78,12 @@ skew =
 
 -- 2026-01-04T00:30
 pub twice-daylight : MapsTo skew (65 ∷ []) (at 1767486600) (Instants 2 (at 1767483000) (at 1767486600))
-unfolding says biasedOf walk iterate step act frame version zeros field order sized anyGroups readGroups counted allStrings many ended chars textSized equal parseZone afterId afterFlag parseFixed afterFixedOffset zoneOf parseByte parseName judgeName readSum candidate instantsOf mappingOf latestOf parseListed afterCount afterIntervals afterEnd afterTailByte behind readMoment fromCount parseInterval afterStart parseDetails afterName afterWall inListing ofList behindList parseTailed afterTail parseTail parseDaylight afterDaylightName parseSavings afterSavings parseStandard afterOffset afterStandardName parseRule afterByte parseMonth afterMonth parseDay afterDay parseTime afterTime byteOk monthOk dayOk timeOk sumOk mostDay monthLength leapDay inForceAt tailCandidate ofTail lookup lastAt nextAfter yearBefore searchFrom yearOf estimate standardIn daylightIn occurrence subtracted fallsOn moved onOrAfter onOrBefore monthDay dayNumber daysBefore yearStart
+unfolding says biasedOf walk iterate step act frame version zeros field order sized anyGroups readGroups counted allStrings many ended chars textSized equal parseZone afterId afterFlag parseFixed afterFixedOffset zoneOf parseByte parseName judgeName readSum candidate instantsOf mappingOf latestOf parseListed afterCount afterIntervals afterEnd afterTailByte behind readMoment fromCount parseInterval afterStart parseDetails afterName afterWall judgeStandard inListing ofList behindList parseTailed afterTail parseTail parseDaylight afterDaylightName parseSavings afterSavings parseStandard afterOffset afterStandardName parseRule afterByte parseMonth afterMonth parseDay afterDay parseTime afterTime byteOk monthOk dayOk timeOk sumOk mostDay monthLength leapDay inForceAt tailCandidate ofTail lookup lastAt nextAfter yearBefore searchFrom yearOf estimate standardIn daylightIn occurrence subtracted fallsOn moved onOrAfter onOrBefore monthDay dayNumber daysBefore yearStart
 twice-daylight = meant skew (at 1767486600) _ refl
 
 -- 2025-01-01T00:30
 pub same-again : MapsTo skew (65 ∷ []) (at 1735691400) (Instants 1 (at 1735691400) (at 1735691400))
-unfolding says biasedOf walk iterate step act frame version zeros field order sized anyGroups readGroups counted allStrings many ended chars textSized equal parseZone afterId afterFlag parseFixed afterFixedOffset zoneOf parseByte parseName judgeName readSum candidate instantsOf mappingOf latestOf parseListed afterCount afterIntervals afterEnd afterTailByte behind readMoment fromCount parseInterval afterStart parseDetails afterName afterWall inListing ofList behindList parseTailed afterTail parseTail parseDaylight afterDaylightName parseSavings afterSavings parseStandard afterOffset afterStandardName parseRule afterByte parseMonth afterMonth parseDay afterDay parseTime afterTime byteOk monthOk dayOk timeOk sumOk mostDay monthLength leapDay inForceAt tailCandidate ofTail lookup lastAt nextAfter yearBefore searchFrom yearOf estimate standardIn daylightIn occurrence subtracted fallsOn moved onOrAfter onOrBefore monthDay dayNumber daysBefore yearStart
+unfolding says biasedOf walk iterate step act frame version zeros field order sized anyGroups readGroups counted allStrings many ended chars textSized equal parseZone afterId afterFlag parseFixed afterFixedOffset zoneOf parseByte parseName judgeName readSum candidate instantsOf mappingOf latestOf parseListed afterCount afterIntervals afterEnd afterTailByte behind readMoment fromCount parseInterval afterStart parseDetails afterName afterWall judgeStandard inListing ofList behindList parseTailed afterTail parseTail parseDaylight afterDaylightName parseSavings afterSavings parseStandard afterOffset afterStandardName parseRule afterByte parseMonth afterMonth parseDay afterDay parseTime afterTime byteOk monthOk dayOk timeOk sumOk mostDay monthLength leapDay inForceAt tailCandidate ofTail lookup lastAt nextAfter yearBefore searchFrom yearOf estimate standardIn daylightIn occurrence subtracted fallsOn moved onOrAfter onOrBefore monthDay dayNumber daysBefore yearStart
 same-again = meant skew (at 1735691400) _ refl
 
 -- ONE CHANGE, from an hour ahead to none at minute 100,000,000 since 1800: the local time of that number is read an hour before and at the
@@ -92,11 +92,11 @@ abbrev back : List ℕ
 back = before (1 ∷ 0x10 ∷ 0 ∷ 2 ∷ 2 ∷ 0 ∷ 0 ∷ 0x32 ∷ 0x32 ∷ 0x80 ∷ 0xC2 ∷ 0xD7 ∷ 0x2F ∷ 0 ∷ 0x30 ∷ 0x30 ∷ 1 ∷ 0 ∷ [])
 
 pub change : MapsTo back (65 ∷ []) (pos 6353376000000000) (Instants 2 (pos 6353340000000000) (pos 6353376000000000))
-unfolding says biasedOf walk iterate step act frame version zeros field order sized anyGroups readGroups counted allStrings many ended chars textSized equal parseZone afterId afterFlag parseFixed afterFixedOffset zoneOf parseByte parseName judgeName readSum candidate instantsOf mappingOf latestOf parseListed afterCount afterIntervals afterEnd afterTailByte behind readMoment fromCount parseInterval afterStart parseDetails afterName afterWall inListing ofList behindList
+unfolding says biasedOf walk iterate step act frame version zeros field order sized anyGroups readGroups counted allStrings many ended chars textSized equal parseZone afterId afterFlag parseFixed afterFixedOffset zoneOf parseByte parseName judgeName readSum candidate instantsOf mappingOf latestOf parseListed afterCount afterIntervals afterEnd afterTailByte behind readMoment fromCount parseInterval afterStart parseDetails afterName afterWall judgeStandard inListing ofList behindList
 change = meant back (pos 6353376000000000) _ refl
 
 pub after-change : MapsTo back (65 ∷ []) (pos 6353412000000000) (Instants 1 (pos 6353412000000000) (pos 6353412000000000))
-unfolding says biasedOf walk iterate step act frame version zeros field order sized anyGroups readGroups counted allStrings many ended chars textSized equal parseZone afterId afterFlag parseFixed afterFixedOffset zoneOf parseByte parseName judgeName readSum candidate instantsOf mappingOf latestOf parseListed afterCount afterIntervals afterEnd afterTailByte behind readMoment fromCount parseInterval afterStart parseDetails afterName afterWall inListing ofList behindList
+unfolding says biasedOf walk iterate step act frame version zeros field order sized anyGroups readGroups counted allStrings many ended chars textSized equal parseZone afterId afterFlag parseFixed afterFixedOffset zoneOf parseByte parseName judgeName readSum candidate instantsOf mappingOf latestOf parseListed afterCount afterIntervals afterEnd afterTailByte behind readMoment fromCount parseInterval afterStart parseDetails afterName afterWall judgeStandard inListing ofList behindList
 after-change = meant back (pos 6353412000000000) _ refl
 
 -- THREE: two hours ahead, then one and none from 90 and 30 minutes before minute 100,000,000 since 1800 on
@@ -106,7 +106,7 @@ three =
     (1 ∷ 0x17 ∷ 0 ∷ 2 ∷ 3 ∷ 0 ∷ 0 ∷ 0x34 ∷ 0x34 ∷ 0xA6 ∷ 0xC1 ∷ 0xD7 ∷ 0x2F ∷ 0 ∷ 0x32 ∷ 0x32 ∷ 0xE2 ∷ 0xC1 ∷ 0xD7 ∷ 0x2F ∷ 0 ∷ 0x30 ∷ 0x30 ∷ 1 ∷ 0 ∷ [])
 
 pub three-instants : MapsTo three (65 ∷ []) (pos 6353376000000000) (Instants 3 (pos 6353304000000000) (pos 6353376000000000))
-unfolding says biasedOf walk iterate step act frame version zeros field order sized anyGroups readGroups counted allStrings many ended chars textSized equal parseZone afterId afterFlag parseFixed afterFixedOffset zoneOf parseByte parseName judgeName readSum candidate instantsOf mappingOf latestOf parseListed afterCount afterIntervals afterEnd afterTailByte behind readMoment fromCount parseInterval afterStart parseDetails afterName afterWall inListing ofList behindList
+unfolding says biasedOf walk iterate step act frame version zeros field order sized anyGroups readGroups counted allStrings many ended chars textSized equal parseZone afterId afterFlag parseFixed afterFixedOffset zoneOf parseByte parseName judgeName readSum candidate instantsOf mappingOf latestOf parseListed afterCount afterIntervals afterEnd afterTailByte behind readMoment fromCount parseInterval afterStart parseDetails afterName afterWall judgeStandard inListing ofList behindList
 three-instants = meant three (pos 6353376000000000) _ refl
 
 -- THE LAST INSTANT OF 9999, an hour ahead: the local time is past 9999

@@ -2,7 +2,7 @@
 // A line is `INSTANT COUNT DATA` or `INSTANT COUNT FRONT UNIT TIMES END`, where the data is the front, the unit so many times, and the end.
 // The instant is in ticks since 1970, `-` for none; the pool's count and the times, two bytes each, and the data are in hexadecimal.
 // For each it writes the check's number, the ID's pool number behind a 0, and with an instant the refusal's number or wall offset, savings,
-// the name's pool number, start and end.
+// standard offset, the name's pool number, start and end.
 // The stored output comes from tests/make/zone_cases.py.
 use base::END;
 use base::FIRST;
@@ -40,6 +40,8 @@ fn show_answer(a: Answer) {
 fn show_found(x: Found) {
     offset(x.wall);
     offset(x.savings);
+    cases::say(b" ");
+    cases::say_difference(x.wall, x.savings);
     cases::say(b" ");
     cases::say_number(x.name);
     cases::say(b" ");

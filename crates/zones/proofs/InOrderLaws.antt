@@ -7,7 +7,7 @@ use Rattle.base.specs.Pick.{pick}
 use Rattle.base.specs.Parsed.{Parsed, got, bad, bind, parse, parseByte}
 use Rattle.offsets.specs.Offset.{readSum}
 use Rattle.places.specs.Name.{parseName}
-use Rattle.intervals.specs.Interval.{afterWall, afterName, parseDetails, afterStart, parseInterval}
+use Rattle.intervals.specs.Interval.{judgeStandard, afterWall, afterName, parseDetails, afterStart, parseInterval}
 use Rattle.intervals.specs.InOrder.{intervalInOrder}
 use Rattle.tails.specs.Tail.{afterTime, parseTime, afterDay, parseDay, afterMonth, parseMonth, afterByte, parseRule, afterStandardName, afterOffset, parseStandard, afterSavings, parseSavings, afterDaylightName, parseDaylight, parseTail}
 use Rattle.tails.specs.InOrder.{ruleInOrder, tailInOrder}
@@ -28,7 +28,7 @@ fixed-stages pool id s = go (parse readSum s)
     go (bad n) = refl
 
 listed-stages : (pool id : ℕ) (s : List ℕ) → listedInOrder pool id s ≡ parseListed pool id s
-unfolding listedInOrder zoneOf afterTail parseTailed afterTailByte afterEnd afterIntervals afterCount parseListed intervalInOrder afterWall afterName parseDetails afterStart parseInterval tailInOrder ruleInOrder afterTime parseTime afterDay parseDay afterMonth parseMonth afterByte parseRule afterStandardName afterOffset parseStandard afterSavings parseSavings afterDaylightName parseDaylight parseTail
+unfolding listedInOrder zoneOf afterTail parseTailed afterTailByte afterEnd afterIntervals afterCount parseListed intervalInOrder judgeStandard afterWall afterName parseDetails afterStart parseInterval tailInOrder ruleInOrder afterTime parseTime afterDay parseDay afterMonth parseMonth afterByte parseRule afterStandardName afterOffset parseStandard afterSavings parseSavings afterDaylightName parseDaylight parseTail
 listed-stages pool id s = refl
 
 flag-stages : (pool id flag : ℕ) (s : List ℕ)

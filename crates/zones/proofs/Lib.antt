@@ -2,5 +2,6 @@ pub mod ReadLaws
 pub mod SoundLaws
 pub mod PartitionLaws
 pub mod RangeLaws
+pub mod StandardLaws
 pub mod EndLaws
 pub mod InOrderLaws

@@ -18,7 +18,7 @@ use Rattle.counts.specs.Count.{readCount}
 use Rattle.offsets.specs.Offset.{readSum}
 use Rattle.transitions.specs.Transition.{readMoment}
 use Rattle.places.specs.Name.{parseName}
-use Rattle.places.proofs.ValueLaws.{moment-is, name-ok, sum-high}
+use Rattle.places.proofs.ValueLaws.{moment-is, name-ok, sum-low, sum-high}
 use Rattle.intervals.specs.declared.Interval.{Interval}
 use Rattle.intervals.specs.Interval.{parseInterval, startOf}
 use Rattle.intervals.specs.Sound.{ListOk}
@@ -45,13 +45,13 @@ fixed-whole : (pool id : ℕ) (s : List ℕ) (z : Zone) (q : List ℕ) → parse
 unfolding parseFixed afterFixedOffset
 fixed-whole pool id s z q e =
     let a = bind-good (parse readSum s) (afterFixedOffset pool id) z q e in
-    go (a .first) (a .rest) (sum-high _ _ _ (a .is)) (a .on)
+    go (a .first) (a .rest) (sum-low _ _ _ (a .is)) (sum-high _ _ _ (a .is)) (a .on)
   where
-    go : (offset : ℕ) (r : List ℕ) → offset ≤ 172799999 → afterFixedOffset pool id offset r ≡ got z q → Whole pool id z q
-    go offset [] h k = zone-whole pool id (fixed offset absent) [] z q (h, tt) k
-    go offset (c ∷ r) h k =
+    go : (offset : ℕ) (r : List ℕ) → 1 ≤ offset → offset ≤ 172799999 → afterFixedOffset pool id offset r ≡ got z q → Whole pool id z q
+    go offset [] l h k = zone-whole pool id (fixed offset absent) [] z q (l, h, tt) k
+    go offset (c ∷ r) l h k =
         let b = bind-good (parseName pool (c ∷ r)) (fixedOf id offset) z q k in
-        zone-whole pool id (fixed offset (present (b .first))) (b .rest) z q (h, name-ok pool _ _ _ (b .is)) (b .on)
+        zone-whole pool id (fixed offset (present (b .first))) (b .rest) z q (l, h, name-ok pool _ _ _ (b .is)) (b .on)
 
 -- an end transition after a start and before end of time is finite
 end-finite : (m : ℕ) → Moment m → 0 < m → m < endOfTime → Finite m

@@ -75,7 +75,7 @@ pub struct Growing {
 }
 
 /// Files on which a reader with a cost that isn't linear would show it.
-pub const GROWING: [Growing; 17] = [
+pub const GROWING: [Growing; 18] = [
     Growing {
         name: "1,024 to 8,192 zones, IDs of 503 bytes that differ at the end",
         make: |factor| fixed_zones(1024 * factor, |number| format!("{}{number:04}", "x".repeat(499))),
@@ -149,6 +149,15 @@ pub const GROWING: [Growing; 17] = [
         make: |factor| {
             let zones = (0..10 * factor).map(|id| listed(id, 4096)).collect();
             grown(names(10 * factor), zones, in_ticks)
+        },
+        well_formed: true,
+    },
+    Growing {
+        name: "10 to 80 zones of 4,096 intervals, offsets of four bytes and standard offsets near 24 hours",
+        make: |factor| {
+            let odd = |number: usize| (86_399_999 - 2 * (number % 400) as i32, 1 + 2 * (number % 400) as i32);
+            let zones = (0..10 * factor).map(|id| listed_at(id, 4096, odd)).collect();
+            grown(names(10 * factor), zones, preferred)
         },
         well_formed: true,
     },
@@ -260,12 +269,20 @@ fn fixed(id: usize) -> Zone {
 
 /// A zone whose intervals are 200 days long.
 fn listed(id: usize, count: usize) -> Zone {
+    let hour = |number: usize| (number % 2) as i32 * 3_600_000;
+    listed_at(id, count, |number| (hour(number), hour(number)))
+}
+
+/// The same with a wall offset and savings for each interval.
+fn listed_at(id: usize, count: usize, offsets: impl Fn(usize) -> (i32, i32)) -> Zone {
     let start = |number: usize| match number as i64 {
         0 => Transition::StartOfTime,
         number => Transition::Finite(number * 200 * 24 * TICKS_PER_HOUR - 400_000_000_000_000_000),
     };
-    let hour = |number: usize| (number % 2) as i32 * 3_600_000;
-    let interval = |number| Interval { start: start(number), name: 0, wall: hour(number), savings: hour(number) };
+    let interval = |number| {
+        let (wall, savings) = offsets(number);
+        Interval { start: start(number), name: 0, wall, savings }
+    };
     let intervals = (0..count).map(interval).collect();
     Zone { id, rest: Rest::Listed { intervals, end: Transition::EndOfTime, tail: None } }
 }

@@ -14,7 +14,7 @@ pub enum Work {
 }
 
 /// What a question gives: number and place of a refusal, or the values of an answer.
-type Said<'a> = Result<(i64, i64, &'a [u8], i64, i64), (u8, usize)>;
+type Said<'a> = Result<([i64; 3], &'a [u8], i64, i64), (u8, usize)>;
 
 fn pair(error: nzd::Error) -> (u8, usize) {
     (error.number.value(), error.place)
@@ -25,11 +25,15 @@ fn peer_pair(refusal: peer::Refusal) -> (u8, usize) {
 }
 
 fn said(answer: Result<nzd::Answer<'_>, nzd::Error>) -> Said<'_> {
-    answer.map(|a| (a.wall_offset_ms, a.savings_ms, a.name, ticks_of(a.start), ticks_of(a.end))).map_err(pair)
+    answer
+        .map(|a| ([a.wall_offset_ms, a.savings_ms, a.standard_offset_ms], a.name, ticks_of(a.start), ticks_of(a.end)))
+        .map_err(pair)
 }
 
 fn peer_said(answer: Result<peer::Answer<'_>, peer::Refusal>) -> Said<'_> {
-    answer.map(|a| (a.wall_offset_ms.into(), a.savings_ms.into(), a.name, a.start, a.end)).map_err(peer_pair)
+    answer
+        .map(|a| ([a.wall_offset_ms, a.savings_ms, a.standard_offset_ms].map(i64::from), a.name, a.start, a.end))
+        .map_err(peer_pair)
 }
 
 fn ticks_of(bound: Bound) -> i64 {

@@ -99,7 +99,7 @@ const PADDED: [&str; 19] = [
 ];
 
 /// The data in hex of a zone behind a pool that holds "A" only.
-const ZONES: [&str; 49] = [
+const ZONES: [&str; 56] = [
     // Reading 3: hours where there is no instant before.
     "0002020000303080010030300100",
     "000201 8001 00 30 30 01",
@@ -158,6 +158,15 @@ const ZONES: [&str; 49] = [
     "00012e",
     "00020200003232 80c2d72f 003030 0100",
     "00020300003434 a6c1d72f 003232 e2c1d72f 003030 0100",
+    // Standard offsets, readings 7.1 to 7.3: 24 hours either way, cut there, before a code that is refused, after savings that are;
+    // a tail that stores +23:30, and a fixed zone at +23:30.
+    "0002010000 5f2f 0100",
+    "0002010000 0131 0100",
+    "0002010000 5f2f",
+    "0002010000 5f2f 03",
+    "0002010000 5f60",
+    "0002010000 5f31 e09bd12a 01 5f 00 1c0a0132 00 1c030132 2f",
+    "00015f",
     // An hour forward, and an hour back, to a tail of one offset.
     "00020200003030 80c2d72f 003232 0100",
     "00020100003232 e09bd12a 01 30 00 1c0a0132 00 1c030132 30",

@@ -66,19 +66,20 @@ pub fn ask(tally: &mut Tally, file: &[u8], id: &[u8], ticks: i64) -> Result<(), 
     Ok(())
 }
 
-fn numbers_of(answer: &Answer) -> [i64; 6] {
-    let Answer { wall, savings, name, start, end } = answer;
+fn numbers_of(answer: &Answer) -> [i64; 7] {
+    let Answer { wall, savings, standard, name, start, end } = answer;
     let bound = |bound: &Transition| match bound {
         Transition::StartOfTime => i64::MIN,
         Transition::Finite(ticks) => *ticks,
         Transition::EndOfTime => i64::MAX,
     };
-    [i64::from(*wall), i64::from(*savings), name.start as i64, name.len() as i64, bound(start), bound(end)]
+    let [wall, savings, standard] = [wall, savings, standard].map(|&ms| i64::from(ms));
+    [wall, savings, standard, name.start as i64, name.len() as i64, bound(start), bound(end)]
 }
 
-fn wrapped_numbers(file: &[u8], answer: Result<nzd::Answer<'_>, nzd::Error>) -> Outcome<[i64; 6]> {
+fn wrapped_numbers(file: &[u8], answer: Result<nzd::Answer<'_>, nzd::Error>) -> Outcome<[i64; 7]> {
     let answer = answer.map_err(error_pair)?;
-    let nzd::Answer { wall_offset_ms, savings_ms, start, end, .. } = answer;
+    let nzd::Answer { wall_offset_ms, savings_ms, standard_offset_ms, start, end, .. } = answer;
     let bound = |bound: Bound| match bound {
         Bound::StartOfTime => i64::MIN,
         Bound::At(ticks) => ticks,
@@ -88,7 +89,8 @@ fn wrapped_numbers(file: &[u8], answer: Result<nzd::Answer<'_>, nzd::Error>) -> 
     let name = answer.name_str();
     assert_eq!(name.as_bytes(), answer.name);
     let place = (name.as_ptr() as usize).wrapping_sub(file.as_ptr() as usize);
-    Ok([wall_offset_ms, savings_ms, place as i64, name.len() as i64, bound(start), bound(end)])
+    let (place, length) = (place as i64, name.len() as i64);
+    Ok([wall_offset_ms, savings_ms, standard_offset_ms, place, length, bound(start), bound(end)])
 }
 
 /// Asks every prefix of a file, or one in `step`, alone and with random bytes added.

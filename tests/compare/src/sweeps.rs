@@ -17,6 +17,7 @@ const DAYLIGHT: &str = "00 1c030132 32";
 pub fn all(tally: &mut Tally) -> Result<(), Difference> {
     field_ids(tally)?;
     flags(tally)?;
+    standard_offsets(tally)?;
     rules(tally)
 }
 
@@ -56,6 +57,35 @@ fn flags(tally: &mut Tally) -> Result<(), Difference> {
         }
     }
     Ok(())
+}
+
+/// Every two offsets of half hours as an interval's wall offset and savings, where it is the first, of five bytes or of twelve;
+/// and standard offsets around 24 hours, to the millisecond.
+fn standard_offsets(tally: &mut Tally) -> Result<(), Difference> {
+    let fronts =
+        ["000201 00", "000203 00003030 e09bd12a003030 8001", "000203 00003030 e09bd12a003030 020100000000000000"];
+    for front in fronts.map(hex) {
+        for wall in 0..=0x60 {
+            for savings in 0..=0x60 {
+                standard_offset(tally, &[&front[..], &[0, wall, savings]].concat())?;
+            }
+        }
+        for standard in [-86_400_001, -86_400_000, -86_399_999, 86_399_999, 86_400_000, 86_400_001] {
+            for wall in [-86_399_999, -86_399_000, -1, 0, 1, 60_000, 86_340_000, 86_399_999] {
+                let offset = |ms| encode_offset(ms).unwrap_or_default();
+                standard_offset(tally, &[&front[..], &[0], &offset(wall), &offset(wall - standard)].concat())?;
+            }
+        }
+    }
+    Ok(())
+}
+
+/// A zone up to the savings of its last interval, with an end and cut there.
+fn standard_offset(tally: &mut Tally, front: &[u8]) -> Result<(), Difference> {
+    check(tally, &zone_file(front))?;
+    let file = zone_file(&[front, &[1, 0]].concat());
+    check(tally, &file)?;
+    ask(tally, &file, b"A", 100_000_000_000_000_000)
 }
 
 /// Every rule byte; every month with every day that it may have and some that it may not; the ends of a time of day.

@@ -4,7 +4,8 @@ use crate::number::{BAD_CODE, BAD_DATA, BAD_TEXT, TOO_LARGE};
 use crate::zone::Interval;
 use crate::{END_OF_TIME, FIRST, LAST, START_OF_TIME};
 
-const DAY_MS: i32 = 86_400_000;
+/// 24 hours in milliseconds, outside which no offset is.
+pub const DAY_MS: i32 = 86_400_000;
 const TICKS_PER_HOUR: i64 = 36_000_000_000;
 const TICKS_PER_MINUTE: i64 = 600_000_000;
 /// 1800-01-01T00:00Z.
@@ -187,6 +188,10 @@ impl<'a> Cursor<'a> {
             return None;
         };
         if start <= previous || start > LAST || u32::from(name) >= pool_count {
+            return None;
+        }
+        // Wall minus savings, in half hours, is inside 24 hours.
+        if wall.abs_diff(savings) >= 48 {
             return None;
         }
         self.rest = rest;

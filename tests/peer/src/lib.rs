@@ -73,6 +73,8 @@ pub struct Answer<'a> {
     pub wall_offset_ms: i32,
     /// Savings in milliseconds.
     pub savings_ms: i32,
+    /// Standard offset in milliseconds.
+    pub standard_offset_ms: i32,
     /// The name, a part of the file.
     pub name: &'a [u8],
     /// First instant of the interval, or start of time.

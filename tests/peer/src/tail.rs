@@ -1,11 +1,10 @@
 //! Yearly rules, and the tail made of two of them.
 
-use crate::codes::Cursor;
+use crate::codes::{Cursor, DAY_MS};
 use crate::number::BAD_RECURRENCE;
 use crate::zone::Interval;
 use crate::{END_OF_TIME, LAST};
 
-const DAY_MS: i32 = 86_400_000;
 const TICKS_PER_MS: i64 = 10_000;
 const TICKS_PER_DAY: i64 = 864_000_000_000;
 

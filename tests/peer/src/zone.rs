@@ -1,6 +1,6 @@
 //! Field 1, a zone: one pass that checks it and shows what it holds to a visitor.
 
-use crate::codes::Cursor;
+use crate::codes::{Cursor, DAY_MS};
 use crate::number::{BAD_DATA, BAD_INTERVAL, TOO_LARGE};
 use crate::pool::Pool;
 use crate::tail::Tail;
@@ -79,6 +79,9 @@ fn read_listed(cursor: &mut Cursor, pool_count: u32, visit: &mut impl Visit) -> 
         let name = cursor.pool_number(pool_count)?;
         let wall = cursor.offset()?;
         let savings = cursor.offset()?;
+        if (wall - savings).abs() >= DAY_MS {
+            return Err(BAD_INTERVAL);
+        }
         visit.interval(Interval { start, name, wall, savings });
         previous = start;
     }
@@ -119,7 +122,8 @@ impl Find {
     /// The answer, once the zone is read.
     pub fn answer<'a>(&self, pool: &Pool<'a>) -> Answer<'a> {
         let Interval { start, name, wall, savings } = self.held;
-        Answer { wall_offset_ms: wall, savings_ms: savings, name: pool.string(name), start, end: self.end }
+        let (standard_offset_ms, name) = (wall - savings, pool.string(name));
+        Answer { wall_offset_ms: wall, savings_ms: savings, standard_offset_ms, name, start, end: self.end }
     }
 }
 

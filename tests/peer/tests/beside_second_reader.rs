@@ -35,13 +35,13 @@ struct Seen {
 }
 
 /// What an answer of the second reader carries, or its refusal.
-type Said = Result<(i32, i32, std::ops::Range<usize>, i64, i64), Pair>;
+type Said = Result<(i32, i32, i32, std::ops::Range<usize>, i64, i64), Pair>;
 
 fn expected(answer: Result<second_reader::Answer, Refusal>) -> Said {
     answer
         .map(|answer| {
             let (start, end) = (ticks_of(answer.start), ticks_of(answer.end));
-            (answer.wall, answer.savings, answer.name, start, end)
+            (answer.wall, answer.savings, answer.standard, answer.name, start, end)
         })
         .map_err(pair)
 }
@@ -52,7 +52,7 @@ fn given(file: &[u8], answer: Result<peer::Answer<'_>, peer::Refusal>) -> Said {
         .map(|answer| {
             let place = answer.name.as_ptr() as usize - file.as_ptr() as usize;
             let name = place..place + answer.name.len();
-            (answer.wall_offset_ms, answer.savings_ms, name, answer.start, answer.end)
+            (answer.wall_offset_ms, answer.savings_ms, answer.standard_offset_ms, name, answer.start, answer.end)
         })
         .map_err(peer_pair)
 }

@@ -97,7 +97,8 @@ fn ask_file(question: Question, file: &OsStr, id: &OsStr, ticks: &OsStr, mark: M
     let bytes = read(file)?;
     let asked = question(&bytes, id.as_encoded_bytes(), number(ticks)?, mark);
     Ok(done(asked.map(|answer| {
-        let mut text = format!("{} {} {} {} ", answer.wall, answer.savings, answer.start, answer.end).into_bytes();
+        let Answer { wall, savings, standard, start, end, .. } = answer;
+        let mut text = format!("{wall} {savings} {standard} {start} {end} ").into_bytes();
         text.extend(&bytes[answer.name]);
         text
     })))

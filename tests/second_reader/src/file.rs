@@ -45,13 +45,16 @@ impl Mark {
     }
 }
 
-/// "An answer carries wall offset, savings, the name as a part of the lent bytes, and the interval's start and end."
+/// "An answer carries wall offset, savings, the name as a part of the lent bytes, and the interval's start and end." 02,
+/// Ask 7: "The answer record gains the standard offset, wall minus savings."
 #[derive(Clone, Debug, PartialEq, Eq)]
 pub struct Answer {
     /// Wall offset in milliseconds.
     pub wall: i32,
     /// Savings in milliseconds.
     pub savings: i32,
+    /// Standard offset in milliseconds.
+    pub standard: i32,
     /// Where the name stands in the lent bytes: the pool string of the number stored (reading 25).
     pub name: Range<usize>,
     /// The interval's start.
@@ -219,6 +222,7 @@ pub(crate) fn answer(pool: &Pool, zone: &Zone, ticks: i64) -> Answer {
     Answer {
         wall: holding.interval.wall,
         savings: holding.interval.savings,
+        standard: holding.interval.standard(),
         name: pool[holding.interval.name].clone(),
         start: holding.interval.start,
         end: holding.end,

@@ -64,7 +64,8 @@ fn line_output(file: &[u8], line: &[u8]) -> Vec<u8> {
     };
     match answered {
         Ok(answer) => {
-            let mut out = format!("0 {} {} ", answer.wall, answer.savings).into_bytes();
+            // 02, Ask 7: "01's output lines gain it after savings".
+            let mut out = format!("0 {} {} {} ", answer.wall, answer.savings, answer.standard).into_bytes();
             // "The name is written raw" (reading 31).
             out.extend(&file[answer.name]);
             out.push(b'\n');

@@ -11,7 +11,7 @@ const USAGE: &str = "\
 usage: second_reader COMMAND ...
 
   check FILE                           check a whole file: `0 0`, or number and place
-  ask FILE ZONE TICKS [part|all]       `0 WALL SAVINGS START END NAME`, or number and place; unmarked is part
+  ask FILE ZONE TICKS [part|all]       `0 WALL SAVINGS STANDARD START END NAME`; unmarked is part
   named FILE NAME TICKS part|all       the same for a zone ID or an alias
   local FILE ZONE LOCAL                instants of a local time: `0 COUNT EARLIEST LATEST`, or number and place
   version FILE                         `0 TEXT`, or number and place

@@ -25,7 +25,8 @@ pub enum Number {
     BadText = 8,
     /// "unknown zone or tail flag, field data ending early [...], or data left over"
     BadData = 9,
-    /// "interval count 0, or a start or end that the rules below don't allow"
+    /// "interval count 0, or a start or end that the rules below don't allow"; 02, Ask 7: a standard offset that isn't
+    /// inside 24 hours
     BadInterval = 10,
     /// "recurrence or tail sum out of its ranges"
     BadRecurrence = 11,
@@ -65,7 +66,7 @@ impl Number {
             Number::BadCode => "a count, offset or transition code is not allowed",
             Number::BadText => "a string is not UTF-8, or a pool number is too high",
             Number::BadData => "an unknown flag, or field data ending early or left over",
-            Number::BadInterval => "an interval count, start or end is not allowed",
+            Number::BadInterval => "an interval count, start, end or standard offset is not allowed",
             Number::BadRecurrence => "a recurrence or tail sum is out of range",
             Number::NotFound => "no such zone, or no version text",
             Number::SecondZone => "a second zone with the same ID",

@@ -7,6 +7,8 @@ use crate::recurrence::{read_tail, Rule, Tail};
 use crate::transition::Transition;
 use std::collections::BTreeSet;
 
+const DAY_MS: i32 = 86_400_000;
+
 /// "4,096 intervals a zone"
 pub const MOST_INTERVALS: usize = 4096;
 
@@ -21,6 +23,13 @@ pub struct Interval {
     pub wall: i32,
     /// Savings in milliseconds.
     pub savings: i32,
+}
+
+impl Interval {
+    /// The standard offset in milliseconds: "wall minus savings".
+    pub fn standard(&self) -> i32 {
+        self.wall - self.savings
+    }
 }
 
 /// What stands behind a zone's ID.
@@ -105,7 +114,13 @@ fn read_listed(data: &mut Data, pool_count: usize) -> Result<Rest, Number> {
         let name = data.pool_number(pool_count)?;
         let wall = data.offset()?;
         let savings = data.offset()?;
-        intervals.push(Interval { start, name, wall, savings });
+        let interval = Interval { start, name, wall, savings };
+        // 02, Ask 7: "A zone where that leaves the open range of 24 hours either way is no longer well formed: number 10
+        // in an interval, after its savings are read." At once (reading 7.2).
+        if interval.standard().abs() >= DAY_MS {
+            return Err(Number::BadInterval);
+        }
+        intervals.push(interval);
         previous = Some(start);
     }
     // The end's code is judged at once, its use "only after the tail byte is read and is 0 or 1" (reading 4). Its

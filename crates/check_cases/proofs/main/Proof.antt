@@ -5,9 +5,12 @@ use borrow.Author.Needs.{needs}
 use Rattle.check_cases.proofs.main.Statement.{statement}
 use Rattle.check_cases.proofs.main.Tie as tie
 
--- Over any n, so that the check doesn't walk through all of the array.
+-- Over any n, so that the check doesn't walk through all of an array.
 counted : (n : ℕ) (b : ℕ) → n ≡ length (replicate n b)
 counted n b = sym (length-replicate n b)
+
+slice-aggregate-read-full : tie.Need-slice-aggregate-read-full
+slice-aggregate-read-full c = counted 131072 0
 
 slice-aggregate-run-all-2 : tie.Need-slice-aggregate-run-all-2
 slice-aggregate-run-all-2 c = counted 4194560 0
@@ -16,8 +19,7 @@ pub main-spec : {M : Type 1} → statement M
 main-spec =
     tie.close
     (tie.spec
-    (λ c κs. search needs)
-    (λ c. search needs)
+    slice-aggregate-read-full
     (λ c κs. search needs)
     (λ c. search needs)
     (λ c. search needs)

@@ -25,10 +25,11 @@ returns c =
     rw (
       toZ-ofZ {w = w64} {z = c .before .before .before .before .before .a .given .0 .0 .wall} (record { sfits = c .before .struct-told .given .0 .1 }),
       toZ-ofZ {w = w64} {z = c .before .before .before .before .before .a .given .0 .0 .savings} (record { sfits = c .before .struct-told .given .1 .0 .1 }),
+      toZ-ofZ {w = w64} {z = c .before .before .before .before .before .a .given .0 .0 .standard} (record { sfits = c .before .struct-told .given .1 .1 .0 .1 }),
       toZ-pos w64 (below (c .before .before .before .before .before) .0),
       toZ-pos w64 (below (c .before .before .before .before .before) .1),
-      toZ-ofZ {w = w64} {z = c .before .before .before .before .before .a .given .0 .0 .start} (record { sfits = c .before .struct-told .given .1 .1 .1 .1 .0 .1 }),
-      toZ-ofZ {w = w64} {z = c .before .before .before .before .before .a .given .0 .0 .end} (record { sfits = c .before .struct-told .given .1 .1 .1 .1 .1 .0 .1 }),
+      toZ-ofZ {w = w64} {z = c .before .before .before .before .before .a .given .0 .0 .start} (record { sfits = c .before .struct-told .given .1 .1 .1 .1 .1 .0 .1 }),
+      toZ-ofZ {w = w64} {z = c .before .before .before .before .before .a .given .0 .0 .end} (record { sfits = c .before .struct-told .given .1 .1 .1 .1 .1 .1 .0 .1 }),
     )
     (gave _ _ _ (ap answerReply (c .before .before .before .before .before .a .given .1)))
 

@@ -1,6 +1,5 @@
-use Prim.Native.Nat.{_+_}
 use native.Mathlib.Omega.{arith}
-use Rattle.intervals.proofs.ShortLaws.{short-room, start-none, start-some, start-unnamed}
+use Rattle.intervals.proofs.ShortLaws.{short-room, start-none, start-some, start-refused}
 use borrow.Author.Needs.{needs}
 use Rattle.intervals.proofs.short_start.Statement.{statement}
 use Rattle.intervals.proofs.short_start.Tie as tie
@@ -8,17 +7,18 @@ use Rattle.intervals.proofs.short_start.Tie as tie
 returns : tie.Need-returns
 returns c = start-none _ _ _ _ _ _ (c .before .short-at .ensures) (c .if1 .taken)
 
-shared-slice-read-if2 : tie.Need-shared-slice-read-if2
-shared-slice-read-if2 c = omega (arith, short-room _ 0 _ _ _ _ (c .before .before .short-at .ensures) (c .before .if1 .left))
+add-short-ok : tie.Need-add-short-ok
+add-short-ok c = omega (arith, short-room _ 0 _ _ _ _ (c .before .short-at .ensures) (c .if1 .left))
 
-cast-if2 : tie.Need-cast-if2
-cast-if2 c = omega (arith, c .shared-slice-known2 .given (c .before .before .before .before .args .at + c .before .before .before .before .args .n))
+short-ok-requires : tie.Need-short-ok-requires
+short-ok-requires c κs = omega (arith, short-room _ 0 _ _ _ _ (c .before .short-at .ensures) (c .if1 .left))
 
 returns-2 : tie.Need-returns-2
-returns-2 c = start-some _ _ _ _ _ _ (c .before .before .before .short-at .ensures) (c .if2 .taken)
+returns-2 c =
+    start-some _ _ _ _ _ _ _ (c .before .short-ok .ensures) (c .before .before .before .short-at .ensures) (c .if2 .taken)
 
 returns-3 : tie.Need-returns-3
-returns-3 c = start-unnamed _ _ _ _ _ (c .if2 .left)
+returns-3 c = start-refused _ _ _ _ _ 0 _ (c .before .short-ok .ensures) (c .if2 .left)
 
 pub short-start-spec : {M : Type 1} → statement M
 short-start-spec =
@@ -26,8 +26,7 @@ short-start-spec =
     (tie.spec
     (λ c κs. search needs)
     returns
-    (λ c. search needs)
-    shared-slice-read-if2
-    cast-if2
+    add-short-ok
+    short-ok-requires
     returns-2
     returns-3)

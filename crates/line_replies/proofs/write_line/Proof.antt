@@ -9,7 +9,15 @@ use Rattle.line_replies.proofs.write_line.Tie as tie
 
 returns : tie.Need-returns
 unfolding lineOf
-returns c = (rw (c .before .before .before .before .before .before .before .before .answer .given .1, ← c .before .before .before .before .before .before .name-of .ensures) (rw (toZ-ofZ {w = w64} {z = c .before .before .before .before .before .before .before .before .answer .given .0 .0 .wall} (record { sfits = c .before .before .before .before .struct-told .given .0 .1 }), toZ-ofZ {w = w64} {z = c .before .before .before .before .before .before .before .before .answer .given .0 .0 .savings} (record { sfits = c .before .before .before .struct-told2 .given .1 .0 .1 })) at (c .before .before .write-answer .ensures)), answered-fits _ _ _ (c .before .before .before .before .before .before .before .before .answer .given .1) (record { sfits = c .before .before .before .before .struct-told .given .0 .1 }) (record { sfits = c .before .before .before .struct-told2 .given .1 .0 .1 }))
+returns c = (
+  rw (c .before .before .before .before .before .before .before .before .before .answer .given .1, ← c .before .before .before .before .before .before .before .name-of .ensures)
+      (rw (
+        toZ-ofZ {w = w64} {z = c .before .before .before .before .before .before .before .before .before .answer .given .0 .0 .wall} (record { sfits = c .before .before .before .before .before .struct-told .given .0 .1 }),
+        toZ-ofZ {w = w64} {z = c .before .before .before .before .before .before .before .before .before .answer .given .0 .0 .savings} (record { sfits = c .before .before .before .before .struct-told2 .given .1 .0 .1 }),
+        toZ-ofZ {w = w64} {z = c .before .before .before .before .before .before .before .before .before .answer .given .0 .0 .standard} (record { sfits = c .before .before .before .struct-told3 .given .1 .1 .0 .1 }),
+      ) at (c .before .before .write-answer .ensures)),
+  answered-fits _ _ _ (c .before .before .before .before .before .before .before .before .before .answer .given .1) (record { sfits = c .before .before .before .before .before .struct-told .given .0 .1 }) (record { sfits = c .before .before .before .before .struct-told2 .given .1 .0 .1 }) (record { sfits = c .before .before .before .struct-told3 .given .1 .1 .0 .1 }),
+)
 
 returns-2 : tie.Need-returns-2
 unfolding lineOf

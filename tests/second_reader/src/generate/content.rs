@@ -179,7 +179,8 @@ fn random_rest(prng: &mut Prng, pool_count: usize, size: Size) -> Rest {
             _ => None,
         };
         let wall = wall.unwrap_or_else(|| random_offset(prng));
-        intervals.push(Interval { start: previous, name: prng.below(pool_count), wall, savings: random_offset(prng) });
+        let savings = random_savings(prng, wall);
+        intervals.push(Interval { start: previous, name: prng.below(pool_count), wall, savings });
     }
     if !prng.one_in(3) {
         if let Some(ticks) = instant_after(prng, previous, false) {
@@ -220,6 +221,23 @@ fn instant_after(prng: &mut Prng, previous: Transition, small_steps: bool) -> Op
 fn close_after(prng: &mut Prng, before: i64) -> Option<i64> {
     let unit = *prng.pick(&[TICKS_PER_HOUR, TICKS_PER_MINUTE, TICKS_PER_MS, 1]);
     Some(before + prng.range(1, 12) * unit).filter(|ticks| *ticks <= LAST)
+}
+
+/// Savings that leave a standard offset, the outermost ones among them.
+fn random_savings(prng: &mut Prng, wall: i32) -> i32 {
+    let most = DAY_MS - 1;
+    let wall = i64::from(wall);
+    let savings = match prng.below(8) {
+        0 => (wall - most).max(-most),
+        1 => (wall + most).min(most),
+        _ => i64::from(random_offset(prng)),
+    };
+    let fits = (wall - savings).abs() < DAY_MS;
+    if fits {
+        savings as i32
+    } else {
+        0
+    }
 }
 
 /// The wall offset by which clocks are set back, at `start`, to what they showed when the interval before began.

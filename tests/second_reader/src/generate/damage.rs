@@ -132,7 +132,7 @@ fn padded(code: &[u8], length: usize) -> Vec<u8> {
 fn count_length(code: &Code) -> Option<usize> {
     match code.kind {
         Kind::Flag | Kind::Offset | Kind::TailByte | Kind::RuleByte | Kind::Time => None,
-        Kind::TailSavings(_) | Kind::Opaque => None,
+        Kind::Savings(_) | Kind::TailSavings(_) | Kind::Opaque => None,
         _ => code.bytes.iter().position(|byte| byte & 0x80 == 0).map(|last| last + 1),
     }
 }
@@ -270,6 +270,14 @@ fn broken(code: &Code, pool_count: usize, prng: &mut Prng) -> Vec<u8> {
         Kind::Time => match prng.below(3) {
             0 => broken_offset(prng),
             _ => codes::encode_offset(prng.range(-86_399_999, -1)).unwrap_or_default(),
+        },
+        Kind::Savings(wall) => match prng.below(3) {
+            0 => broken_offset(prng),
+            // The standard offset is 24 hours exactly, away from zero; broken another way where no code can say so.
+            _ => {
+                let standard = if wall >= 0 { 86_400_000 } else { -86_400_000 };
+                codes::encode_offset(i64::from(wall) - standard).unwrap_or_else(|_| broken_offset(prng))
+            }
         },
         Kind::TailSavings(standard) => match prng.below(3) {
             0 => broken_offset(prng),

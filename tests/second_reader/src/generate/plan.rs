@@ -19,8 +19,10 @@ pub enum Kind {
     PoolNumber,
     /// A zone's flag.
     Flag,
-    /// A wall offset, savings or a tail's standard offset.
+    /// A wall offset or a tail's standard offset.
     Offset,
+    /// An interval's savings, with its wall offset.
+    Savings(i32),
     /// The count of a zone's intervals.
     IntervalCount,
     /// A start or an end, with the transition before it.
@@ -232,7 +234,7 @@ fn interval_codes(interval: &Interval, previous: Option<Transition>, forms: &mut
         Code { kind: Kind::Transition(previous), bytes: forms.transition(interval.start, previous) },
         counted(Kind::PoolNumber, interval.name),
         offset(Kind::Offset, interval.wall),
-        offset(Kind::Offset, interval.savings),
+        offset(Kind::Savings(interval.wall), interval.savings),
     ]
 }
 

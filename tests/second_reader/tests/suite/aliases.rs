@@ -22,9 +22,9 @@ fn reading_5_1_no_such_zone_once_an_id_above_3_has_begun() {
 #[test]
 fn reading_5_2_a_zone_id_never_needs_fields_2_and_3() {
     worked(&[
-        ("named A 0 part", "V 0005 0201410142 0103 000130", "0 0 0 A@8 start end"),
-        ("named A 0 part", "V 0005 0201410142 0103 000130 0300", "0 0 0 A@8 start end"),
-        ("named A 0 all", "V 0005 0201410142 0103 000130 03", "0 0 0 A@8 start end"),
+        ("named A 0 part", "V 0005 0201410142 0103 000130", "0 0 0 0 A@8 start end"),
+        ("named A 0 part", "V 0005 0201410142 0103 000130 0300", "0 0 0 0 A@8 start end"),
+        ("named A 0 all", "V 0005 0201410142 0103 000130 03", "0 0 0 0 A@8 start end"),
     ]);
 }
 
@@ -58,9 +58,9 @@ fn reading_5_5_faults_of_field_3_come_first() {
 #[test]
 fn reading_5_6_eight_targets() {
     worked(&[
-        ("named a 0 all", "V 0015 0A 0141 0161 0162 0163 0164 0165 0166 0167 0168 0169 0103 000130 0311 08 0102 0203 0304 0405 0506 0607 0708 0800", "0 0 0 A@8 start end"),
+        ("named a 0 all", "V 0015 0A 0141 0161 0162 0163 0164 0165 0166 0167 0168 0169 0103 000130 0311 08 0102 0203 0304 0405 0506 0607 0708 0800", "0 0 0 0 A@8 start end"),
         ("named a 0 all", "V 0015 0A 0141 0161 0162 0163 0164 0165 0166 0167 0168 0169 0103 000130 0313 09 0102 0203 0304 0405 0506 0607 0708 0809 0900", "18 32"),
-        ("named b 0 all", "V 0015 0A 0141 0161 0162 0163 0164 0165 0166 0167 0168 0169 0103 000130 0313 09 0102 0203 0304 0405 0506 0607 0708 0809 0900", "0 0 0 A@8 start end"),
+        ("named b 0 all", "V 0015 0A 0141 0161 0162 0163 0164 0165 0166 0167 0168 0169 0103 000130 0313 09 0102 0203 0304 0405 0506 0607 0708 0809 0900", "0 0 0 0 A@8 start end"),
         ("named a 0 all", "V 0015 0A 0141 0161 0162 0163 0164 0165 0166 0167 0168 0169 0103 000130 0311 08 0102 0203 0304 0405 0506 0607 0708 0809", "12 32"),
         ("named a 0 all", "V 0017 0B 0141 0161 0162 0163 0164 0165 0166 0167 0168 0169 016A 0103 000130 0313 09 0102 0203 0304 0405 0506 0607 0708 0809 090A", "18 34"),
     ]);
@@ -89,7 +89,7 @@ fn reading_5_8_19_as_soon_as_the_key_is_read() {
 fn reading_5_9_equal_by_bytes() {
     worked(&[
         ("check", "V 0007 03 0141 0142 0142 0103 000130 0305 0201000200", "19 18"),
-        ("named B 0 all", "V 0007 03 0141 0142 0141 0103 000130 0303 010102", "0 0 0 A@8 start end"),
+        ("named B 0 all", "V 0007 03 0141 0142 0141 0103 000130 0303 010102", "0 0 0 0 A@8 start end"),
     ]);
 }
 
@@ -112,12 +112,12 @@ fn reading_5_11_unknown_targets() {
 
 #[test]
 fn reading_5_12_a_zone_id_wins_on_the_way_too() {
-    worked(&[("named B 0 all", "V 0007 03 0141 0142 0143 0103 000130 0305 0201000002", "0 0 0 A@8 start end")]);
+    worked(&[("named B 0 all", "V 0007 03 0141 0142 0143 0103 000130 0305 0201000002", "0 0 0 0 A@8 start end")]);
 }
 
 #[test]
 fn reading_5_13_the_answer_is_the_zones() {
-    worked(&[("named B 0 part", "V 0005 0201410142 0103 000130 0303 010100", "0 0 0 A@8 start end")]);
+    worked(&[("named B 0 part", "V 0005 0201410142 0103 000130 0303 010100", "0 0 0 0 A@8 start end")]);
 }
 
 #[test]
@@ -138,7 +138,7 @@ fn reading_5_15_not_yet_until_field_3_is_whole() {
 #[test]
 fn reading_5_16_two_zones_with_the_targets_id() {
     worked(&[
-        ("named B 0 all", "V 0005 0201410142 0103 000132 0103 000134 0303 010100", "0 3600000 0 A@8 start end"),
+        ("named B 0 all", "V 0005 0201410142 0103 000132 0103 000134 0303 010100", "0 3600000 0 3600000 A@8 start end"),
         ("named B 0 all", "V 0005 0201410142 0103 000132 0102 0103 0303 010100", "9 16"),
     ]);
 }
@@ -150,7 +150,7 @@ fn reading_5_17_field_3_without_data_and_without_pairs() {
 
 #[test]
 fn reading_5_18_the_empty_name() {
-    worked(&[("named \"\" 0 part", "V 0004 02014100 0103 000130 0303 010100", "0 0 0 A@8 start end")]);
+    worked(&[("named \"\" 0 part", "V 0004 02014100 0103 000130 0303 010100", "0 0 0 0 A@8 start end")]);
 }
 
 #[test]

@@ -44,7 +44,7 @@ fn commands_on_files() {
     let path = |name: &str| dir.join(name).to_str().expect("a path in UTF-8").to_string();
     prints(&["check", EUROPE], "", "0 0\n", 0);
     prints(&["version", EUROPE], "", "0 2025b\n", 0);
-    let oslo = "0 7200000 3600000 17118468000000000 17299908000000000 CEST\n";
+    let oslo = "0 7200000 3600000 3600000 17118468000000000 17299908000000000 CEST\n";
     prints(&["ask", EUROPE, "Europe/Oslo", "17118468000000000"], "", oslo, 0);
     prints(&["ask", EUROPE, "Europe/Oslo", "17118468000000000", "part"], "", oslo, 0);
     prints(&["ask", EUROPE, "Europe/Atlantis", "2534023008000000000", "all"], "", "14 0\n", 1);
@@ -54,14 +54,14 @@ fn commands_on_files() {
     prints(&["ask", &path("cut"), "Europe/Zurich", "0", "all"], "", "2 20753\n", 1);
     let all = concat!(env!("CARGO_MANIFEST_DIR"), "/../data/all.nzd");
     prints(&["named", all, "Europe/Oslo", "17118468000000000", "part"], "", oslo, 0);
-    prints(&["named", all, "Asia/Calcutta", "0", "part"], "", "0 19800000 0 -7641450000000000 end IST\n", 0);
+    prints(&["named", all, "Asia/Calcutta", "0", "part"], "", "0 19800000 0 19800000 -7641450000000000 end IST\n", 0);
     prints(&["named", all, "Europe/Atlantis", "0", "part"], "", "12 117449\n", 1);
     // Oslo, 2024-10-27 02:30 and 2024-03-31 02:30.
     prints(&["local", EUROPE, "Europe/Oslo", "17299962000000000"], "", "0 2 17299890000000000 17299926000000000\n", 0);
     prints(&["local", EUROPE, "Europe/Oslo", "17118522000000000"], "", "17 0\n", 1);
     prints(&["rewrite", EUROPE, &path("out")], "", "0 21993\n", 0);
     assert!(fs::read(dir.join("out")).ok() == fs::read(EUROPE).ok());
-    prints(&["lines", EUROPE], "Europe/Oslo 0\nEurope/Oslo\n", "0 3600000 0 CET\n16 0\n", 0);
+    prints(&["lines", EUROPE], "Europe/Oslo 0\nEurope/Oslo\n", "0 3600000 0 3600000 CET\n16 0\n", 0);
     // A missing file counts as no bytes for the program only.
     prints(&["lines", &path("missing")], "UTC 0\nUTC 0 all", "1 0\n2 0\n", 0);
     prints(&["check", &path("missing")], "", "", 2);

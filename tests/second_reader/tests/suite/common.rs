@@ -123,11 +123,12 @@ fn shown<T>(result: Result<T, Refusal>, text: impl Fn(T) -> String) -> String {
     result.map_or_else(|refusal| refusal.to_string(), |value| format!("0 {}", text(value)))
 }
 
-/// "0 wall savings NAME@place start end".
+/// "0 wall savings standard NAME@place start end".
 fn answer_text(file: &[u8], answer: &Answer) -> String {
     let name = String::from_utf8_lossy(&file[answer.name.clone()]);
     let place = answer.name.start;
-    format!("{} {} {name}@{place} {} {}", answer.wall, answer.savings, answer.start, answer.end)
+    let Answer { wall, savings, standard, start, end, .. } = answer;
+    format!("{wall} {savings} {standard} {name}@{place} {start} {end}")
 }
 
 fn to_hex(bytes: &[u8]) -> String {

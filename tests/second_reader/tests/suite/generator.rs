@@ -45,6 +45,9 @@ fn zone_shapes(seen: &mut Seen, zone: &Zone) {
         Rest::Listed { intervals, tail, .. } => {
             note(seen, tail.is_none(), "listed");
             note(seen, intervals.len() == 4096, "4096 intervals");
+            let outermost = |ms: i32| intervals.iter().any(|interval| interval.standard() == ms);
+            note(seen, outermost(86_399_999), "the largest standard offset");
+            note(seen, outermost(-86_399_999), "the least standard offset");
             if let Some(tail) = tail {
                 note(seen, true, "tail");
                 rule_shapes(seen, &tail.standard_rule, |year| tail.standard_occurrence(year));
@@ -80,6 +83,7 @@ fn code_shapes(seen: &mut Seen, plan: &FilePlan, preferred: &FilePlan) {
             let length = code.bytes.len();
             match code.kind {
                 Kind::Offset => note(seen, true, &format!("offset of {length}")),
+                Kind::Savings(_) => note(seen, true, &format!("savings of {length}")),
                 Kind::TailSavings(_) => note(seen, true, &format!("tail savings of {length}")),
                 Kind::Time => note(seen, true, &format!("time of {length}")),
                 Kind::Transition(_) => {
@@ -166,6 +170,8 @@ fn every_shape_is_generated() {
         "rules that don't alternate",
         "rules that fall together",
         "4096 intervals",
+        "the largest standard offset",
+        "the least standard offset",
         "8192 pool strings",
         "string of 1024",
         "duplicate pool strings",
@@ -193,7 +199,7 @@ fn every_shape_is_generated() {
     wanted.extend((0..=9).map(|id| format!("field {id}")));
     wanted.extend((0..=4).map(|groups| format!("padding of {groups}")));
     for length in 1..=4 {
-        wanted.extend(["offset", "tail savings", "time"].map(|kind| format!("{kind} of {length}")));
+        wanted.extend(["offset", "savings", "tail savings", "time"].map(|kind| format!("{kind} of {length}")));
     }
     // The hours form is never long. It needs a finite previous, which the second start has not.
     for (form, choice) in [("minutes", "preferred"), ("ticks", "preferred"), ("ticks", "long")] {

@@ -23,17 +23,22 @@ impl Occurrences {
     }
 }
 
-/// The interval that the content says: wall, savings, name's pool number, start, end.
-fn expected(zone: &Zone, tail_lists: Option<&Occurrences>, ticks: i64) -> (i32, i32, usize, Transition, Transition) {
+/// The interval that the content says: wall, savings, standard, name's pool number, start, end.
+fn expected(
+    zone: &Zone,
+    tail_lists: Option<&Occurrences>,
+    ticks: i64,
+) -> (i32, i32, i32, usize, Transition, Transition) {
     let (intervals, end, tail) = match &zone.rest {
         // A fixed zone without a name has its ID for one.
-        Rest::Fixed { offset, name } => return (*offset, 0, name.unwrap_or(zone.id), StartOfTime, EndOfTime),
+        Rest::Fixed { offset, name } => return (*offset, 0, *offset, name.unwrap_or(zone.id), StartOfTime, EndOfTime),
         Rest::Listed { intervals, end, tail } => (intervals, *end, tail),
     };
     let starts: Vec<Transition> = intervals.iter().map(|interval| interval.start).chain([end]).collect();
     for (interval, bounds) in intervals.iter().zip(starts.windows(2)) {
         if bounds[0] <= Finite(ticks) && Finite(ticks) < bounds[1] {
-            return (interval.wall, interval.savings, interval.name, bounds[0], bounds[1]);
+            let standard = interval.wall - interval.savings;
+            return (interval.wall, interval.savings, standard, interval.name, bounds[0], bounds[1]);
         }
     }
     let (Some(tail), Some(lists), Finite(tail_start)) = (tail, tail_lists, end) else {
@@ -46,8 +51,8 @@ fn expected(zone: &Zone, tail_lists: Option<&Occurrences>, ticks: i64) -> (i32, 
     let tail_end = if first_next > LAST { EndOfTime } else { Finite(first_next) };
     let start = Finite(last(&lists.standard).max(last(&lists.daylight)).max(tail_start));
     match next_daylight > next_standard {
-        true => (tail.standard + tail.savings, tail.savings, tail.daylight_name, start, tail_end),
-        false => (tail.standard, 0, tail.standard_name, start, tail_end),
+        true => (tail.standard + tail.savings, tail.savings, tail.standard, tail.daylight_name, start, tail_end),
+        false => (tail.standard, 0, tail.standard, tail.standard_name, start, tail_end),
     }
 }
 
@@ -84,8 +89,8 @@ fn answers_are_those_of_the_content() {
             };
             for ticks in instants(zone, &mut prng) {
                 let answer = ask_all(&file, content.id(zone), ticks).expect("an answer");
-                let (wall, savings, name, start, end) = expected(zone, lists.as_ref(), ticks);
-                let wanted = Answer { wall, savings, name: places[name].clone(), start, end };
+                let (wall, savings, standard, name, start, end) = expected(zone, lists.as_ref(), ticks);
+                let wanted = Answer { wall, savings, standard, name: places[name].clone(), start, end };
                 assert_eq!(answer, wanted, "seed {seed}, {zone:?} at {ticks}");
                 assert!(start <= Finite(ticks) && Finite(ticks) < end);
                 asked += 1;
@@ -160,7 +165,8 @@ fn a_tail_from_year_1_to_9999() {
                 let interval = holding.interval;
                 // The pool number stands for the name's place.
                 let name = interval.name..interval.name;
-                Answer { wall: interval.wall, savings: interval.savings, name, start: interval.start, end: holding.end }
+                let second_reader::zone::Interval { start, wall, savings, .. } = interval;
+                Answer { wall, savings, standard: interval.standard(), name, start, end: holding.end }
             };
             let count = walk(ask, FIRST, LAST);
             // One or two changes a year, the tail's first part and the listed interval.

@@ -17,4 +17,5 @@ mod readings;
 mod realistic;
 mod recurrences;
 mod rewriting;
+mod standard_offset;
 mod wall_time;

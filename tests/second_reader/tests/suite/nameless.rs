@@ -12,8 +12,8 @@ fn reading_2_1_absent_by_the_size() {
     worked(&[
         ("ask A 0 part", "V 0003010141 0104 000130", "1 9"),
         ("ask A 0 all", "V 0003010141 0104 000130", "2 9"),
-        ("ask A 0 part", "V 0003010141 0103 000130", "0 0 0 A@8 start end"),
-        ("ask A 0 all", "V 0003010141 0103 000130", "0 0 0 A@8 start end"),
+        ("ask A 0 part", "V 0003010141 0103 000130", "0 0 0 0 A@8 start end"),
+        ("ask A 0 all", "V 0003010141 0103 000130", "0 0 0 0 A@8 start end"),
         ("check", "V 0003010141 0103 000130", "0"),
         ("check", "V 0003010141 0103 00018c", "9 9"),
         ("check", "V 0003010141 0102 0001", "9 9"),
@@ -33,8 +33,8 @@ fn reading_2_2_whatever_is_behind_the_offset_is_a_name() {
 #[test]
 fn reading_2_3_the_names_place_is_the_ids() {
     worked(&[
-        ("ask A 0 part", "V 0005 0201410141 0103 010130", "0 0 0 A@10 start end"),
-        ("ask A 0 part", "V 0005 0201410141 0104 01013000", "0 0 0 A@8 start end"),
+        ("ask A 0 part", "V 0005 0201410141 0103 010130", "0 0 0 0 A@10 start end"),
+        ("ask A 0 part", "V 0005 0201410141 0104 01013000", "0 0 0 0 A@8 start end"),
     ]);
 }
 
@@ -55,7 +55,7 @@ fn reading_2_5_only_flag_1() {
 fn reading_2_6_the_empty_id_gives_an_empty_name() {
     let file = hex("00000000 0002 0100 0103 000132");
     assert_eq!(check(&file), (0, 0));
-    assert_eq!(lines(&file, b" 0\n"), b"0 3600000 0 \n");
+    assert_eq!(lines(&file, b" 0\n"), b"0 3600000 0 3600000 \n");
 }
 
 /// The same zone with its name put in or taken away.

@@ -137,8 +137,8 @@ fn moved(refusal: Refusal, places: &[(u64, u64)]) -> (u8, u64) {
     (refusal.number.value(), new.expect("the place of an ID byte or an end"))
 }
 
-fn values(file: &[u8], answer: Answer) -> (i32, i32, Vec<u8>, [second_reader::Transition; 2]) {
-    (answer.wall, answer.savings, file[answer.name].to_vec(), [answer.start, answer.end])
+fn values(file: &[u8], answer: Answer) -> ([i32; 3], Vec<u8>, [second_reader::Transition; 2]) {
+    ([answer.wall, answer.savings, answer.standard], file[answer.name].to_vec(), [answer.start, answer.end])
 }
 
 #[test]

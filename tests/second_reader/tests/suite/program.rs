@@ -16,7 +16,7 @@ fn worked_lines() {
     let file = utc_file();
     assert_eq!(file.len(), 17);
     assert_eq!(check(&file), (0, 0));
-    answers(&file, b"UTC 0\n", "0 0 0 UTC\n");
+    answers(&file, b"UTC 0\n", "0 0 0 0 UTC\n");
     // 02, Ask 1: "write `1 17` for GMT, `1 11` on 16 bytes and `1 0` on none. The marked cases [...] don't change."
     answers(&file, b"GMT 0\n", "1 17\n");
     answers(&file, b"GMT 0 part\n", "1 17\n");
@@ -32,10 +32,10 @@ fn worked_lines() {
 #[test]
 fn marks_and_more_lines() {
     let file = utc_file();
-    answers(&file, b"UTC 0 all\nUTC 0 part\nGMT 0 all\nUTC -1", "0 0 0 UTC\n0 0 0 UTC\n12 17\n0 0 0 UTC\n");
+    answers(&file, b"UTC 0 all\nUTC 0 part\nGMT 0 all\nUTC -1", "0 0 0 0 UTC\n0 0 0 0 UTC\n12 17\n0 0 0 0 UTC\n");
     answers(&file, b"", "");
-    answers(&file, b"UTC -621355968000000000\nUTC -621355968000000001\n", "0 0 0 UTC\n14 0\n");
-    answers(&file, b"UTC 2534023007999999999\nUTC 2534023008000000000\n", "0 0 0 UTC\n14 0\n");
+    answers(&file, b"UTC -621355968000000000\nUTC -621355968000000001\n", "0 0 0 0 UTC\n14 0\n");
+    answers(&file, b"UTC 2534023007999999999\nUTC 2534023008000000000\n", "0 0 0 0 UTC\n14 0\n");
 }
 
 #[test]
@@ -51,9 +51,9 @@ fn reading_26_line_length_is_without_the_line_feed() {
 #[test]
 fn reading_27_what_a_line_is() {
     let file = utc_file();
-    answers(&file, b"UTC 0", "0 0 0 UTC\n");
+    answers(&file, b"UTC 0", "0 0 0 0 UTC\n");
     answers(&file, b"\n", "16 0\n");
-    answers(&file, b"UTC 0\n\nUTC 0\n", "0 0 0 UTC\n16 0\n0 0 0 UTC\n");
+    answers(&file, b"UTC 0\n\nUTC 0\n", "0 0 0 0 UTC\n16 0\n0 0 0 0 UTC\n");
 }
 
 #[test]
@@ -82,7 +82,7 @@ fn reading_28_bytes_of_a_line() {
     ] {
         answers(&file, format!("{line}\n").as_bytes(), "16 0\n");
     }
-    answers(&file, b"UTC 0000000000000000000\nUTC -0\nUTC -007\n", "0 0 0 UTC\n0 0 0 UTC\n0 0 0 UTC\n");
+    answers(&file, b"UTC 0000000000000000000\nUTC -0\nUTC -007\n", "0 0 0 0 UTC\n0 0 0 0 UTC\n0 0 0 0 UTC\n");
     // "an empty ID is understood"; bytes that aren't UTF-8 are an ID like any other.
     answers(&file, b" 0 all\n\xff 0\n", "12 17\n1 17\n");
 }
@@ -101,7 +101,7 @@ fn reading_29_digits() {
 fn reading_30_the_cap_comes_before_all_else() {
     let mut file = utc_file();
     file.resize(65_536, 0);
-    answers(&file, b"UTC 0\nUTC\n", "0 0 0 UTC\n16 0\n");
+    answers(&file, b"UTC 0\nUTC\n", "0 0 0 0 UTC\n16 0\n");
     file.push(0);
     answers(&file, b"UTC 0\nUTC\n\nUTC 9999999999999999999 part\n", "4 0\n4 0\n4 0\n4 0\n");
     answers(&file, b"", "");
@@ -112,10 +112,10 @@ fn reading_31_names_are_written_raw() {
     // Pool: "A", "b c\nd", "".
     let file = hex("00000000 000a 03 0141 056220630a64 00 0104 00013201 0104 02013000");
     assert_eq!(check(&file), (0, 0));
-    answers(&file, b"A 0\n", "0 3600000 0 b c\nd\n");
-    answers(&file, b" 0\n", "0 0 0 A\n");
+    answers(&file, b"A 0\n", "0 3600000 0 3600000 b c\nd\n");
+    answers(&file, b" 0\n", "0 0 0 0 A\n");
     let unnamed = hex("00000000 0004 02 0141 00 0104 00013001");
-    answers(&unnamed, b"A 0\n", "0 0 0 \n");
+    answers(&unnamed, b"A 0\n", "0 0 0 0 \n");
 }
 
 #[test]

@@ -21,8 +21,8 @@
  * pointer is not followed and may be null. A pointer to a struct is never null. out overlaps nothing else that is lent.
  * No function keeps a pointer, allocates, or has state, so any number of threads may call them.
  *
- * Stack, measured and not proved: up to 71 KB for nzd_check, nzd_version_text and nzd_rewrite, 63 KB for nzd_ask_named,
- * 39 KB for nzd_ask, nzd_ask_plain and nzd_map_local, below 1 KB for a small code.
+ * Stack, measured and not proved: up to 71 KB for nzd_check, nzd_version_text, nzd_rewrite and nzd_location, 63 KB for
+ * nzd_ask_named, 39 KB for nzd_ask, nzd_ask_plain and nzd_map_local, below 1 KB for a small code.
  */
 #ifndef NZD_H
 #define NZD_H
@@ -56,13 +56,16 @@ enum nzd_number {
     NZD_BAD_INTERVAL = 10,        /* interval count 0, a start or end that is not allowed, or a standard offset of 24
                                      hours or more either way */
     NZD_BAD_RECURRENCE = 11,      /* a recurrence or a tail sum is out of its ranges */
-    NZD_NOT_FOUND = 12,           /* no such zone, no zone or alias of an alias' target, or no version text */
+    NZD_NOT_FOUND = 12,           /* no such zone, no zone or alias of an alias' target, no version text, or no such
+                                     location */
     NZD_SECOND_ZONE = 13,         /* a second zone with the same ID (never given by a question) */
     NZD_INSTANT_OUT_OF_RANGE = 14,/* the asked instant is outside years 1 to 9999 */
     NZD_OUTPUT_TOO_SHORT = 15,
     NZD_NO_INSTANT = 17,          /* no instant reads as the local time, as where clocks went forward over it */
     NZD_TOO_MANY_STEPS = 18,      /* the eighth target of an alias is again only an alias */
-    NZD_SECOND_ALIAS = 19         /* a second alias with the same bytes in field 3 */
+    NZD_SECOND_ALIAS = 19,        /* a second alias with the same bytes in field 3 */
+    NZD_BAD_LOCATION = 20         /* a location's latitude or longitude is out of its range, or its number of countries
+                                     is negative */
 };
 
 /* The number of a result. */
@@ -95,13 +98,14 @@ static inline const char *nzd_words(unsigned number) {
     case NZD_BAD_DATA: return "an unknown flag, or data that ends early or is left over";
     case NZD_BAD_INTERVAL: return "an interval count, start, end or standard offset is not allowed";
     case NZD_BAD_RECURRENCE: return "a recurrence or tail sum is out of range";
-    case NZD_NOT_FOUND: return "no such zone, or no version text";
+    case NZD_NOT_FOUND: return "no such zone, version text or location";
     case NZD_SECOND_ZONE: return "a second zone has the same ID";
     case NZD_INSTANT_OUT_OF_RANGE: return "the instant is outside years 1 to 9999";
     case NZD_OUTPUT_TOO_SHORT: return "the output is too short";
     case NZD_NO_INSTANT: return "no instant reads as that local time";
     case NZD_TOO_MANY_STEPS: return "an alias leads over more than eight others, or in a circle";
     case NZD_SECOND_ALIAS: return "a second alias has the same name";
+    case NZD_BAD_LOCATION: return "a location is out of its ranges";
     default: return "a number that this header does not know";
     }
 }
@@ -165,6 +169,50 @@ struct nzd_local {
  */
 uint64_t nzd_map_local(const uint8_t *file, size_t n, const uint8_t *id, size_t id_n, int64_t local,
                        struct nzd_local *out);
+
+/* A place on the map, in degrees north and east: whole seconds divided by 3600, rounded once. */
+struct nzd_pin {
+    double latitude;
+    double longitude;
+};
+
+/* The countries of a location that are still to come, in the file that it was asked of. Any numbers are safe. */
+struct nzd_view {
+    uint64_t start; /* where the data of the location's field start in file, */
+    uint64_t end;   /* and where they end */
+    uint64_t place; /* of the next country in these data */
+    uint64_t left;  /* how many countries are left */
+};
+
+struct nzd_located {
+    uint64_t zone_place;     /* the zone's ID: its place in file, */
+    uint64_t zone_length;    /* and how many bytes it has */
+    uint64_t comment_place;  /* the comment, which may be empty */
+    uint64_t comment_length;
+    struct nzd_view view;
+};
+
+/*
+ * The location with a number, from 0, in field 6 (one country each, from zone.tab) or 7 (any number of countries, from
+ * zone1970.tab) of a whole file. The file is checked first, all of it; then 12 at the field's ID byte if it has no location
+ * with that number, or at the bytes' end if there is no such field.
+ */
+uint64_t nzd_location(const uint8_t *file, size_t n, uint64_t field, uint64_t number, struct nzd_pin *pin,
+                      struct nzd_located *out);
+
+struct nzd_country {
+    uint64_t name_place; /* the country's name: its place in file, */
+    uint64_t name_length;
+    uint64_t code_place; /* and its code, as "NO" */
+    uint64_t code_length;
+};
+
+/*
+ * The next country of a view, and moves the view on: each once, in file order. false, and nothing written, where there is no
+ * more, then and from then on. file is what the view's location was asked of; with any other bytes and any view the texts are
+ * still parts of file.
+ */
+bool nzd_next_country(const uint8_t *file, size_t n, struct nzd_view *view, struct nzd_country *out);
 
 /* A text: a part of the bytes that were lent. */
 struct nzd_text {

@@ -28,7 +28,7 @@ pub enum Number {
     BadInterval,
     /// 11: a recurrence or a tail sum is out of its ranges.
     BadRecurrence,
-    /// 12: the file has no such zone, an alias leads to none, or there is no version text.
+    /// 12: the file has no such zone, an alias leads to none, or there is no version text or no such location.
     NotFound,
     /// 13: a second zone has the same ID.
     SecondZone,
@@ -43,12 +43,14 @@ pub enum Number {
     TooManySteps,
     /// 19: a second alias in field 3 has the same bytes.
     SecondAlias,
+    /// 20: a location's latitude or longitude is out of its range, or its number of countries is negative.
+    BadLocation,
     /// A number that this version of the wrapper has no name for.
     Other(u8),
 }
 
 /// The numbers that have a name, in words. 16 is a number of the program `zone_query` only.
-const NUMBERS: [(u8, Number, &str); 18] = [
+const NUMBERS: [(u8, Number, &str); 19] = [
     (1, Number::NotYet, "not yet: more bytes are needed"),
     (2, Number::CutShort, "cut short"),
     (3, Number::WrongVersion, "the version is not 0"),
@@ -60,13 +62,14 @@ const NUMBERS: [(u8, Number, &str); 18] = [
     (9, Number::BadData, "an unknown flag, or data that ends early or is left over"),
     (10, Number::BadInterval, "an interval count, start, end or standard offset is not allowed"),
     (11, Number::BadRecurrence, "a recurrence or tail sum is out of range"),
-    (12, Number::NotFound, "no such zone, or no version text"),
+    (12, Number::NotFound, "no such zone, version text or location"),
     (13, Number::SecondZone, "a second zone has the same ID"),
     (14, Number::InstantOutOfRange, "the instant is outside years 1 to 9999"),
     (15, Number::OutputTooShort, "the output is too short"),
     (17, Number::NoInstant, "no instant reads as that local time"),
     (18, Number::TooManySteps, "an alias leads over more than eight others, or in a circle"),
     (19, Number::SecondAlias, "a second alias has the same name"),
+    (20, Number::BadLocation, "a location is out of its ranges"),
 ];
 
 impl Number {
@@ -130,7 +133,7 @@ mod tests {
         for number in 1..=255u8 {
             let error = decode(u64::from(number) + 256 * 1000).expect_err("a refusal");
             assert_eq!((error.number.value(), error.place), (number, 1000));
-            assert_eq!(matches!(error.number, Number::Other(_)), number == 16 || number > 19);
+            assert_eq!(matches!(error.number, Number::Other(_)), number == 16 || number > 20);
         }
         assert_eq!((Number::of(1), Number::of(12)), (Number::NotYet, Number::NotFound));
         assert_eq!((Number::of(15), Number::of(17)), (Number::OutputTooShort, Number::NoInstant));
@@ -139,9 +142,9 @@ mod tests {
 
     #[test]
     fn every_number_has_a_meaning_of_its_own() {
-        let meanings: BTreeSet<&str> = (1..=20).map(|number| Number::of(number).meaning()).collect();
-        // 16 and 20 have no name.
-        assert_eq!(meanings.len(), 19);
+        let meanings: BTreeSet<&str> = (1..=21).map(|number| Number::of(number).meaning()).collect();
+        // 16 and 21 have no name.
+        assert_eq!(meanings.len(), 20);
         let error = Error { number: Number::CutShort, place: 11 };
         assert_eq!(error.to_string(), "cut short (number 2, place 11)");
         let error = Error { number: Number::Other(20), place: 0 };

@@ -43,6 +43,15 @@ mod c {
             local: i64,
             out: *mut [i64; 3],
         ) -> u64;
+        pub fn nzd_location(
+            file: *const u8,
+            n: usize,
+            field: u64,
+            number: u64,
+            pin: *mut [f64; 2],
+            out: *mut [u64; 8],
+        ) -> u64;
+        pub fn nzd_next_country(file: *const u8, n: usize, view: *mut [u64; 4], out: *mut [u64; 4]) -> bool;
         pub fn nzd_version_text(file: *const u8, n: usize, out: *mut [i64; 2]) -> u64;
         pub fn nzd_rewrite(file: *const u8, n: usize, out: *mut u8, out_n: usize) -> u64;
         pub fn nzd_read_count(s: *const u8, n: usize, out: *mut [i64; 2]) -> u64;
@@ -88,6 +97,16 @@ pub fn ask_plain(file: &[u8], id: &[u8], ticks: i64, out: &mut [i64; 7]) -> u64 
 /// `nzd_map_local`.
 pub fn map_local(file: &[u8], id: &[u8], local: i64, out: &mut [i64; 3]) -> u64 {
     unsafe { c::nzd_map_local(file.as_ptr(), file.len(), id.as_ptr(), id.len(), local, out) }
+}
+
+/// `nzd_location`.
+pub fn location(file: &[u8], field: u64, number: u64, pin: &mut [f64; 2], out: &mut [u64; 8]) -> u64 {
+    unsafe { c::nzd_location(file.as_ptr(), file.len(), field, number, pin, out) }
+}
+
+/// `nzd_next_country`.
+pub fn next_country(file: &[u8], view: &mut [u64; 4], out: &mut [u64; 4]) -> bool {
+    unsafe { c::nzd_next_country(file.as_ptr(), file.len(), view, out) }
 }
 
 /// `nzd_version_text`.

@@ -6,7 +6,7 @@
 //!
 //! Instants are ticks of 100 ns since 1970-01-01T00:00Z, which [`ticks_of_unix_seconds`] and [`ticks_of_system_time`]
 //! give; offsets and savings are milliseconds. A local time is ticks since 1970-01-01T00:00 as clocks of a zone show it;
-//! [`map_local`] gives the instants that read that way.
+//! [`map_local`] gives the instants that read that way. [`locations`] gives the places of zones on the map.
 //!
 //! ```
 //! // A file with one fixed zone, "UTC".
@@ -31,10 +31,12 @@ mod error;
 #[doc(hidden)]
 pub mod ffi;
 mod local;
+mod locations;
 mod ticks;
 
 pub use error::{Error, Number};
 pub use local::{map_local, LocalInstants};
+pub use locations::{location, locations, Countries, Country, Location, LocationField, Locations, Pin};
 #[cfg(feature = "std")]
 pub use ticks::ticks_of_system_time;
 pub use ticks::{ticks_of_unix_seconds, TICKS_PER_SECOND};

@@ -1,6 +1,6 @@
 //! The worked values of the scope paper and some of the realistic files', by the wrapper.
 
-use nzd::{ask, ask_plain, check, codes, map_local, rewrite, version_text};
+use nzd::{ask, ask_plain, check, codes, location, locations, map_local, rewrite, version_text, LocationField, Pin};
 use nzd::{Answer, Bound, Error, LocalInstants, Mark, Number};
 
 /// "00 00 00 00, 00 05 01 03 55 54 43, 01 04 00 01 30 00: 17 bytes, one fixed zone \"UTC\""
@@ -96,8 +96,28 @@ fn local_times() {
     // 2024-03-31T02:30, a spring gap, and 2024-07-01T12:00.
     assert_eq!(oslo(1_711_852_200), LocalInstants::None);
     assert_eq!(oslo(1_719_835_200), LocalInstants::One(1_719_828_000 * TICKS_PER_SECOND));
-    let unknown = Err(Error { number: Number::NotFound, place: 21_985 });
+    let unknown = Err(Error { number: Number::NotFound, place: 22_864 });
     assert_eq!(map_local(&file, "Europe/Olso", i64::MIN), unknown);
+}
+
+/// Where Oslo and London are, and the countries of the latter's clocks since 1970.
+#[test]
+fn places() {
+    let file = europe();
+    let found = |field, zone: &str| {
+        let mut all = locations(&file, field).map(|location| location.expect("a location"));
+        all.find(|location| location.zone == zone).expect("the zone's location")
+    };
+    let oslo = found(LocationField::Zone, "Europe/Oslo");
+    // 59 degrees 55 minutes north, 10 degrees 45 minutes east.
+    assert_eq!(oslo.pin, Pin { latitude: 215_700.0 / 3600.0, longitude: 10.75 });
+    assert_eq!(oslo.countries.map(|country| (country.name, country.code)).collect::<Vec<_>>(), [("Norway", "NO")]);
+    let london = found(LocationField::Zone1970, "Europe/London");
+    let mut countries = london.countries;
+    assert_eq!(countries.by_ref().map(|country| country.code).collect::<Vec<_>>(), ["GB", "GG", "IM", "JE"]);
+    assert_eq!(countries.next(), None);
+    let refused = location(&file, LocationField::Zone, 1000).expect_err("no such location");
+    assert_eq!((refused.number, refused.place), (Number::NotFound, 22_864 + 8));
 }
 
 /// A file with the pool string "A" and this zone.

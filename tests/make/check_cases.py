@@ -183,7 +183,8 @@ for more in (b"", b"\x80\x00", pool(b"A")[1:]):
     case(Z + b"\x00" + more, b"UTC", 0, "5 23", UTC_ANSWER)
 TEXT = field(2, text(b"2025b"))
 for id_ in range(2, 8):
-    data = {2: text(b"x"), 3: b"\x00"}.get(id_, b"x")
+    # fields 6 and 7 without a location
+    data = {2: text(b"x"), 3: b"\x00"}.get(id_, b"\x00" if id_ in (6, 7) else b"x")
     once = Z + field(id_, data)
     case(once, b"UTC", 0, "0 0", UTC_ANSWER, "0 26 1" if id_ == 2 else "12 %d" % len(once))
     for more in (field(id_, data), bytes([id_]) + b"\x80\x00"):
@@ -279,10 +280,10 @@ for number, h in ((9, ""), (9, "80"), (9, "01"), (9, "0541"), (9, "02ff"), (9, "
 # fields 2 to 9 and 255, with data and without, none, some and all of them
 ALL = Z + TEXT
 for id_ in (3, 4, 5, 6, 7, 8, 9, 255):
-    ALL += field(id_, b"\x00" if id_ == 3 else b"\xff" * (id_ % 11))
+    ALL += field(id_, b"\x00" if id_ in (3, 6, 7) else b"\xff" * (id_ % 11))
     case(ALL, b"UTC", 0, "0 0", UTC_ANSWER, "0 26 5")
     case(ALL[:-1], b"A", 0, None, "12 23")
-    if id_ < 255:
+    if id_ < 255 and id_ not in (6, 7):
         if id_ == 3:
             case(Z + field(id_, b""), b"A", 0, "9 23", "12 23", "9 23")
         else:

@@ -1,5 +1,6 @@
 #!/usr/bin/env python3
-"""Makes the realistic files tests/data/all.nzd and tests/data/europe.nzd from the compiled zone files of Debian's tzdata 2025b.
+"""Makes the realistic files tests/data/all.nzd and tests/data/europe.nzd from the compiled zone files of Debian's tzdata 2025b, and from its tables of
+places, zone.tab, zone1970.tab and iso3166.tab.
 
 The first word of the command line, if there is one, is their folder; else /usr/share/zoneinfo. Where it has others, nothing is written and the exit
 code is 2.
@@ -169,14 +170,57 @@ def zone_data(pool, id_, zone):
             + offset((behind.daylight - behind.standard) * 1000))
 
 
-def file_of(zones, links):
-    """Field 0, the zones by ID, the release as version text and, where there are links, field 3: pairs of alias and zone, by alias."""
+# ---- locations
+
+Location = collections.namedtuple("Location", "latitude longitude countries zone comment")     # seconds; (name, code) of each country
+
+ANGLE = r"([-+])(\d{2,3})(\d{2})(\d{2})?"
+
+
+def table(folder, name):
+    """The lines of a table, split at its tabs; those that begin with # are remarks."""
+    with open(os.path.join(folder, name), encoding="utf-8") as f:
+        return [line.rstrip("\n").split("\t") for line in f if line.strip() and not line.startswith("#")]
+
+
+def angle(sign, degrees, minutes, seconds_):
+    """Degrees, minutes and perhaps seconds, as seconds."""
+    whole = int(degrees) * HOUR + int(minutes) * 60 + int(seconds_ or 0)
+    return -whole if sign == "-" else whole
+
+
+def places(folder, name, names):
+    """The locations of zone.tab or zone1970.tab, in its order."""
+    made = []
+    for codes, coordinates, zone, *comment in table(folder, name):
+        found = re.fullmatch(ANGLE + ANGLE, coordinates).groups()
+        countries = [(names[code], code) for code in codes.split(",")]
+        made.append(Location(angle(*found[:4]), angle(*found[4:]), countries, zone, comment[0] if comment else ""))
+    return made
+
+
+def locations_data(pool, locations, numbered):
+    """Field 6, whose locations have one country each, or with `numbered` field 7."""
+    out = count(len(locations))
+    for location in locations:
+        out += signed(location.latitude) + signed(location.longitude)
+        if numbered:
+            out += signed(len(location.countries))
+        out += b"".join(pool.number(name) + pool.number(code) for name, code in location.countries)
+        out += pool.number(location.zone) + pool.number(location.comment)
+    return out
+
+
+def file_of(zones, links, located):
+    """Field 0, the zones by ID, the release as version text and, where there are links, field 3: pairs of alias and zone, by alias; then the locations
+    of zone.tab in field 6 and those of zone1970.tab in field 7."""
     pool = Pool()
 
     def fields():
         made = b"".join(field(1, zone_data(pool, id_, zones[id_])) for id_ in sorted(zones)) + field(2, text(RELEASE))
         if links:
             made += field(3, count(len(links)) + b"".join(pool.number(alias) + pool.number(links[alias]) for alias in sorted(links)))
+        made += field(6, locations_data(pool, located[0], False)) + field(7, locations_data(pool, located[1], True))
         return made
 
     fields()
@@ -190,13 +234,17 @@ def main():
     except OtherFiles as error:
         print("realistic files: %s" % error)
         return 2
+    folder = sys.argv[1] if len(sys.argv) > 1 else FOLDER
+    names = dict(table(folder, "iso3166.tab"))
+    located = [places(folder, name, names) for name in ("zone.tab", "zone1970.tab")]
     links = {word[2]: word[1] for word in words if word[0] == "L"}
     zones = {}
     for name, s in files.items():
         first, transitions, posix = compiled(s)
         zones[name] = intervals(first, transitions), tail(posix)
     europe = {name: zone for name, zone in zones.items() if name.startswith("Europe/") or name == "Etc/UTC"}
-    for name, made in ("all.nzd", file_of(zones, links)), ("europe.nzd", file_of(europe, {})):
+    near = [[location for location in field_ if location.zone in europe] for field_ in located]
+    for name, made in ("all.nzd", file_of(zones, links, located)), ("europe.nzd", file_of(europe, {}, near)):
         with open(os.path.join(TOP, "tests", "data", name), "wb") as f:
             f.write(made)
         print("%s: %d bytes" % (name, len(made)))

@@ -273,7 +273,7 @@ for strings, last in ((130, 129), (8192, 8191)):
     good((big, fixed(last, 0, 128)), unit=ZEROS)
 
 SHAPE = zone(0, LONG)[1]                # a zone in ticks: elsewhere it is copied
-ODD = (b"\x00", b"\x00", b"\xff" * 3, hex_("8080808080"), SHAPE, hex_("0104000130000104"), b"\x02" * 9)
+ODD = (b"\x00", b"\x00", b"\xff" * 3, b"\x00", b"\x00", hex_("0104000130000104"), b"\x02" * 9)   # fields 6 and 7 without a location
 for id_ in range(3, 10):
     good((AB, zone(0, LONG), plain(id_, ODD[id_ - 3])))
 # the alias dictionary is copied where it is good, and checked before
@@ -286,6 +286,8 @@ for data in (b"\x05" + b"2025b", b"\x00", b"\x03\xe2\x82\xac", b"\x09" + b"\x02"
     good((AB, zone(0, LONG), plain(2, data)))
 good((AB, zone(0, LONG), plain(255, SHAPE)))
 good((AB, plain(2, b"\x01x"), plain(4, SHAPE), plain(5, SHAPE)))
+# one location in field 6, at a pole and on the date line, and one with two countries in field 7
+good((AB, zone(0, LONG), plain(6, hex_("01" "c0c627" "808d4f" "00010001")), plain(7, hex_("01" "000004" "00010100" "0001"))))
 ALL = [plain(2, b"\x01x")] + [plain(id_, ODD[id_ - 3]) for id_ in range(3, 10)]
 ALL += [plain(9, b"9"), plain(254, b""), plain(255, SHAPE), plain(255, b""), plain(255, b"\x01")]
 good((AB, zone(0, LONG), *ALL))
@@ -381,7 +383,7 @@ GOOD = files(AB, zone(0, LONG[:2] + [(END, "mark")]))[0]
 AT = len(GOOD)
 for s, said in ((b"", "2 0"), (V[:3], "2 0"), (GOOD[:-1], "2 11"), (GOOD[:12], "2 11"), (b"\x01" + GOOD[1:], "3 0"), (V[:3] + b"\x80" + GOOD[4:], "3 0"), (V, "6 4"),
                 (V + GOOD[11:], "6 4"), (GOOD + GOOD[11:], "13 %d" % AT), (GOOD + hex_("010401013000") + GOOD[11:] + b"\x03", "13 %d" % (AT + 6)),
-                (GOOD + hex_("04000200"), "5 %d" % (AT + 2)), (GOOD + hex_("07000700"), "5 %d" % (AT + 2))):
+                (GOOD + hex_("04000200"), "5 %d" % (AT + 2)), (GOOD + hex_("0701000700"), "5 %d" % (AT + 3))):
     refused(s, said)
 for number, h in ((2, "01"), (2, "0104" "010130"), (2, "0201"), (2, "ff80"), (4, "03" "80808002"), (4, "0104" "01028120"), (4, "0203" "8108ff"), (5, "0001" "00"),
                   (7, "038080808080"), (7, "0104" "01016000"), (7, "010a" "010201" "00003030" "7f0000"), (7, "010a" "010201" "00003030" "800100"),

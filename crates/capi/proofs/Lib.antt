@@ -3,3 +3,4 @@ pub mod SmallLaws
 pub mod FormLaws
 pub mod PutLaws
 pub mod RewriteLaws
+pub mod LocationLaws

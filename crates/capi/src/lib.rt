@@ -11,7 +11,8 @@ ghost use Rattle.named_questions.specs.Named.{askNamed};
 ghost use Rattle.replies.specs.Reply.{Gives, Puts};
 ghost use Rattle.replies.specs.Functions.{readReply, numberReply, textReply, momentReply, previousOf, integerForm};
 ghost use Rattle.file_replies.specs.Functions.{verdictResult, markOf, answerReply, versionReply};
-ghost use Rattle.capi.specs.Functions.{Rewrites, MapsLocal, kindForm};
+ghost use Rattle.file_replies.specs.Locations.{locationBy, GivesLocation};
+ghost use Rattle.capi.specs.Functions.{Rewrites, MapsLocal, StepsView, kindForm};
 
 // The preferred form of a whole file.
 #[no_mangle]
@@ -73,6 +74,40 @@ pub extern "C" fn nzd_map_local(file: &[u8], id: &[u8], local: i64, out: &mut [i
 {
     let m = wall_times::map_local(file, id, local);
     file_replies::give_mapping(m, out)
+}
+
+// A location by field and number.
+#[no_mangle]
+pub extern "C" fn nzd_location(
+    file: &[u8],
+    field: u64,
+    number: u64,
+    pin: &mut [f64; 2],
+    out: &mut [u64; 8],
+) -> u64
+    ensures { λ r. ⌜ GivesLocation (locationBy (now (file .entry)) field number) (now (pin .entry)) (now (out .entry)) r (now (pin .exit)) (now (out .exit)) ⌝ }
+{
+    let a = file_replies::location_by(file, field, number);
+    file_replies::give_location(a, pin, out)
+}
+
+// The next country of a view, whatever its numbers are.
+#[no_mangle]
+pub extern "C" fn nzd_next_country(file: &[u8], view: &mut [u64; 4], out: &mut [u64; 4]) -> bool
+    ensures { λ r. ⌜ StepsView (now (file .entry)) (now (view .entry)) (now (out .entry)) r (now (view .exit)) (now (out .exit)) ⌝ }
+{
+    let start = view[0];
+    let end = view[1];
+    let at = view[2];
+    let left = view[3];
+    let x = location_lookup::next_country(
+        file,
+        start as usize,
+        end as usize,
+        at as usize,
+        left as usize,
+    );
+    file_replies::give_country(x, start, end, view, out)
 }
 
 // The version text.

@@ -15,6 +15,7 @@ pub mod Nameless
 pub mod Padded
 pub mod Worked
 pub mod ContentNumbers
+pub mod LocationNumbers
 pub mod Numbers
 pub mod Places
 pub mod WallTimes
@@ -23,3 +24,4 @@ pub mod NamedExact
 pub mod NamedTarget
 pub mod NamedNumbers
 pub mod NamedExample
+pub mod LocationTable

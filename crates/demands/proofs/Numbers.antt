@@ -36,8 +36,10 @@ use Rattle.frames.specs.Frame.{largest, once, order, zeros, version, sized, fie
 use Rattle.frames.specs.Machine.{Out, found, refused, cut, ended, Content, bad, answer, keep, Job, State, stateAt, fieldAt, verdict, onward, act, step, walk}
 use Rattle.frames.specs.declared.Frame.{Frame}
 use Rattle.frames.specs.declared.Frame.the-variants.{End, Cut, Refused, Version, Whole}
-use Rattle.field_checks.specs.Check.{TextPlace, nowhere, placed, Memory, start, withId, withText, poolIn, poolKept, newId, zoneIn, zoneKept, textIn, textKept, aliasesIn, aliasesKept, judged, job}
-use Rattle.field_checks.specs.Check.{Kind, poolField, zoneField, textField, aliasField, otherField, kindOf, contentBy}
+use Rattle.field_checks.specs.Check.{TextPlace, nowhere, placed, Memory, start, withId, withText, poolIn, poolKept, newId, zoneIn, zoneKept, textIn, textKept, aliasesIn, aliasesKept, judged, job, locationsIn, locationsKept}
+use Rattle.field_checks.specs.Check.{Kind, poolField, zoneField, textField, aliasField, otherField, kindOf, contentBy, locationField}
+use Rattle.locations.specs.Content.{Location, parseLocations}
+use Rattle.locations.specs.declared.LocationField.{LocationField}
 use Rattle.field_checks.specs.Check.{concluded, concludes, conclusion, verdictOf, checkOf, textGiven, versionOf, WellFormed}
 use Rattle.field_checks.specs.Numbers.{givenByVerdict, givenByVersionText}
 use Rattle.field_checks.specs.declared.Conclusion.{Conclusion}
@@ -56,10 +58,11 @@ use Rattle.answers.specs.declared.Mark.{Mark}
 use Rattle.answers.specs.declared.Mark.the-variants.{More, All as Whole′}
 use Rattle.answers.specs.declared.Found.{Found}
 use Rattle.answers.specs.declared.Answer.the-variants.{Refused as No}
-use Rattle.demands.specs.Numbers.{OfContent, too-large, faulty, OfFile, OfCheck, check-cut, check-fault, second-zone, second-key, InTable}
+use Rattle.demands.specs.Numbers.{OfContent, too-large, faulty, OfFile, OfCheck, check-cut, check-fault, second-zone, second-key, InTable, location-fault, misread, out-of-range}
 use Rattle.demands.specs.Numbers.{OfRewrite, rewrite-check, no-room, OfVersion, version-check, no-text}
 use Rattle.demands.specs.Numbers.{OfQuestion, not-yet, question-cut, question-fault, no-zone, no-instant}
 use Rattle.demands.proofs.ContentNumbers.{Fine, zone-numbers, FineAliases, aliases-numbers}
+use Rattle.demands.proofs.LocationNumbers.{Located, location-numbers}
 
 pub of-content : (n : ℕ) → OfContent n → OfFile n
 of-content n (too-large e) = record { low = omega arith; high = omega arith }
@@ -168,7 +171,7 @@ module _ {M A : Type 0} (J : Job M A) (P R : ℕ → Type 0) (of-file : (n : ℕ
     unfolding walk
     walk-number m bs a = steps (suc (length bs)) (stateAt 0 bs false 0 m) a
 
--- the check: its job's own numbers are those of contents, 13 and 19
+-- the check: its job's own numbers are those of contents, 13, 19 and 20
 check-file : (n : ℕ) → OfFile n → OfCheck n
 check-file n h = check-fault h
 
@@ -219,6 +222,15 @@ kept-aliases m d = go (parseAliases (m .pool) d) (aliases-numbers (m .pool) d)
     go (faultOf n) (inl h) = check-fault (of-content n h)
     go (faultOf n) (inr h) = second-key h
 
+kept-locations : (m : Memory) (field : LocationField) (d : List ℕ) → Kept (locationsKept m field d)
+unfolding locationsKept
+kept-locations m field d = go (parseLocations field (length (m .pool)) d) (location-numbers field (length (m .pool)) d)
+  where
+    go : (p : Parsed (List Location)) → Located p → Kept (locationsIn m p)
+    go (got ls r) h = tt
+    go (faultOf n) (misread l h) = check-fault (record { low = omega arith; high = omega arith })
+    go (faultOf n) (out-of-range e) = location-fault e
+
 kept : (m : Memory) (g : Field) → Kept (job .content m g)
 unfolding judged
 kept m g = go (kindOf (g .id))
@@ -228,6 +240,7 @@ kept m g = go (kindOf (g .id))
     go zoneField = kept-zone m (g .body)
     go textField = kept-text m (g .start) (g .body)
     go aliasField = kept-aliases m (g .body)
+    go (locationField field) = kept-locations m field (g .body)
     go otherField = tt
 
 bytes-all : (f : List ℕ) → Bytes f → All (λ b. b ≤ 255) f
@@ -262,7 +275,7 @@ conclusion-numbers f b = go (walk job start f) (walk-number job OfCheck (λ i. i
     go (cut p) h = check-cut refl
     go (ended m p) h = last (m .text) p
 
--- A CHECK GIVES 0, 2 TO 11, 13 OR 19, and nothing else
+-- A CHECK GIVES 0, 2 TO 11, 13, 19 OR 20, and nothing else
 verdict-numbers : (x : Conclusion) → Ends x → InTable OfCheck (givenByVerdict (verdictOf x))
 verdict-numbers (Unfit n p) h = h
 verdict-numbers (Bare p) h = tt
@@ -281,8 +294,9 @@ check-zero f b e = good-well-formed f (go (checkOf f) (check-numbers f b) e)
     go (Ill n p) (check-fault q) e = absurd (omega (arith, q .low))
     go (Ill n p) (second-zone q) e = absurd (omega arith)
     go (Ill n p) (second-key q) e = absurd (omega arith)
+    go (Ill n p) (location-fault q) e = absurd (omega arith)
 
--- THE VERSION TEXT GIVES 0, 2 TO 11, 12, 13 OR 19
+-- THE VERSION TEXT GIVES 0, 2 TO 11, 12, 13, 19 OR 20
 pub version-numbers : (f : List ℕ) → Bytes f → InTable OfVersion (givenByVersionText (versionOf f))
 version-numbers f b = go (conclusion f) (conclusion-numbers f b)
   where
@@ -291,7 +305,7 @@ version-numbers f b = go (conclusion f) (conclusion-numbers f b)
     go (Bare p) h = no-text refl
     go (WithText a n) h = tt
 
--- A REWRITE GIVES 0, 2 TO 11, 13, 15 OR 19, whatever the output
+-- A REWRITE GIVES 0, 2 TO 11, 13, 15, 19 OR 20, whatever the output
 pub rewrite-numbers : (f d : List ℕ) → Bytes f → InTable OfRewrite (givenByRewritten (rewriteOf f d))
 unfolding rewriteOf
 rewrite-numbers f d b = go (checkOf f) (check-numbers f b)

@@ -13,12 +13,18 @@ pub record OfFile (n : ℕ) : Type 0 where
   pub low : 3 ≤ n
   pub high : n ≤ 11
 
+-- faults of the contents of fields 6 and 7: 7 to 9, and 20
+pub data OfLocations (n : ℕ) : Type 0 where
+  misread : 7 ≤ n → n ≤ 9 → OfLocations n
+  out-of-range : n ≡ 20 → OfLocations n
+
 -- what a check refuses with
 pub data OfCheck (n : ℕ) : Type 0 where
   check-cut : n ≡ 2 → OfCheck n
   check-fault : OfFile n → OfCheck n
   second-zone : n ≡ 13 → OfCheck n
   second-key : n ≡ 19 → OfCheck n
+  location-fault : n ≡ 20 → OfCheck n
 
 -- "Rewriting, and reading the version text, check all first; then 15 or 12"
 pub data OfRewrite (n : ℕ) : Type 0 where
@@ -28,6 +34,11 @@ pub data OfRewrite (n : ℕ) : Type 0 where
 pub data OfVersion (n : ℕ) : Type 0 where
   version-check : OfCheck n → OfVersion n
   no-text : n ≡ 12 → OfVersion n
+
+-- "after the check's faults, a number with no location gets 12"
+pub data OfLocation (n : ℕ) : Type 0 where
+  location-check : OfCheck n → OfLocation n
+  no-location : n ≡ 12 → OfLocation n
 
 -- what a question refuses with: 13 is "never given by a question"
 pub data OfQuestion (n : ℕ) : Type 0 where

@@ -12,7 +12,7 @@ use Rattle.base.specs.Run.{next}
 use Rattle.base.specs.Bytes.{Bytes}
 use Rattle.base.specs.Equal.{equal}
 use Rattle.base.specs.All.{All, all-none, all-also}
-use Rattle.base.specs.Parsed.{got, bad as faulty, parse, ended as ended′}
+use Rattle.base.specs.Parsed.{Parsed, got, bad as faulty, parse, ended as ended′}
 use Rattle.base.proofs.AllLaws.{all-head, all-tail}
 use Rattle.base.proofs.EqualLaws.{equal-true}
 use Rattle.base.proofs.ParseLaws.{bad-got, bind-good, ended-good, pick-bad, got-rest}
@@ -23,6 +23,10 @@ use Rattle.texts.specs.declared.Text.{Text}
 use Rattle.texts.specs.declared.Text.the-variants.{Part, Refused as Untext}
 use Rattle.texts.proofs.TextLaws.{held}
 use Rattle.pool.specs.Pool.{Pool, readStrings, allStrings, counted, parsePool, stringsOf}
+use Rattle.locations.specs.Content.{Location, parseLocations}
+use Rattle.locations.specs.declared.LocationField.{LocationField}
+use Rattle.locations.specs.declared.LocationField.the-variants.{Zone as Locations, Zone1970 as Locations1970}
+use Rattle.locations.proofs.FindLaws.{locations-end}
 use Rattle.ids.specs.Ids.{among}
 use Rattle.aliases.proofs.PairLaws.{pairs-good}
 use Rattle.frames.specs.Frame.{Field}
@@ -33,9 +37,9 @@ use Rattle.frames.proofs.PassLaws.{pass-head}
 use Rattle.frames.proofs.PartLaws.{walk-ended}
 use Rattle.frames.proofs.WalkLaws.{walk-pass}
 use Rattle.field_checks.specs.Check.{placed, Memory, start, withPool, withId, withText, poolIn, poolKept, newId, zoneKept, textIn, textKept, aliasesKept, judged}
-use Rattle.field_checks.specs.Check.{job, WellFormed, filePool, HasId}
-use Rattle.field_checks.specs.File.{ZoneData, AsZone, TextData, AsText, AliasData, AsAliases, IsFile}
-use Rattle.field_checks.proofs.ZoneIdLaws.{one-zone, zones-read, aliases-read}
+use Rattle.field_checks.specs.Check.{job, WellFormed, filePool, HasId, locationsIn, locationsKept, laterKind, contentBy}
+use Rattle.field_checks.specs.File.{ZoneData, AsZone, TextData, AsText, AliasData, AsAliases, IsFile, LocationData, AsLocations}
+use Rattle.field_checks.proofs.ZoneIdLaws.{one-zone, zones-read, aliases-read, field-grows, first-pool}
 
 -- THE CHECK KEEPS EVERY FIELD OF SUCH A FILE
 -- one of the fields pre has the ID x
@@ -106,17 +110,27 @@ module _ (ts : List (List ℕ)) (pre : List Field) (m : Memory) (k : Known ts pr
     known-on m refl refl,
   )
 
-  other-kept : 3 < g .id → Kept
+  -- a field of which nothing is remembered
+  later-kept : 3 < g .id → contentBy (laterKind (g .id)) m (g .start) (g .body) ≡ keep m → Kept
   unfolding judged
-  other-kept l = (
+  later-kept l e = (
     m,
-    rw (ne-eqb (g .id) 0 (λ e. omega arith), ne-eqb (g .id) 1 (λ e. omega arith), ne-eqb (g .id) 2 (λ e. omega arith), ne-eqb (g .id) 3 (λ e. omega arith)),
+    rw (ne-eqb (g .id) 0 (λ e. omega arith), ne-eqb (g .id) 1 (λ e. omega arith), ne-eqb (g .id) 2 (λ e. omega arith), ne-eqb (g .id) 3 (λ e. omega arith)) e,
     known-on m refl refl,
   )
 
-  field-kept : 0 < g .id → AsZone ts g → AsText g → AsAliases ts g → ((x : List ℕ) → Seen ts x pre → HasId ts x g → ⊥) → Kept
-  field-kept p z t d a = by-id (eqb (g .id) 1) refl (eqb (g .id) 2) refl (eqb (g .id) 3) refl
+  locations-kept : (field : LocationField) → LocationData field ts (g .body) → locationsKept m field (g .body) ≡ keep m
+  unfolding locationsKept
+  locations-kept field d = rw (k .pool, d .parsed)
+
+  field-kept : 0 < g .id → AsZone ts g → AsText g → AsAliases ts g → AsLocations ts g → ((x : List ℕ) → Seen ts x pre → HasId ts x g → ⊥) → Kept
+  field-kept p z t d ls a = by-id (eqb (g .id) 1) refl (eqb (g .id) 2) refl (eqb (g .id) 3) refl
     where
+      later : (u : Bool) → eqb (g .id) 6 ≡ u → (v : Bool) → eqb (g .id) 7 ≡ v → contentBy (laterKind (g .id)) m (g .start) (g .body) ≡ keep m
+      later true e v q = rw e (locations-kept Locations (ls Locations (eqb-true (g .id) 6 e)))
+      later false e true q = rw (e, q) (locations-kept Locations1970 (ls Locations1970 (eqb-true (g .id) 7 q)))
+      later false e false q = rw (e, q)
+
       by-id : (u : Bool) → eqb (g .id) 1 ≡ u → (v : Bool) → eqb (g .id) 2 ≡ v → (w : Bool) → eqb (g .id) 3 ≡ w → Kept
       by-id true e v q w r = let i = eqb-true (g .id) 1 e in zone-kept i (z i) a
       by-id false e true q w r = let i = eqb-true (g .id) 2 q in text-kept i (t i)
@@ -125,18 +139,19 @@ module _ (ts : List (List ℕ)) (pre : List Field) (m : Memory) (k : Known ts pr
           let n = eqb-false (g .id) 1 e in
           let o = eqb-false (g .id) 2 q in
           let l = eqb-false (g .id) 3 r in
-          other-kept (omega arith)
+          later-kept (omega arith) (later (eqb (g .id) 6) refl (eqb (g .id) 7) refl)
 
 module _ (ts : List (List ℕ)) where
   pass-kept : (pre gs : List Field) (m : Memory) → Known ts pre m → All (λ g. 0 < g .id) gs → All (AsZone ts) gs → All AsText gs → All (AsAliases ts) gs
+      → All (AsLocations ts) gs
       → ((cs : List Field) (g : Field) (bs : List Field) (h : Field) (is : List Field) (x : List ℕ) → pre ++ gs ≡ cs ++ g ∷ (bs ++ h ∷ is)
       → HasId ts x g → HasId ts x h → ⊥)
       → (m′ : Memory) × (pass (job .content) m gs ≡ next m′)
   unfolding pass
-  pass-kept pre [] m k p z t d a = (m, refl)
-  pass-kept pre (g ∷ gs) m k p z t d a =
-      let n = field-kept ts pre m k g (all-head p) (all-head z) (all-head t) (all-head d) one in
-      let r = pass-kept (pre ++ g ∷ []) gs (n .0) (n .2) (all-tail p) (all-tail z) (all-tail t) (all-tail d)
+  pass-kept pre [] m k p z t d l a = (m, refl)
+  pass-kept pre (g ∷ gs) m k p z t d l a =
+      let n = field-kept ts pre m k g (all-head p) (all-head z) (all-head t) (all-head d) (all-head l) one in
+      let r = pass-kept (pre ++ g ∷ []) gs (n .0) (n .2) (all-tail p) (all-tail z) (all-tail t) (all-tail d) (all-tail l)
       (λ cs g′ bs h is x e. a cs g′ bs h is x (sym (append-assoc pre (g ∷ []) gs) ∙ e)) in
       (r .0, rw (n .1) (r .1))
     where
@@ -151,7 +166,7 @@ file-well-formed f b g =
     let l = framed-listing f b (g .first) (g .others) (g .framed) in
     let m : Memory = withPool start (g .strings) in
     let r = pass-kept (g .strings) [] (g .others) m (record { pool = refl; seen = λ x e. never e refl }) (ordered-some 0 (g .others) (g .framed .ordered))
-    (g .zones) (g .texts) (g .aliases) (g .apart) in
+    (g .zones) (g .texts) (g .aliases) (g .locations) (g .apart) in
     let c : job .content start (g .first) ≡ keep m = rw (eq-eqb (g .first .id) 0 (g .framed .is-first), g .pool) in
     record {
       memory = r .0;
@@ -182,6 +197,38 @@ pass-texts [] m m′ h = all-none
 pass-texts (g ∷ gs) m m′ h =
     let s = pass-head (job .content) m m′ g gs h in
     all-also (text-is m (s .0) g (s .1)) (pass-texts gs (s .0) m′ (rw (s .1) at h))
+
+-- a field that the check keeps, with the pool's strings that it remembers
+locations-are : (m m′ : Memory) (g : Field) → job .content m g ≡ keep m′ → AsLocations (m .pool) g
+unfolding judged locationsKept
+locations-are m m′ g e Locations i =
+    go (parseLocations Locations (length (m .pool)) (g .body)) refl
+    (rw (ne-eqb (g .id) 0 (λ z. omega arith), ne-eqb (g .id) 1 (λ z. omega arith), ne-eqb (g .id) 2 (λ z. omega arith), ne-eqb (g .id) 3 (λ z. omega arith), eq-eqb (g .id) 6 i) at e)
+  where
+    go : (p : Parsed (List Location)) → parseLocations Locations (length (m .pool)) (g .body) ≡ p → locationsIn m p ≡ keep m′ → LocationData Locations (m .pool) (g .body)
+    go (faulty n) q h = clash cc
+    go (got ls r) q h = record { locations = ls; parsed = q ∙ ap (got ls) (locations-end Locations (length (m .pool)) (g .body) ls r q) }
+locations-are m m′ g e Locations1970 i =
+    go (parseLocations Locations1970 (length (m .pool)) (g .body)) refl
+    (rw (ne-eqb (g .id) 0 (λ z. omega arith), ne-eqb (g .id) 1 (λ z. omega arith), ne-eqb (g .id) 2 (λ z. omega arith), ne-eqb (g .id) 3 (λ z. omega arith), ne-eqb (g .id) 6 (λ z. omega arith), eq-eqb (g .id) 7 i) at e)
+  where
+    go : (p : Parsed (List Location)) → parseLocations Locations1970 (length (m .pool)) (g .body) ≡ p → locationsIn m p ≡ keep m′ → LocationData Locations1970 (m .pool) (g .body)
+    go (faulty n) q h = clash cc
+    go (got ls r) q h = record { locations = ls; parsed = q ∙ ap (got ls) (locations-end Locations1970 (length (m .pool)) (g .body) ls r q) }
+
+pass-rest : (g : Field) (gs : List Field) (m m″ m′ : Memory) → job .content m g ≡ keep m″ → pass (job .content) m (g ∷ gs) ≡ next m′
+    → pass (job .content) m″ gs ≡ next m′
+unfolding pass
+pass-rest g gs m m″ m′ e h = rw e at h
+
+pass-locations : (ts : List (List ℕ)) (gs : List Field) (m m′ : Memory) → m .pool ≡ ts → All (λ g. 0 < g .id) gs → pass (job .content) m gs ≡ next m′
+    → All (AsLocations ts) gs
+unfolding pass
+pass-locations ts [] m m′ p a h = all-none
+pass-locations ts (g ∷ gs) m m′ p a h =
+    let s = pass-head (job .content) m m′ g gs h in
+    let w = field-grows m g (all-head a) (s .0) (s .1) in
+    all-also (rw p at (locations-are m (s .0) g (s .1))) (pass-locations ts gs (s .0) m′ (w .pool ∙ p) (all-tail a) (rw (s .1) at h))
 
 pool-is : (m : Memory) (g : Field) → job .content start g ≡ keep m → g .id ≡ 0 → parsePool (g .body) ≡ got (stringsOf (g .body)) []
 unfolding judged poolKept counted allStrings
@@ -217,5 +264,6 @@ well-formed-file f w = go (fields f) refl
           zones = all-tail (rw (p, e) at (zones-read f w));
           aliases = all-tail (rw (p, e) at (aliases-read f w));
           texts = all-tail (pass-texts (g ∷ gs) start (w .memory) k);
+          locations = pass-locations (stringsOf (g .body)) gs (s .0) (w .memory) (first-pool g (s .0) (r .is-first) (s .1)) (ordered-some 0 gs (r .ordered)) (pass-rest g gs start (s .0) (w .memory) (s .1) k);
           apart = λ gs₁ g′ hs h is x t m n. one-zone f w (g ∷ gs₁) g′ hs h is x (e ∙ ap (λ (l : List Field). g ∷ l) t) (subst⁻¹ (λ (ss : List (List ℕ)). HasId ss x g′) p m) (subst⁻¹ (λ (ss : List (List ℕ)). HasId ss x h) p n);
         }

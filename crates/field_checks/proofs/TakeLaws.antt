@@ -23,6 +23,12 @@ use Rattle.zones.specs.Lookup.{verdictOf}
 use Rattle.zones.specs.declared.ZoneVerdict.{ZoneVerdict}
 use Rattle.zones.specs.declared.ZoneVerdict.the-variants.{Good, Refused as Unzoned}
 use Rattle.zones.proofs.SoundLaws.{zone-sound}
+use Rattle.locations.specs.Content.{Location, parseLocations}
+use Rattle.locations.specs.Find.{verdictOf as fieldVerdictOf}
+use Rattle.locations.specs.declared.LocationField.{LocationField}
+use Rattle.locations.specs.declared.LocationField.the-variants.{Zone as Locations, Zone1970 as Locations1970}
+use Rattle.locations.specs.declared.FieldVerdict.{FieldVerdict}
+use Rattle.locations.specs.declared.FieldVerdict.the-variants.{Good as AllGood, Refused as Unlocated}
 use Rattle.ids.specs.Memory.{Taken as TakenId}
 use Rattle.ids.proofs.MemoryLaws.{sorted-most, keeps-none}
 use Rattle.aliases.specs.Dictionary.{Dictionary}
@@ -30,8 +36,8 @@ use Rattle.aliases.specs.Field.{parseAliases}
 use Rattle.aliases.specs.View.{verdictOf as aliasVerdict}
 use Rattle.aliases.specs.declared.Verdict.{Verdict as AliasVerdict}
 use Rattle.aliases.specs.declared.Verdict.the-variants.{Good as GoodAliases, Refused as Unaliased}
-use Rattle.field_checks.specs.Check.{Memory, poolIn, poolKept, newId, zoneIn, zoneKept, textKept, aliasesIn, aliasesKept, judged}
-use Rattle.field_checks.specs.Cursor.{part, poolOf, Indexed, Stands, Ordered, Says, TookPool, TookZone, TookText, TookAliases, TookField}
+use Rattle.field_checks.specs.Check.{Memory, poolIn, poolKept, newId, zoneIn, zoneKept, textKept, aliasesIn, aliasesKept, judged, locationsIn, locationsKept}
+use Rattle.field_checks.specs.Cursor.{part, poolOf, Indexed, Stands, Ordered, Says, TookPool, TookZone, TookText, TookAliases, TookField, TookLocations}
 use Rattle.field_checks.specs.declared.Kept.{Kept}
 use Rattle.field_checks.specs.declared.Taken.{Taken}
 use Rattle.field_checks.specs.declared.Taken.the-variants.{Refused, Keep}
@@ -183,6 +189,32 @@ module _ (s : List ℕ) (k : Kept) (a e : ℕ) (ix : List ℕ) (ind : Indexed s 
       go od y st (faulty m) r = clash cc
       go od y st (got es u) r = (ind, st)
 
+-- field 6 or 7, by what the check of the locations gives
+module _ (s : List ℕ) (k : Kept) (a e : ℕ) (field : LocationField) (v : FieldVerdict) (h : v ≡ fieldVerdictOf (parseLocations field (k .count) (part s a e))) where
+  by-pool : (ix od : List ℕ) (y : Memory) → Indexed s k ix → Stands s k od y → v ≡ fieldVerdictOf (parseLocations field (length (y .pool)) (part s a e))
+  by-pool ix od y ind st =
+      let z : k .count ≡ length (y .pool) = ind .count ∙ ap length (sym (st .strings)) in
+      h ∙ ap (λ (n : ℕ). fieldVerdictOf (parseLocations field n (part s a e))) z
+
+  pub locations-refused : (n : ℕ) → v ≡ Unlocated n → TookLocations s k a e field (Refused n)
+  unfolding locationsKept fieldVerdictOf
+  locations-refused n q =
+      record { means = λ ix od y ind st. go ix od y (parseLocations field (length (y .pool)) (part s a e)) (sym q ∙ by-pool ix od y ind st) }
+    where
+      go : (ix od : List ℕ) (y : Memory) (p : Parsed (List Location)) → Unlocated n ≡ fieldVerdictOf p → Says s ix od (locationsIn y p) (Refused n)
+      go ix od y (faulty m) r = cc
+      go ix od y (got ls q) r = clash cc
+
+  pub locations-kept : v ≡ AllGood → TookLocations s k a e field (Keep k)
+  unfolding locationsKept fieldVerdictOf
+  locations-kept q =
+      record { means = λ ix od y ind st. go ix od y ind st (parseLocations field (length (y .pool)) (part s a e)) (sym q ∙ by-pool ix od y ind st) }
+    where
+      go : (ix od : List ℕ) (y : Memory) → Indexed s k ix → Stands s k od y → (p : Parsed (List Location)) → AllGood ≡ fieldVerdictOf p
+          → Says s ix od (locationsIn y p) (Keep k)
+      go ix od y ind st (faulty m) r = clash cc
+      go ix od y ind st (got ls q) r = (ind, st)
+
 -- a field by its ID
 module _ (s : List ℕ) (k : Kept) (i a e : ℕ) (ix od : List ℕ) where
   pub field-pool : (r : Taken) (ix′ : List ℕ) → i ≡ 0 → Indexed s k ix → TookPool s k a e ix ix′ r → TookField s k i a e ix od ix′ od r
@@ -205,6 +237,20 @@ module _ (s : List ℕ) (k : Kept) (i a e : ℕ) (ix od : List ℕ) where
         unfolding judged
         field-aliases r q t = record { means = λ y st fr. rw (ne-eqb i 0 n₀, ne-eqb i 1 n₁, ne-eqb i 2 n₂, eq-eqb i 3 q) (t .means od y st) }
 
-        pub field-other : (i ≡ 3 → ⊥) → TookField s k i a e ix od ix od (Keep k)
-        unfolding judged
-        field-other n₃ = record { means = λ y st fr. rw (ne-eqb i 0 n₀, ne-eqb i 1 n₁, ne-eqb i 2 n₂, ne-eqb i 3 n₃) (ind, st) }
+        module _ (n₃ : i ≡ 3 → ⊥) where
+          pub field-6 : (r : Taken) → i ≡ 6 → TookLocations s k a e Locations r → TookField s k i a e ix od ix od r
+          unfolding judged
+          field-6 r q t =
+              record { means = λ y st fr. rw (ne-eqb i 0 n₀, ne-eqb i 1 n₁, ne-eqb i 2 n₂, ne-eqb i 3 n₃, eq-eqb i 6 q) (t .means ix od y ind st) }
+
+          module _ (n₆ : i ≡ 6 → ⊥) where
+            pub field-7 : (r : Taken) → i ≡ 7 → TookLocations s k a e Locations1970 r → TookField s k i a e ix od ix od r
+            unfolding judged
+            field-7 r q t = record {
+              means = λ y st fr. rw (ne-eqb i 0 n₀, ne-eqb i 1 n₁, ne-eqb i 2 n₂, ne-eqb i 3 n₃, ne-eqb i 6 n₆, eq-eqb i 7 q) (t .means ix od y ind st);
+            }
+
+            pub field-other : (i ≡ 7 → ⊥) → TookField s k i a e ix od ix od (Keep k)
+            unfolding judged
+            field-other n₇ =
+                record { means = λ y st fr. rw (ne-eqb i 0 n₀, ne-eqb i 1 n₁, ne-eqb i 2 n₂, ne-eqb i 3 n₃, ne-eqb i 6 n₆, ne-eqb i 7 n₇) (ind, st) }

@@ -34,6 +34,8 @@ use Rattle.field_checks.specs.Check.{textGiven, versionOf, WellFormed}
 use Rattle.field_checks.specs.Numbers.{givenByVersionText}
 use Rattle.field_checks.specs.Version.{GivesText, ReadsText}
 use Rattle.field_checks.proofs.KindLaws.{KindId, kind-id}
+use Rattle.field_checks.specs.Check.{Kind, poolField, zoneField, textField, locationField, otherField, kindOf, contentBy}
+use Rattle.field_checks.proofs.ZoneIdLaws.{locations-same}
 use Rattle.field_checks.proofs.VersionLaws.{InField, Came, earlier, among, pass-text, text-bytes}
 use Rattle.field_checks.proofs.WellFormedLaws.{some-field}
 use Rattle.base.proofs.Tests.{clash}
@@ -69,6 +71,7 @@ later-keeps m m′ g l e = go (kindOf (g .id)) (kind-id (g .id)) e
     go zoneField i h = absurd (omega arith)
     go textField i h = absurd (omega arith)
     go aliasField i h = aliases (parseAliases (m .pool) (g .body)) h
+    go (locationField field) i h = locations-same m m′ field (g .body) h
     go otherField i h = cc
 
 later-text : (gs : List Field) (m m′ : Memory) → All (λ g. 2 < g .id) gs → pass (job .content) m gs ≡ next m′ → m′ .text ≡ m .text

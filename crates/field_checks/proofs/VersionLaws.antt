@@ -17,6 +17,8 @@ use Rattle.texts.specs.declared.Text.the-variants.{Part, Refused as Untext}
 use Rattle.pool.specs.Pool.{Pool, parsePool}
 use Rattle.zones.specs.Content.{Zone}
 use Rattle.zones.specs.Parse.{parseZone}
+use Rattle.locations.specs.Content.{Location, parseLocations}
+use Rattle.locations.specs.declared.LocationField.{LocationField}
 use Rattle.ids.specs.Ids.{among as amongIds}
 use Rattle.aliases.specs.Dictionary.{Dictionary}
 use Rattle.aliases.specs.Field.{parseAliases}
@@ -26,9 +28,9 @@ use Rattle.frames.specs.Fields.{fields, pass, FieldOf}
 use Rattle.base.proofs.AllLaws.{all-head, all-right}
 use Rattle.frames.proofs.ChainLaws.{listing-chain, chain-fields}
 use Rattle.frames.proofs.PartLaws.{walk-ended}
+use Rattle.field_checks.specs.Check.{Kind, poolField, zoneField, textField, aliasField, otherField, kindOf, contentBy, locationField}
 use Rattle.field_checks.specs.Check.{TextPlace, nowhere, placed, Memory, start, withPool, withId, withText, poolIn, poolKept, newId, zoneIn}
-use Rattle.field_checks.specs.Check.{Kind, poolField, zoneField, textField, aliasField, otherField, kindOf, contentBy}
-use Rattle.field_checks.specs.Check.{zoneKept, textIn, textKept, aliasesIn, aliasesKept, judged, job, concluded, concludes, conclusion, textGiven, versionOf}
+use Rattle.field_checks.specs.Check.{zoneKept, textIn, textKept, aliasesIn, aliasesKept, judged, job, concluded, concludes, conclusion, textGiven, versionOf, locationsIn, locationsKept}
 use Rattle.field_checks.specs.Version.{TextIn}
 use Rattle.field_checks.specs.declared.Conclusion.the-variants.{Refused as Ill, Bare, WithText}
 use Rattle.field_checks.specs.declared.VersionText.the-variants.{Part as TextPart}
@@ -107,6 +109,14 @@ aliases-text m g = go (parseAliases (m .pool) (g .body))
     go (faulty k) = no-text m g k
     go (got es r) = same-text m g m refl
 
+locations-text : (m : Memory) (g : Field) (field : LocationField) → From m g (locationsKept m field (g .body))
+unfolding locationsKept
+locations-text m g field = go (parseLocations field (length (m .pool)) (g .body))
+  where
+    go : (p : Parsed (List Location)) → From m g (locationsIn m p)
+    go (faulty k) = no-text m g k
+    go (got ls r) = same-text m g m refl
+
 field-text : (m : Memory) (g : Field) → From m g (job .content m g)
 unfolding judged
 field-text m g = go (kindOf (g .id)) (kind-id (g .id))
@@ -116,6 +126,7 @@ field-text m g = go (kindOf (g .id)) (kind-id (g .id))
     go zoneField i = zone-text m g
     go textField i = text-text m g i
     go aliasField i = aliases-text m g
+    go (locationField field) i = locations-text m g field
     go otherField i = same-text m g m refl
 
 -- one of the fields gs holds the text

@@ -19,6 +19,8 @@ use Rattle.base.specs.Equal.{equal}
 use Rattle.base.proofs.EqualLaws.{equal-refl}
 use Rattle.zones.specs.Content.{Zone}
 use Rattle.zones.specs.Parse.{parseZone}
+use Rattle.locations.specs.Content.{Location, parseLocations}
+use Rattle.locations.specs.declared.LocationField.{LocationField}
 use Rattle.zones.proofs.SoundLaws.{zone-sound}
 use Rattle.ids.specs.Ids.{among}
 use Rattle.aliases.specs.Dictionary.{Dictionary}
@@ -32,9 +34,9 @@ use Rattle.base.proofs.AllLaws.{all-head, all-tail, all-left, all-right}
 use Rattle.frames.proofs.ChainLaws.{Chain, listing-chain, chain-first}
 use Rattle.frames.proofs.PassLaws.{pass-first, pass-head}
 use Rattle.frames.proofs.PartLaws.{walk-ended}
+use Rattle.field_checks.specs.Check.{Kind, poolField, zoneField, textField, aliasField, otherField, kindOf, contentBy, locationField}
 use Rattle.field_checks.specs.Check.{placed, Memory, start, withPool, withId, withText, poolIn, poolKept, newId, zoneIn}
-use Rattle.field_checks.specs.Check.{Kind, poolField, zoneField, textField, aliasField, otherField, kindOf, contentBy}
-use Rattle.field_checks.specs.Check.{zoneKept, textIn, textKept, aliasesIn, aliasesKept, judged, job, WellFormed, filePool, HasId}
+use Rattle.field_checks.specs.Check.{zoneKept, textIn, textKept, aliasesIn, aliasesKept, judged, job, WellFormed, filePool, HasId, locationsIn, locationsKept}
 use Rattle.field_checks.proofs.KindLaws.{KindId, kind-id}
 use Rattle.field_checks.specs.File.{ZoneData, AsZone, AliasData, AsAliases}
 
@@ -103,6 +105,14 @@ aliases-grows m d = go (parseAliases (m .pool) d)
     go (faulty n) m′ e = bad-keeps m n m′ e
     go (got es r) m′ e = let z : m ≡ m′ = cc in rw (← z) (grown-same m)
 
+pub locations-same : (m m′ : Memory) (field : LocationField) (d : List ℕ) → locationsKept m field d ≡ keep m′ → m ≡ m′
+unfolding locationsKept
+locations-same m m′ field d = go (parseLocations field (length (m .pool)) d)
+  where
+    go : (p : Parsed (List Location)) → locationsIn m p ≡ keep m′ → m ≡ m′
+    go (faulty n) e = clash cc
+    go (got ls r) e = cc
+
 -- a field behind the first
 pub field-grows : (m : Memory) (g : Field) → 0 < g .id → KeepGrows m (job .content m g)
 unfolding judged
@@ -113,6 +123,7 @@ field-grows m g l = go (kindOf (g .id)) (kind-id (g .id))
     go zoneField i m′ e = zone-grows m (g .body) m′ e
     go textField i m′ e = text-grows m (g .start) (g .body) m′ e
     go aliasField i m′ e = aliases-grows m (g .body) m′ e
+    go (locationField field) i m′ e = rw (← locations-same m m′ field (g .body) e) (grown-same m)
     go otherField i m′ e = let z : m ≡ m′ = cc in rw (← z) (grown-same m)
 
 pass-grows : (gs : List Field) (m m′ : Memory) → All (λ g. 0 < g .id) gs → pass (job .content) m gs ≡ next m′ → Grown m m′

@@ -13,6 +13,9 @@ use Rattle.texts.specs.declared.Text.the-variants.{Part, Refused as Untext}
 use Rattle.pool.specs.Pool.{Pool, parsePool, stringsOf}
 use Rattle.zones.specs.Content.{Zone}
 use Rattle.zones.specs.Parse.{parseZone}
+use Rattle.locations.specs.Content.{Location, parseLocations}
+use Rattle.locations.specs.declared.LocationField.{LocationField}
+use Rattle.locations.specs.declared.LocationField.the-variants.{Zone as Locations, Zone1970 as Locations1970}
 use Rattle.ids.specs.Ids.{among}
 use Rattle.aliases.specs.Dictionary.{Dictionary}
 use Rattle.aliases.specs.Field.{parseAliases}
@@ -87,24 +90,39 @@ aliasesIn m (got es r) = keep m
 unfoldable pub aliasesKept : Memory → List ℕ → Content Memory ⊥
 aliasesKept m d = aliasesIn m (parseAliases (m .pool) d)
 
+-- "The whole-file check now reads both fields" of locations; it remembers nothing of them
+abbrev pub locationsIn : Memory → Parsed (List Location) → Content Memory ⊥
+locationsIn m (faulty n) = bad n
+locationsIn m (got ls r) = keep m
+
+-- field 6 or 7
+unfoldable pub locationsKept : Memory → LocationField → List ℕ → Content Memory ⊥
+locationsKept m field d = locationsIn m (parseLocations field (length (m .pool)) d)
+
 -- the kinds of field that the check tells apart
 pub data Kind : Type 0 where
   poolField : Kind
   zoneField : Kind
   textField : Kind
   aliasField : Kind
+  locationField : LocationField → Kind
   otherField : Kind
 
--- field 0, a field 1, "field 2 (tzdb version)", "field 3, the alias dictionary", and any other
-abbrev pub kindOf : ℕ → Kind
-kindOf i = pick (eqb i 0) poolField (pick (eqb i 1) zoneField (pick (eqb i 2) textField (pick (eqb i 3) aliasField otherField)))
+-- fields 6 and 7, and any other
+abbrev pub laterKind : ℕ → Kind
+laterKind i = pick (eqb i 6) (locationField Locations) (pick (eqb i 7) (locationField Locations1970) otherField)
 
--- a field by its kind, where its data d start at the place a; fields 4 "and up are stepped over by their size"
+-- field 0, a field 1, "field 2 (tzdb version)", "field 3, the alias dictionary", and those behind
+abbrev pub kindOf : ℕ → Kind
+kindOf i = pick (eqb i 0) poolField (pick (eqb i 1) zoneField (pick (eqb i 2) textField (pick (eqb i 3) aliasField (laterKind i))))
+
+-- a field by its kind, where its data d start at the place a; fields 4 "and up are stepped over by their size", 6 and 7 excepted
 abbrev pub contentBy : Kind → Memory → ℕ → List ℕ → Content Memory ⊥
 contentBy poolField m a d = poolKept m d
 contentBy zoneField m a d = zoneKept m d
 contentBy textField m a d = textKept m a d
 contentBy aliasField m a d = aliasesKept m d
+contentBy (locationField field) m a d = locationsKept m field d
 contentBy otherField m a d = keep m
 
 -- a field by its ID
@@ -148,7 +166,8 @@ textGiven (WithText a n) = TextPart a n
 abbrev pub versionOf : List ℕ → VersionText
 versionOf f = textGiven (conclusion f)
 
--- "A file is well formed when none of 2 to 11 or 13 applies to it as a whole", nor by Ask 5 ("'well formed' narrows with it") 19: every field is kept to the bytes' end, and there is one
+-- "A file is well formed when none of 2 to 11 or 13 applies to it as a whole", nor by Ask 5 ("'well formed' narrows with it") 19, nor by Ask 8
+-- ("'well formed' excludes 20") 20: every field is kept to the bytes' end, and there is one
 pub record WellFormed (f : List ℕ) : Type 0 where
   pub memory : Memory
   pub ends : walk job start f ≡ ended memory (length f)

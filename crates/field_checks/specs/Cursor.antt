@@ -9,8 +9,9 @@ use Rattle.base.specs.Pick.{pick}
 use Rattle.pool.specs.Pool.{stringsOf}
 use Rattle.pool.specs.Index.{Ready}
 use Rattle.ids.specs.Memory.{Sorted, Keeps}
+use Rattle.locations.specs.declared.LocationField.{LocationField}
 use Rattle.frames.specs.Machine.{Content, bad, answer, keep, State, stateAt, from}
-use Rattle.field_checks.specs.Check.{TextPlace, nowhere, placed, Memory, poolKept, zoneKept, textKept, aliasesKept, judged, job, concludes}
+use Rattle.field_checks.specs.Check.{TextPlace, nowhere, placed, Memory, poolKept, zoneKept, textKept, aliasesKept, judged, job, concludes, locationsKept}
 use Rattle.field_checks.specs.declared.Kept.{Kept}
 use Rattle.field_checks.specs.declared.Cursor.{Cursor}
 use Rattle.field_checks.specs.declared.Taken.{Taken}
@@ -67,6 +68,9 @@ pub record TookText (s : List ℕ) (k : Kept) (a e : ℕ) (r : Taken) : Type 0 w
 
 pub record TookAliases (s : List ℕ) (k : Kept) (a e : ℕ) (ix : List ℕ) (r : Taken) : Type 0 where
   pub means : (od : List ℕ) (y : Memory) → Stands s k od y → Says s ix od (aliasesKept y (part s a e)) r
+
+pub record TookLocations (s : List ℕ) (k : Kept) (a e : ℕ) (field : LocationField) (r : Taken) : Type 0 where
+  pub means : (ix od : List ℕ) (y : Memory) → Indexed s k ix → Stands s k od y → Says s ix od (locationsKept y field (part s a e)) r
 
 pub record TookField (s : List ℕ) (k : Kept) (i a e : ℕ) (ix od ix′ od′ : List ℕ) (r : Taken) : Type 0 where
   pub means : (y : Memory) → Stands s k od y → (i ≡ 0 → y .ids ≡ []) → Says s ix′ od′ (judged y i a (part s a e)) r

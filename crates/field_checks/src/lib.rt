@@ -1,5 +1,7 @@
 // What the whole-file check takes of each field, and what it comes to at the end.
 use aliases::Verdict as AliasVerdict;
+use locations::FieldVerdict;
+use locations::LocationField;
 use pool::Checked;
 use strings::Holder;
 use texts::Text;
@@ -9,7 +11,7 @@ ghost use Prim.Native.Nat.{_≤_};
 ghost use lib.ListN.{length};
 ghost use Rattle.field_checks.specs.Check.{concluded};
 ghost use Rattle.field_checks.specs.VersionPart.{versionPart};
-ghost use Rattle.field_checks.specs.Cursor.{textOf, Indexed, Ordered, TookPool, TookZone, TookText, TookAliases, TookField};
+ghost use Rattle.field_checks.specs.Cursor.{textOf, Indexed, Ordered, TookPool, TookZone, TookText, TookAliases, TookField, TookLocations};
 
 // What is remembered of the fields seen, beside the arrays: where the pool's data starts and ends and how many strings it holds; how many
 // zones there were; where the bytes of the version text start, 0 where there was none, and how many they are. Every field here and in Cursor is as wide as a place, since
@@ -156,6 +158,18 @@ fn take_aliases(s: &[u8], k: Kept, a: usize, e: usize, index: &[u32; 8192]) -> T
     }
 }
 
+// Field 6 or 7, whose data go from a to e.
+fn take_locations(s: &[u8], k: Kept, a: usize, e: usize, field: LocationField) -> Taken
+    requires { ⌜ (a ≤ e) × (e ≤ length (now s)) ⌝ }
+    ensures { λ r. ⌜ TookLocations (now (s .entry)) k a e field r ⌝ }
+{
+    let v = locations::check(&s[a..e], field, k.count as u64);
+    match v {
+        FieldVerdict::Refused(n) => Taken::Refused(n),
+        FieldVerdict::Good => Taken::Keep(k),
+    }
+}
+
 // The whole field with the ID i, whose data go from a to e.
 pub fn take_field(
     s: &[u8],
@@ -180,6 +194,12 @@ pub fn take_field(
     }
     if i == 3 {
         return take_aliases(s, k, a, e, &*index);
+    }
+    if i == 6 {
+        return take_locations(s, k, a, e, LocationField::Zone);
+    }
+    if i == 7 {
+        return take_locations(s, k, a, e, LocationField::Zone1970);
     }
     Taken::Keep(k)
 }

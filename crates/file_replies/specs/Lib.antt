@@ -1,2 +1,3 @@
 pub mod Functions
+pub mod Locations
 pub mod Small

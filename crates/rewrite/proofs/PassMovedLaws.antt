@@ -1,5 +1,5 @@
 -- The check over the fields of the preferred file: it keeps what it keeps of the file's. Assumes nothing.
-use mathlib.Core.Path.{_≡_, refl, ap, _∙_, subst⁻¹}
+use mathlib.Core.Path.{_≡_, refl, sym, ap, _∙_, subst⁻¹}
 use mathlib.Core.Bool.{Bool, true, false}
 use mathlib.Core.List.{List, [], _∷_}
 use Prim.Native.Nat.{ℕ, _+_}
@@ -26,15 +26,22 @@ use Rattle.base.specs.All.{All, all-none, all-also}
 use Rattle.base.proofs.AllLaws.{all-head, all-tail}
 use Rattle.frames.proofs.ChainLaws.{listing-chain, chain-fields}
 use Rattle.frames.proofs.PassLaws.{pass-head}
+use Rattle.field_checks.specs.Check.{textIn, textKept, aliasesIn, aliasesKept, judged, job, WellFormed, filePool, locationsIn, locationsKept}
 use Rattle.field_checks.specs.Check.{placed, Memory, start, withPool, withId, withText, poolIn, poolKept, newId, zoneIn, zoneKept}
-use Rattle.field_checks.specs.Check.{textIn, textKept, aliasesIn, aliasesKept, judged, job, WellFormed, filePool}
-use Rattle.field_checks.specs.Check.{Kind, poolField, zoneField, textField, aliasField, otherField, kindOf, contentBy}
+use Rattle.field_checks.specs.Check.{Kind, poolField, zoneField, textField, aliasField, otherField, kindOf, contentBy, locationField}
+use Rattle.locations.specs.Content.{Location, idOf, parseLocations}
+use Rattle.locations.specs.declared.LocationField.{LocationField}
+use Rattle.locations.specs.declared.LocationField.the-variants.{Zone as Locations, Zone1970 as Locations1970}
 use Rattle.field_checks.proofs.KindLaws.{KindId, kind-id}
 use Rattle.field_checks.specs.File.{AsZone}
 use Rattle.field_checks.proofs.ZoneIdLaws.{zones-read}
 use Rattle.rewrite.proofs.KeptLaws.{preferredData, FieldKept, IsZone, field-kept, field-bytes}
 use Rattle.rewrite.proofs.MovedLaws.{movedTo, moved}
 use Rattle.base.proofs.Tests.{clash}
+
+not-one : (field : LocationField) → idOf field ≡ 1 → ⊥
+not-one Locations e = omega arith
+not-one Locations1970 e = omega arith
 
 no-keep : {G : Type 0} {n : ℕ} {m : Memory} → _≡_ {A = Content Memory ⊥} (bad n) (keep m) → G
 no-keep e = clash cc
@@ -111,6 +118,17 @@ module _ (x x′ y : Memory) (s : SameMemory x y) where
       go (faulty n) h = no-keep h
       go (got es r) h = let w : x ≡ x′ = cc in (y, refl, rw w at s)
 
+  locations-moved : (field : LocationField) (d : List ℕ) → locationsKept x field d ≡ keep x′ → Beside x′ (locationsKept y field d)
+  unfolding locationsKept
+  locations-moved field d e = go (parseLocations field (length (x .pool)) d) refl e
+    where
+      go : (p : Parsed (List Location)) → parseLocations field (length (x .pool)) d ≡ p → locationsIn x p ≡ keep x′ → Beside x′ (locationsIn y (parseLocations field (length (y .pool)) d))
+      go (faulty n) q h = no-keep h
+      go (got ls r) q h =
+          let z : x ≡ x′ = cc in
+          let w : parseLocations field (length (y .pool)) d ≡ got ls r = ap (λ (ts : List (List ℕ)). parseLocations field (length ts) d) (s .pool) ∙ q in
+          rw w (y, refl, rw z at s)
+
   field-moved : (g : Field) (at : ℕ) → FieldKept g → job .content x g ≡ keep x′ → Beside x′ (job .content y (movedTo at g))
   unfolding judged poolKept
   field-moved g at k e = go (kindOf (g .id)) (kind-id (g .id)) e
@@ -127,6 +145,9 @@ module _ (x x′ y : Memory) (s : SameMemory x y) where
       go aliasField i h =
           let c : preferredData (g .id) (g .body) ≡ g .body = k .copied (λ j. omega arith) in
           rw c (aliases-moved (g .body) h)
+      go (locationField field) i h =
+          let c : preferredData (g .id) (g .body) ≡ g .body = k .copied (λ j. not-one field (sym i ∙ j)) in
+          rw c (locations-moved field (g .body) h)
       go otherField i h = let w : x ≡ x′ = cc in (y, refl, rw w at s)
 
 -- THE CHECK KEEPS THE MOVED FIELDS

@@ -1,5 +1,6 @@
 //! The files that are measured.
 
+use second_reader::codes::encode_count;
 use second_reader::codes::read_transition;
 use second_reader::file::read_file;
 use second_reader::generate::plan::Kind;
@@ -20,6 +21,7 @@ pub fn content(file: &[u8]) -> Result<FileContent, Refusal> {
         version: contents.version_text.map(|part| file[part].to_vec()),
         aliases: contents.aliases,
         others: others.map(|field| (field.id, field.data.to_vec())).collect(),
+        ..FileContent::default()
     })
 }
 
@@ -64,6 +66,8 @@ pub struct Grown {
     pub local: Option<i64>,
     /// An alias to ask, where that is measured.
     pub alias: Option<Vec<u8>>,
+    /// The number of the last location of fields 6 and 7, where that is measured.
+    pub located: Option<u64>,
 }
 
 /// Makes a file whose length grows with a factor of 1, 2, 4 or 8, up to the largest sizes.
@@ -75,7 +79,7 @@ pub struct Growing {
 }
 
 /// Files on which a reader with a cost that isn't linear would show it.
-pub const GROWING: [Growing; 18] = [
+pub const GROWING: [Growing; 20] = [
     Growing {
         name: "1,024 to 8,192 zones, IDs of 503 bytes that differ at the end",
         make: |factor| fixed_zones(1024 * factor, |number| format!("{}{number:04}", "x".repeat(499))),
@@ -173,18 +177,7 @@ pub const GROWING: [Growing; 18] = [
     },
     Growing {
         name: "261,000 to 2,088,000 fields of no data",
-        make: |factor| {
-            let others = vec![(8, Vec::new()); 261_000 * factor];
-            let pool = names(1).into_iter().map(String::into_bytes).collect();
-            let content = FileContent { pool, zones: vec![fixed(0)], version: None, aliases: None, others };
-            Grown {
-                file: preferred(&content),
-                last: content.pool[0].clone(),
-                absent: b"Zone".to_vec(),
-                local: None,
-                alias: None,
-            }
-        },
+        make: |factor| with_fields(vec![(8, Vec::new()); 261_000 * factor]),
         well_formed: true,
     },
     Growing {
@@ -202,7 +195,42 @@ pub const GROWING: [Growing; 18] = [
         make: |factor| grown(vec!["x".repeat(1024)], vec![fixed(0); 87_000 * factor], preferred),
         well_formed: false,
     },
+    Growing {
+        name: "30,000 to 240,000 locations in field 6 and as many in field 7",
+        make: |factor| located(30_000 * factor),
+        well_formed: true,
+    },
+    Growing {
+        name: "a location of 2,147,483,647 countries, of which 261,000 to 2,088,000 are there",
+        make: |factor| {
+            // One location at 0 degrees, and pairs of the first pool string until the data end.
+            let data = [&[1, 0, 0, 0xfe, 0xff, 0xff, 0xff, 0x0f][..], &vec![0; 2 * 261_000 * factor]].concat();
+            with_fields(vec![(7, data)])
+        },
+        well_formed: false,
+    },
 ];
+
+/// Locations at 0 degrees, of one country each, whose texts are the pool's only string.
+fn located(count: usize) -> Grown {
+    let field = |location: &[u8]| [encode_count(count as i64).expect("a count"), location.repeat(count)].concat();
+    let fields = vec![(6, field(&[0; 6])), (7, field(&[0, 0, 2, 0, 0, 0, 0]))];
+    Grown { located: Some(count as u64 - 1), ..with_fields(fields) }
+}
+
+/// One zone, and these fields behind it.
+fn with_fields(others: Vec<(u8, Vec<u8>)>) -> Grown {
+    let pool = names(1).into_iter().map(String::into_bytes).collect();
+    let content = FileContent { pool, zones: vec![fixed(0)], others, ..FileContent::default() };
+    Grown {
+        file: preferred(&content),
+        last: content.pool[0].clone(),
+        absent: b"Zone".to_vec(),
+        local: None,
+        alias: None,
+        located: None,
+    }
+}
 
 fn names(count: usize) -> Vec<String> {
     (0..count).map(|number| format!("Area/City_{number:04}")).collect()
@@ -246,9 +274,15 @@ fn aliased(count: usize, zones: usize, id: impl Fn(usize) -> String) -> Grown {
     };
     let aliases = Some((zones..count).map(|number| (number, target(number))).collect());
     let (last, alias) = (pool[zones - 1].clone(), pool[count - count % 8 - 1].clone());
-    let content =
-        FileContent { pool, zones: (0..zones).map(fixed).collect(), version: None, aliases, others: Vec::new() };
-    Grown { file: preferred(&content), last, absent: b"No/Such_Zone".to_vec(), local: None, alias: Some(alias) }
+    let content = FileContent { pool, zones: (0..zones).map(fixed).collect(), aliases, ..FileContent::default() };
+    Grown {
+        file: preferred(&content),
+        last,
+        absent: b"No/Such_Zone".to_vec(),
+        local: None,
+        alias: Some(alias),
+        located: None,
+    }
 }
 
 fn grown(pool: Vec<String>, zones: Vec<Zone>, write: fn(&FileContent) -> Vec<u8>) -> Grown {
@@ -259,8 +293,8 @@ fn grown(pool: Vec<String>, zones: Vec<Zone>, write: fn(&FileContent) -> Vec<u8>
     if let Some(byte) = absent.last_mut() {
         *byte = b'?';
     }
-    let file = write(&FileContent { pool, zones, version: None, aliases: None, others: Vec::new() });
-    Grown { file, last, absent, local: None, alias: None }
+    let file = write(&FileContent { pool, zones, ..FileContent::default() });
+    Grown { file, last, absent, local: None, alias: None, located: None }
 }
 
 fn fixed(id: usize) -> Zone {

@@ -61,6 +61,10 @@ fn realistic() -> Result<(), String> {
         let wide = padded(&file).map_err(|refusal| format!("{path}: {refusal}"))?;
         let mut rows = vec![(&file, "check".to_string(), Work::Check)];
         rows.extend(questions(&content).into_iter().map(|(what, work)| (&file, what, work)));
+        for field in [6, 7] {
+            rows.push((&file, format!("location 0 of field {field}"), Work::Location { field, number: 0 }));
+            rows.push((&file, format!("all countries of field {field}"), Work::Countries { field }));
+        }
         rows.push((&file, "rewrite, preferred already".to_string(), Work::Rewrite));
         rows.push((&long, "rewrite, every instant in ticks".to_string(), Work::Rewrite));
         rows.push((&wide, "check, every size in five bytes".to_string(), Work::Check));
@@ -146,8 +150,15 @@ fn growing() -> Result<(), String> {
                 rows.push(("named question, alias", [one, two, four, eight]));
                 rows.push(("named question, absent name", sizes.each_ref().map(unnamed)));
             }
+            if sizes.iter().all(|grown| grown.located.is_some()) {
+                let location = |grown: &Grown| Work::Location { field: 7, number: grown.located.unwrap_or(0) };
+                rows.push(("location, last of field 7", sizes.each_ref().map(location)));
+            }
             rows.push(("check", [(); 4].map(|()| Work::Check)));
             rows.push(("rewrite", [(); 4].map(|()| Work::Rewrite)));
+        }
+        if !kind.well_formed {
+            rows.push(("check", [(); 4].map(|()| Work::Check)));
         }
         for (what, works) in rows {
             let mut pieces = Vec::new();

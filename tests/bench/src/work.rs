@@ -1,15 +1,33 @@
-//! What is measured: a check, a question by ID or by name, a local time or a rewrite, by the library and by the peer.
+//! What is measured: a check, a question by ID or by name, a local time, a location, all countries of a field or a rewrite, by the library and by the peer.
 
 use crate::measure::Piece;
-use nzd::{Bound, Mark};
+use nzd::{Bound, LocationField, Mark};
 use std::hint::black_box;
 
 /// One kind of work on a file.
 pub enum Work {
     Check,
-    Ask { id: Vec<u8>, ticks: i64 },
-    AskNamed { name: Vec<u8>, ticks: i64 },
-    MapLocal { id: Vec<u8>, local: i64 },
+    Ask {
+        id: Vec<u8>,
+        ticks: i64,
+    },
+    AskNamed {
+        name: Vec<u8>,
+        ticks: i64,
+    },
+    MapLocal {
+        id: Vec<u8>,
+        local: i64,
+    },
+    /// A location by number, in field 6 or 7.
+    Location {
+        field: u8,
+        number: u64,
+    },
+    /// All countries of all locations of a field.
+    Countries {
+        field: u8,
+    },
     Rewrite,
 }
 
@@ -67,6 +85,8 @@ impl Work {
                     .map_err(peer_pair);
                 ours == theirs
             }
+            Work::Location { field, number } => ours_at(file, *field, *number) == theirs_at(file, *field, *number),
+            Work::Countries { field } => countries(file, *field) == peer_countries(file, *field),
             Work::Rewrite => {
                 let (mut ours, mut theirs) = (vec![0; file.len()], vec![0; file.len()]);
                 let given = nzd::rewrite(file, &mut ours).map_err(pair);
@@ -91,6 +111,14 @@ impl Work {
                 piece(move || nzd::map_local(black_box(file), black_box(id), *local)),
                 piece(move || peer::map_local(black_box(file), black_box(id), *local)),
             ],
+            Work::Location { field, number } => [
+                piece(move || nzd::location(black_box(file), field_of(*field), *number)),
+                piece(move || peer::location(black_box(file), *field, *number)),
+            ],
+            Work::Countries { field } => [
+                piece(move || countries(black_box(file), *field)),
+                piece(move || peer_countries(black_box(file), *field)),
+            ],
             Work::Rewrite => {
                 let (mut ours, mut theirs) = (vec![0; file.len()], vec![0; file.len()]);
                 [
@@ -100,6 +128,41 @@ impl Work {
             }
         }
     }
+}
+
+fn field_of(field: u8) -> LocationField {
+    if field == 6 {
+        LocationField::Zone
+    } else {
+        LocationField::Zone1970
+    }
+}
+
+/// What a location gives: number and place of a refusal, or the bits of its pin, its texts and its countries.
+type At<'a> = Result<([u64; 2], &'a [u8], &'a [u8], Vec<(&'a [u8], &'a [u8])>), (u8, usize)>;
+
+fn ours_at(file: &[u8], field: u8, number: u64) -> At<'_> {
+    let found = nzd::location(file, field_of(field), number).map_err(pair)?;
+    let pin = [found.pin.latitude.to_bits(), found.pin.longitude.to_bits()];
+    let countries = found.countries.map(|country| (country.name.as_bytes(), country.code.as_bytes())).collect();
+    Ok((pin, found.zone.as_bytes(), found.comment.as_bytes(), countries))
+}
+
+fn theirs_at(file: &[u8], field: u8, number: u64) -> At<'_> {
+    let found = peer::location(file, field, number).map_err(peer_pair)?;
+    let pin = [found.latitude.to_bits(), found.longitude.to_bits()];
+    Ok((pin, found.zone, found.comment, found.countries.collect()))
+}
+
+/// How many countries the locations of a field have, and how many bytes their texts.
+fn countries(file: &[u8], field: u8) -> (usize, usize) {
+    let all = nzd::locations(file, field_of(field)).filter_map(Result::ok).flat_map(|found| found.countries);
+    all.fold((0, 0), |(number, bytes), country| (number + 1, bytes + country.name.len() + country.code.len()))
+}
+
+fn peer_countries(file: &[u8], field: u8) -> (usize, usize) {
+    let all = (0..).map_while(|number| peer::location(file, field, number).ok()).flat_map(|found| found.countries);
+    all.fold((0, 0), |(number, bytes), (name, code)| (number + 1, bytes + name.len() + code.len()))
 }
 
 fn piece<'a, T>(mut work: impl FnMut() -> T + 'a) -> Piece<'a> {

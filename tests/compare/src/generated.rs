@@ -2,6 +2,7 @@
 
 use crate::cases::padded;
 use crate::local::{map, times};
+use crate::locations;
 use crate::questions::{ask, other_ids, prefixes, Question};
 use crate::tally::{Difference, Tally};
 use crate::whole::{check, whole};
@@ -31,6 +32,8 @@ pub fn round(tally: &mut Tally, seed: u64, number: u64) -> Result<(), Difference
     let twice = damaged_twice(&good, &mut prng);
     for file in [good.bytes(), bad, twice, any_bytes(&mut prng)] {
         whole(tally, &file)?;
+        locations::all(tally, &file)?;
+        locations::any_view(&file, &mut prng)?;
         let asked = questions(&content, &mut prng);
         for (id, ticks) in &asked {
             ask(tally, &file, id, *ticks)?;
@@ -45,6 +48,7 @@ pub fn round(tally: &mut Tally, seed: u64, number: u64) -> Result<(), Difference
             let (id, local) = prng.pick(&locals).clone();
             for length in 0..file.len() {
                 check(tally, &file[..length])?;
+                locations::some(tally, &file[..length], &mut prng)?;
                 map(tally, &file[..length], &id, local)?;
             }
         }

@@ -12,6 +12,7 @@ mod codes;
 mod generated;
 mod lent;
 mod local;
+mod locations;
 mod published;
 mod questions;
 mod sweeps;

@@ -1,6 +1,7 @@
 //! Files that were made elsewhere: the realistic ones, and any that is named.
 
 use crate::local::{map, times};
+use crate::locations;
 use crate::questions::{ask, other_ids, prefixes, Question};
 use crate::tally::{Difference, Tally};
 use crate::whole::{check, whole};
@@ -15,6 +16,10 @@ const PREFIXES: usize = 600;
 /// Compares a file as a whole, its zones at and around every bound, and its prefixes.
 pub fn file(tally: &mut Tally, file: &[u8], prng: &mut Prng) -> Result<(), Difference> {
     whole(tally, file)?;
+    locations::all(tally, file)?;
+    for _ in 0..1000 {
+        locations::any_view(file, prng)?;
+    }
     let mut asked: Vec<Question> = vec![(b"No/Such_Zone".to_vec(), 0), (b"UTC".to_vec(), LAST + 1)];
     // A file that is refused is good up to the field at fault.
     let good = match second_reader::check(file) {
@@ -84,6 +89,6 @@ fn alone(file: &[u8], contents: &Contents, zone: &Zone) -> Vec<u8> {
             }
         }
     }
-    let content = FileContent { pool, zones: vec![zone], version: None, aliases: None, others: Vec::new() };
+    let content = FileContent { pool, zones: vec![zone], ..FileContent::default() };
     plan(&content, &mut Forms::Preferred).bytes()
 }

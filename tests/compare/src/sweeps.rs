@@ -2,6 +2,7 @@
 
 use crate::cases::{count, field, hex, zone_file};
 use crate::local::map;
+use crate::locations::every_second;
 use crate::questions::ask;
 use crate::tally::{Difference, Tally};
 use crate::whole::{check, whole};
@@ -18,7 +19,8 @@ pub fn all(tally: &mut Tally) -> Result<(), Difference> {
     field_ids(tally)?;
     flags(tally)?;
     standard_offsets(tally)?;
-    rules(tally)
+    rules(tally)?;
+    every_second(tally)
 }
 
 /// Every two IDs in a row, behind field 0.

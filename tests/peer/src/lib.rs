@@ -11,6 +11,7 @@ mod codes;
 mod fields;
 mod ids;
 mod local;
+mod locations;
 mod pool;
 mod rewrite;
 mod tail;
@@ -19,6 +20,7 @@ mod zone;
 
 pub use aliases::ask_named;
 pub use local::LocalInstants;
+pub use locations::{location, Countries, Location};
 pub use rewrite::rewrite;
 pub use whole::{check, version_text};
 
@@ -55,6 +57,7 @@ mod number {
     pub const NO_INSTANT: u8 = 17;
     pub const TOO_MANY_STEPS: u8 = 18;
     pub const SECOND_ALIAS: u8 = 19;
+    pub const BAD_LOCATION: u8 = 20;
 }
 
 /// The first instant of year 1.

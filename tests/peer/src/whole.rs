@@ -4,6 +4,7 @@ use crate::aliases::read_aliases;
 use crate::codes::Cursor;
 use crate::fields::{Field, Fields};
 use crate::ids::Ids;
+use crate::locations::check_locations;
 use crate::number::{CUT_SHORT, FIRST_FIELD, NOT_FOUND, SECOND_ZONE};
 use crate::pool::Pool;
 use crate::zone::read_rest;
@@ -61,6 +62,7 @@ pub fn walk<'a>(
             3 => {
                 read_aliases(field.data, &pool).map_err(refuse)?;
             }
+            6 | 7 => check_locations(field.data, id == 7, pool.count()).map_err(refuse)?,
             _ => {}
         }
         read(&field, None).map_err(refuse)?;

@@ -3,9 +3,11 @@
 use second_reader::generate::{
     damaged, instants, local_times, names, plan, random_content, Damage, FileContent, Forms, Prng, Size,
 };
+use second_reader::locations::LocationField;
 use second_reader::transition::{Transition, FIRST, LAST};
 use second_reader::{Mark, Refusal};
 use std::collections::BTreeSet;
+use std::ops::Range;
 
 type Pair = (u8, usize);
 
@@ -25,17 +27,18 @@ fn ticks_of(bound: Transition) -> i64 {
     }
 }
 
-/// The numbers that came up, by the whole-file functions and by questions.
+/// The numbers that came up, by the whole-file functions, by questions and by locations.
 #[derive(Default)]
 struct Seen {
     whole: BTreeSet<u8>,
     asked: BTreeSet<u8>,
     named: BTreeSet<u8>,
     local: BTreeSet<u8>,
+    located: BTreeSet<u8>,
 }
 
 /// What an answer of the second reader carries, or its refusal.
-type Said = Result<(i32, i32, i32, std::ops::Range<usize>, i64, i64), Pair>;
+type Said = Result<(i32, i32, i32, Range<usize>, i64, i64), Pair>;
 
 fn expected(answer: Result<second_reader::Answer, Refusal>) -> Said {
     answer
@@ -120,6 +123,31 @@ fn same_whole(file: &[u8], seen: &mut Seen) {
     }
 }
 
+/// Every location of fields 6 and 7, and one past the last.
+fn same_locations(file: &[u8], seen: &mut Seen) {
+    for field in [LocationField::Zone, LocationField::Zone1970] {
+        for number in 0.. {
+            let expected = second_reader::locations::location(file, field, number).map_err(pair).map(|found| {
+                let text = |part: Range<usize>| &file[part];
+                let countries: Vec<_> =
+                    found.countries.into_iter().map(|(name, code)| (text(name), text(code))).collect();
+                let pin = [found.latitude.to_bits(), found.longitude.to_bits()];
+                (pin, text(found.zone), text(found.comment), countries)
+            });
+            let given = peer::location(file, field.id(), number).map_err(peer_pair).map(|found| {
+                let pin = [found.latitude.to_bits(), found.longitude.to_bits()];
+                (pin, found.zone, found.comment, found.countries.collect::<Vec<_>>())
+            });
+            let refusal = expected.as_ref().err().map_or(0, |refusal| refusal.0);
+            seen.located.insert(refusal);
+            assert_eq!(given, expected, "location {number} of {field:?} in {:02x?}", &file[..file.len().min(2000)]);
+            if refusal != 0 {
+                break;
+            }
+        }
+    }
+}
+
 fn questions(content: &FileContent, prng: &mut Prng, most: usize) -> Vec<(Vec<u8>, i64)> {
     let mut asked =
         vec![(b"No/Such_Zone".to_vec(), 0), (Vec::new(), LAST), (Vec::new(), LAST + 1), (vec![], FIRST - 1)];
@@ -147,6 +175,7 @@ fn generated_files() {
         let bad = damaged(&whole, kind, &mut prng);
         for file in [&good, &bad] {
             same_whole(file, &mut seen);
+            same_locations(file, &mut seen);
             for (id, ticks) in questions(&content, &mut prng, 40) {
                 same_question(file, &id, ticks, &mut seen);
             }
@@ -156,7 +185,8 @@ fn generated_files() {
         }
     }
     assert_eq!(seen.local, BTreeSet::from([0, 2, 3, 4, 5, 6, 7, 8, 9, 10, 11, 12, 17]));
-    assert_eq!(seen.whole, BTreeSet::from([0, 2, 3, 4, 5, 6, 7, 8, 9, 10, 11, 12, 13, 15, 19]));
+    assert_eq!(seen.whole, BTreeSet::from([0, 2, 3, 4, 5, 6, 7, 8, 9, 10, 11, 12, 13, 15, 19, 20]));
+    assert_eq!(seen.located, BTreeSet::from([0, 2, 3, 4, 5, 6, 7, 8, 9, 10, 11, 12, 13, 19, 20]));
     assert_eq!(seen.asked, BTreeSet::from([0, 1, 2, 3, 4, 5, 6, 7, 8, 9, 10, 11, 12, 14]));
     assert_eq!(seen.named, BTreeSet::from([0, 1, 2, 3, 4, 5, 6, 7, 8, 9, 10, 11, 12, 14, 18, 19]));
 }

@@ -179,7 +179,7 @@ fn bytes(word: &str) -> Result<Vec<u8>, String> {
     Ok(digits.chunks(2).map(|pair| (pair[0] * 16 + pair[1]) as u8).collect())
 }
 
-fn to_hex(bytes: &[u8]) -> String {
+pub(crate) fn to_hex(bytes: &[u8]) -> String {
     match bytes {
         [] => "-".to_string(),
         _ => bytes.iter().map(|byte| format!("{byte:02x}")).collect(),

@@ -3,10 +3,12 @@
 use crate::cases;
 use crate::Done;
 use second_reader::generate;
-use second_reader::{ask, ask_named, file, lines, map_local, rewrite, version_text, Answer, Mark, Refusal};
+use second_reader::{ask, ask_named, file, lines, location, map_local, rewrite, version_text};
+use second_reader::{Answer, LocationField, Mark, Pin, Refusal};
 use std::ffi::{OsStr, OsString};
 use std::fs;
 use std::io::{ErrorKind, Read};
+use std::ops::Range;
 use std::path::Path;
 
 /// Why a command wasn't carried out.
@@ -40,6 +42,15 @@ pub(crate) fn run(arguments: &[OsString]) -> Result<Done, Misuse> {
             let bytes = read(file)?;
             let found = map_local(&bytes, zone.as_encoded_bytes(), number(local)?);
             Ok(done(found.map(|found| format!("{} {} {}", found.count, found.earliest, found.latest).into_bytes())))
+        }
+        (Some("location"), [file, field, number_]) => {
+            let field = match field.to_str() {
+                Some("6") => LocationField::Zone,
+                Some("7") => LocationField::Zone1970,
+                _ => return Err(Misuse::Words("the field is neither 6 nor 7".to_string())),
+            };
+            let bytes = read(file)?;
+            Ok(done(location(&bytes, field, number(number_)?).map(|pin| pin_text(&bytes, &pin))))
         }
         (Some("version"), [file]) => {
             let bytes = read(file)?;
@@ -102,6 +113,15 @@ fn ask_file(question: Question, file: &OsStr, id: &OsStr, ticks: &OsStr, mark: M
         text.extend(&bytes[answer.name]);
         text
     })))
+}
+
+/// Latitude and longitude, zone ID, comment, and how many countries with each name and code.
+fn pin_text(bytes: &[u8], pin: &Pin) -> Vec<u8> {
+    let text = |part: &Range<usize>| format!("{}@{}", cases::to_hex(&bytes[part.clone()]), part.start);
+    let mut words = vec![pin.latitude.to_string(), pin.longitude.to_string(), text(&pin.zone), text(&pin.comment)];
+    words.push(pin.countries.len().to_string());
+    words.extend(pin.countries.iter().flat_map(|(name, code)| [text(name), text(code)]));
+    words.join(" ").into_bytes()
 }
 
 fn rewrite_file(file: &OsStr, out: &OsStr) -> Result<Done, Misuse> {

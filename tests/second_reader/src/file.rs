@@ -3,6 +3,7 @@
 use crate::aliases::{read_aliases, Aliases};
 use crate::codes;
 use crate::data::Data;
+use crate::locations::{read_locations, Location, LocationField};
 use crate::number::{Number, Refusal};
 use crate::pool::{read_pool, Pool};
 use crate::transition::{in_range, Transition};
@@ -17,6 +18,8 @@ pub(crate) const POOL: u8 = 0;
 pub(crate) const ZONE: u8 = 1;
 pub(crate) const VERSION_TEXT: u8 = 2;
 pub(crate) const ALIASES: u8 = 3;
+const LOCATIONS: u8 = 6;
+const LOCATIONS_1970: u8 = 7;
 
 /// "The marked question says \"more may come\" or \"this is all\"."
 #[derive(Clone, Copy, Debug, PartialEq, Eq)]
@@ -136,7 +139,7 @@ impl<'a> Fields<'a> {
 }
 
 /// What a well-formed file holds.
-#[derive(Clone, Debug, PartialEq, Eq)]
+#[derive(Clone, Debug, Default, PartialEq, Eq)]
 pub struct Contents<'a> {
     /// Every field, in file order.
     pub fields: Vec<Field<'a>>,
@@ -148,13 +151,16 @@ pub struct Contents<'a> {
     pub version_text: Option<Range<usize>>,
     /// The pairs of field 3.
     pub aliases: Option<Aliases>,
+    /// The locations of field 6.
+    pub locations: Vec<Location>,
+    /// The locations of field 7.
+    pub locations_1970: Vec<Location>,
 }
 
 /// "checking a whole file": its contents if it is well formed, else the refusal.
 pub fn read_file(bytes: &[u8]) -> Result<Contents<'_>, Refusal> {
     let mut fields = Fields::new(bytes, Mark::ThisIsAll)?;
-    let mut contents =
-        Contents { fields: Vec::new(), pool: Pool::new(), zones: Vec::new(), version_text: None, aliases: None };
+    let mut contents = Contents::default();
     let mut ids = BTreeSet::new();
     while let Some(id) = fields.id()? {
         let field = fields.field(id)?;
@@ -175,6 +181,15 @@ pub fn read_file(bytes: &[u8]) -> Result<Contents<'_>, Refusal> {
             }
             // 02, Ask 5: "The whole-file check now gives 7, 8, 9 and 19 for field 3 too".
             ALIASES => contents.aliases = Some(read_aliases(field.data, bytes, &contents.pool).map_err(refuse)?),
+            // 02, Ask 8: "The whole-file check now reads both fields".
+            LOCATIONS => {
+                let read = read_locations(field.data, contents.pool.len(), LocationField::Zone);
+                contents.locations = read.map_err(refuse)?;
+            }
+            LOCATIONS_1970 => {
+                let read = read_locations(field.data, contents.pool.len(), LocationField::Zone1970);
+                contents.locations_1970 = read.map_err(refuse)?;
+            }
             // "stepped over by their size"
             _ => {}
         }

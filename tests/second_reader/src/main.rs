@@ -14,6 +14,7 @@ usage: second_reader COMMAND ...
   ask FILE ZONE TICKS [part|all]       `0 WALL SAVINGS STANDARD START END NAME`; unmarked is part
   named FILE NAME TICKS part|all       the same for a zone ID or an alias
   local FILE ZONE LOCAL                instants of a local time: `0 COUNT EARLIEST LATEST`, or number and place
+  location FILE 6|7 NUMBER             `0 LATITUDE LONGITUDE ZONE COMMENT COUNTRIES [NAME CODE]...`, texts as HEX@PLACE
   version FILE                         `0 TEXT`, or number and place
   rewrite FILE OUT                     write the preferred file to OUT: `0 LENGTH`, or number and place
   lines FILE                           question lines on standard input, the program's output

@@ -46,6 +46,8 @@ pub enum Number {
     TooManySteps = 18,
     /// 02, Ask 5: "19 at the second of two equal keys"
     SecondKey = 19,
+    /// 02, Ask 8: a latitude, longitude or number of countries out of its range
+    BadLocation = 20,
 }
 
 impl Number {
@@ -68,7 +70,7 @@ impl Number {
             Number::BadData => "an unknown flag, or field data ending early or left over",
             Number::BadInterval => "an interval count, start, end or standard offset is not allowed",
             Number::BadRecurrence => "a recurrence or tail sum is out of range",
-            Number::NotFound => "no such zone, or no version text",
+            Number::NotFound => "no such zone or location, or no version text",
             Number::SecondZone => "a second zone with the same ID",
             Number::InstantRange => "the instant is outside years 1 to 9999",
             Number::OutputShort => "the output is too short",
@@ -76,6 +78,7 @@ impl Number {
             Number::NoInstant => "no instant reads that local time",
             Number::TooManySteps => "the alias leads over more than eight steps",
             Number::SecondKey => "a second alias with the same bytes",
+            Number::BadLocation => "a latitude, longitude or number of countries is out of range",
         }
     }
 

@@ -1,4 +1,4 @@
-use Rattle.field_checks.proofs.TakeLaws.{field-pool, field-zone, field-text, field-aliases, field-other}
+use Rattle.field_checks.proofs.TakeLaws.{field-pool, field-zone, field-text, field-aliases, field-other, field-6, field-7}
 use borrow.Author.Needs.{needs}
 use Rattle.field_checks.proofs.take_field.Statement.{statement}
 use Rattle.field_checks.proofs.take_field.Tie as tie
@@ -16,7 +16,20 @@ returns-4 : tie.Need-returns-4
 returns-4 c = field-aliases _ _ _ _ _ _ _ (c .before .before .before .before .before .if1 .left) (c .before .before .before .before .if2 .left) (c .before .before .before .before .before .before .before .pre .2) (c .before .before .before .if3 .left) _ (c .before .before .if4 .taken) (c .take-aliases .ensures)
 
 returns-5 : tie.Need-returns-5
-returns-5 c = field-other _ _ _ _ _ _ _ (c .before .before .before .if1 .left) (c .before .before .if2 .left) (c .before .before .before .before .before .pre .2) (c .before .if3 .left) (c .if4 .left)
+returns-5 c =
+    field-6 _ _ _ _ _ _ _ (c .before .before .before .before .before .if1 .left) (c .before .before .before .before .if2 .left)
+    (c .before .before .before .before .before .before .before .pre .2) (c .before .before .before .if3 .left) (c .before .before .if4 .left) _ (c .before .if5 .taken) (c .take-locations .ensures)
+
+returns-6 : tie.Need-returns-6
+returns-6 c =
+    field-7 _ _ _ _ _ _ _ (c .before .before .before .before .before .before .if1 .left) (c .before .before .before .before .before .if2 .left)
+    (c .before .before .before .before .before .before .before .before .pre .2) (c .before .before .before .before .if3 .left) (c .before .before .before .if4 .left) (c .before .before .if5 .left) _
+    (c .before .if6 .taken) (c .take-locations2 .ensures)
+
+returns-7 : tie.Need-returns-7
+returns-7 c =
+    field-other _ _ _ _ _ _ _ (c .before .before .before .before .before .if1 .left) (c .before .before .before .before .if2 .left)
+    (c .before .before .before .before .before .before .before .pre .2) (c .before .before .before .if3 .left) (c .before .before .if4 .left) (c .before .if5 .left) (c .if6 .left)
 
 pub take-field-spec : {M : Type 1} → statement M
 take-field-spec =
@@ -30,4 +43,8 @@ take-field-spec =
     returns-3
     (λ c κs. search needs)
     returns-4
-    returns-5)
+    (λ c κs. search needs)
+    returns-5
+    (λ c κs. search needs)
+    returns-6
+    returns-7)

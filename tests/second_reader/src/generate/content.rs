@@ -1,6 +1,7 @@
 //! What a generated file holds, before any byte of it is written.
 
 use crate::generate::prng::Prng;
+use crate::locations::{Location, LocationField, MOST_EAST, MOST_NORTH};
 use crate::pool::MOST_STRINGS;
 use crate::recurrence::{Mode, Rule, Tail};
 use crate::transition::{Transition, FIRST, LAST, TICKS_PER_HOUR, TICKS_PER_MINUTE, TICKS_PER_MS};
@@ -32,7 +33,11 @@ pub struct FileContent {
     pub version: Option<Vec<u8>>,
     /// The pairs of field 3, alias and target, no two aliases with the same bytes.
     pub aliases: Option<Vec<(usize, usize)>>,
-    /// The fields behind these in file order, with their data.
+    /// The locations of field 6.
+    pub locations: Option<Vec<Location>>,
+    /// The locations of field 7.
+    pub locations_1970: Option<Vec<Location>>,
+    /// Other fields, with their data.
     pub others: Vec<(u8, Vec<u8>)>,
 }
 
@@ -62,7 +67,38 @@ pub fn random_content(prng: &mut Prng, size: Size) -> FileContent {
     }
     let version = (!prng.one_in(3)).then(|| random_text(prng, size));
     let aliases = (!prng.one_in(3)).then(|| random_aliases(prng, &pool, &zones, chain));
-    FileContent { pool, zones, version, aliases, others: random_others(prng) }
+    let locations = prng.one_in(2).then(|| random_locations(prng, pool.len(), LocationField::Zone));
+    let locations_1970 = prng.one_in(2).then(|| random_locations(prng, pool.len(), LocationField::Zone1970));
+    FileContent { pool, zones, version, aliases, locations, locations_1970, others: random_others(prng) }
+}
+
+/// Locations with the outermost coordinates among them, and any number of countries in field 7.
+fn random_locations(prng: &mut Prng, pool_count: usize, field: LocationField) -> Vec<Location> {
+    // An empty pool has no text for one.
+    let count = if pool_count == 0 { 0 } else { prng.below(5) };
+    let coordinate = |prng: &mut Prng, most: i32| match prng.below(6) {
+        0 => most,
+        1 => -most,
+        2 => 0,
+        3 => prng.range(-i64::from(most) / 225, i64::from(most) / 225) as i32 * 225,
+        _ => prng.range(-i64::from(most), i64::from(most)) as i32,
+    };
+    (0..count)
+        .map(|_| {
+            let countries = match field {
+                LocationField::Zone => 1,
+                LocationField::Zone1970 if prng.one_in(30) => 100,
+                LocationField::Zone1970 => prng.below(4),
+            };
+            Location {
+                latitude: coordinate(prng, MOST_NORTH),
+                longitude: coordinate(prng, MOST_EAST),
+                countries: (0..countries).map(|_| (prng.below(pool_count), prng.below(pool_count))).collect(),
+                zone: prng.below(pool_count),
+                comment: prng.below(pool_count),
+            }
+        })
+        .collect()
 }
 
 /// Pairs in any order: from anything in the pool to zones, to other aliases and to what is neither, and along the chain.
@@ -133,10 +169,10 @@ fn random_text(prng: &mut Prng, size: Size) -> Vec<u8> {
     text.into_bytes()
 }
 
-/// Fields 4 to 9 and one above; only 8 and up may repeat.
+/// Fields 4, 5, 8, 9 and one above; only 8 and up may repeat.
 fn random_others(prng: &mut Prng) -> Vec<(u8, Vec<u8>)> {
     let mut others = Vec::new();
-    for id in [4, 5, 6, 7, 8, 9, 255] {
+    for id in [4, 5, 8, 9, 255] {
         let most = if id > 7 { 2 } else { 1 };
         let count = if prng.one_in(3) { 1 + prng.below(most) } else { 0 };
         for _ in 0..count {

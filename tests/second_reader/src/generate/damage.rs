@@ -105,9 +105,10 @@ pub fn damaged(whole: &FilePlan, kind: Damage, prng: &mut Prng) -> Vec<u8> {
 
 /// A field, more often one of those whose data is read.
 fn pick_field<'a>(file: &'a mut FilePlan, prng: &mut Prng) -> &'a mut FieldPlan {
-    let read = file.fields.iter().filter(|field| field.id <= 3).count();
-    let among = if prng.one_in(8) { file.fields.len() } else { read };
-    let number = prng.below(among);
+    let read = |field: &FieldPlan| matches!(field.id, 0..=3 | 6 | 7);
+    let any = prng.one_in(8);
+    let among: Vec<usize> = (0..file.fields.len()).filter(|&number| any || read(&file.fields[number])).collect();
+    let number = *prng.pick(&among);
     &mut file.fields[number]
 }
 
@@ -292,6 +293,15 @@ fn broken(code: &Code, pool_count: usize, prng: &mut Prng) -> Vec<u8> {
             let wrong = *prng.pick(&[0, 1, i64::from(pairs) + 1, i64::from(pairs) + 200, i64::from(i32::MAX)]);
             count(wrong)
         }
+        Kind::LocationCount => {
+            let wrong = *prng.pick(&[0, 1, i64::from(code.bytes[0]) + 1, i64::from(i32::MAX)]);
+            count(wrong)
+        }
+        Kind::Coordinate(most) => {
+            let wrong = *prng.pick(&[i64::from(most) + 1, i64::from(i32::MAX)]);
+            signed(if prng.one_in(2) { wrong } else { -wrong })
+        }
+        Kind::CountryCount => signed(*prng.pick(&[-1, -2, i64::from(i32::MIN), i64::from(i32::MAX), 0, 5])),
         Kind::Opaque => flipped([code.bytes.clone(), vec![0]].concat(), prng),
     }
 }

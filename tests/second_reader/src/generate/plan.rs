@@ -3,6 +3,7 @@
 use crate::codes;
 use crate::generate::content::FileContent;
 use crate::generate::prng::Prng;
+use crate::locations::{Location, LocationField, MOST_EAST, MOST_NORTH};
 use crate::recurrence::{Rule, Tail};
 use crate::transition::Transition;
 use crate::zone::{Interval, Rest, Zone};
@@ -41,6 +42,12 @@ pub enum Kind {
     TailSavings(i32),
     /// The count of field 3's pairs.
     PairCount,
+    /// The count of a field's locations.
+    LocationCount,
+    /// A latitude or a longitude, with the most that it may be.
+    Coordinate(i32),
+    /// The number of a location's countries.
+    CountryCount,
     /// The data of fields that aren't read.
     Opaque,
 }
@@ -197,14 +204,42 @@ pub fn plan(content: &FileContent, forms: &mut Forms) -> FilePlan {
         codes.extend(pairs.iter().flat_map(|&(key, target)| [number(key), number(target)]));
         fields.push(FieldPlan { id: 3, size: None, padding: 0, codes });
     }
+    for (field, locations) in
+        [(LocationField::Zone, &content.locations), (LocationField::Zone1970, &content.locations_1970)]
+    {
+        if let Some(locations) = locations {
+            let codes = location_codes(locations, field);
+            fields.push(FieldPlan { id: field.id(), size: None, padding: 0, codes });
+        }
+    }
     for (id, data) in &content.others {
         let codes = vec![Code { kind: Kind::Opaque, bytes: data.clone() }];
         fields.push(FieldPlan { id: *id, size: None, padding: 0, codes });
     }
+    fields.sort_by_key(|field| field.id);
     for field in &mut fields {
         field.padding = forms.padding();
     }
     FilePlan { version: [0; 4], fields }
+}
+
+fn location_codes(locations: &[Location], field: LocationField) -> Vec<Code> {
+    let signed = |kind: Kind, value: i32| {
+        let bytes = codes::encode_signed_count(i64::from(value)).expect(HAS_CODE);
+        Code { kind, bytes }
+    };
+    let number = |number: usize| counted(Kind::PoolNumber, number);
+    let mut codes = vec![counted(Kind::LocationCount, locations.len())];
+    for location in locations {
+        codes.push(signed(Kind::Coordinate(MOST_NORTH), location.latitude));
+        codes.push(signed(Kind::Coordinate(MOST_EAST), location.longitude));
+        if field == LocationField::Zone1970 {
+            codes.push(signed(Kind::CountryCount, location.countries.len() as i32));
+        }
+        codes.extend(location.countries.iter().flat_map(|&(name, code)| [number(name), number(code)]));
+        codes.extend([number(location.zone), number(location.comment)]);
+    }
+    codes
 }
 
 fn zone_codes(zone: &Zone, forms: &mut Forms) -> Vec<Code> {

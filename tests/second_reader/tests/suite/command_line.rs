@@ -49,17 +49,30 @@ fn commands_on_files() {
     prints(&["ask", EUROPE, "Europe/Oslo", "17118468000000000", "part"], "", oslo, 0);
     prints(&["ask", EUROPE, "Europe/Atlantis", "2534023008000000000", "all"], "", "14 0\n", 1);
     fs::write(dir.join("cut"), &fs::read(EUROPE).expect("europe.nzd")[..21_000]).expect("a file");
-    prints(&["ask", &path("cut"), "Europe/Zurich", "0"], "", "1 20753\n", 1);
-    prints(&["ask", &path("cut"), "Europe/Zurich", "0", "part"], "", "1 20753\n", 1);
-    prints(&["ask", &path("cut"), "Europe/Zurich", "0", "all"], "", "2 20753\n", 1);
+    prints(&["ask", &path("cut"), "Europe/Zurich", "0"], "", "1 20805\n", 1);
+    prints(&["ask", &path("cut"), "Europe/Zurich", "0", "part"], "", "1 20805\n", 1);
+    prints(&["ask", &path("cut"), "Europe/Zurich", "0", "all"], "", "2 20805\n", 1);
     let all = concat!(env!("CARGO_MANIFEST_DIR"), "/../data/all.nzd");
     prints(&["named", all, "Europe/Oslo", "17118468000000000", "part"], "", oslo, 0);
     prints(&["named", all, "Asia/Calcutta", "0", "part"], "", "0 19800000 0 19800000 -7641450000000000 end IST\n", 0);
-    prints(&["named", all, "Europe/Atlantis", "0", "part"], "", "12 117449\n", 1);
+    prints(&["named", all, "Europe/Atlantis", "0", "part"], "", "12 125592\n", 1);
     // Oslo, 2024-10-27 02:30 and 2024-03-31 02:30.
     prints(&["local", EUROPE, "Europe/Oslo", "17299962000000000"], "", "0 2 17299890000000000 17299926000000000\n", 0);
     prints(&["local", EUROPE, "Europe/Oslo", "17118522000000000"], "", "17 0\n", 1);
-    prints(&["rewrite", EUROPE, &path("out")], "", "0 21993\n", 0);
+    fs::write(dir.join("pins"), crate::common::bytes_of("V P 0707 01 20 818d4f 00 0200")).expect("a file");
+    prints(&["location", &path("pins"), "7", "0"], "", "20 13\n", 1);
+    fs::write(dir.join("pins"), crate::common::bytes_of("V P 0709 01 20 ff8c4f 02 0001 0001 02 00")).expect("a file");
+    prints(&["location", &path("pins"), "7", "0"], "", "9 13\n", 1);
+    fs::write(dir.join("pins"), crate::common::bytes_of("V P 070c 01 a8aa1a d8dc04 02 0001 0200")).expect("a file");
+    // 59 degrees 55 minutes north, 10 degrees 45 minutes east.
+    let pin = "0 59.916666666666664 10.75 43@12 41@8 1 41@8 42@10\n";
+    prints(&["location", &path("pins"), "7", "0"], "", pin, 0);
+    fs::write(dir.join("pins"), crate::common::bytes_of("V P 0607 01000000010200")).expect("a file");
+    prints(&["location", &path("pins"), "6", "0"], "", "0 0 0 43@12 41@8 1 41@8 42@10\n", 0);
+    prints(&["location", &path("pins"), "6", "18446744073709551615"], "", "12 13\n", 1);
+    prints(&["location", &path("pins"), "7", "0"], "", "12 22\n", 1);
+    prints(&["location", EUROPE, "6", "52"], "", "12 22872\n", 1);
+    prints(&["rewrite", EUROPE, &path("out")], "", "0 23990\n", 0);
     assert!(fs::read(dir.join("out")).ok() == fs::read(EUROPE).ok());
     prints(&["lines", EUROPE], "Europe/Oslo 0\nEurope/Oslo\n", "0 3600000 0 3600000 CET\n16 0\n", 0);
     // A missing file counts as no bytes for the program only.
@@ -148,6 +161,8 @@ fn misuse_is_said_in_words() {
         &["named", EUROPE, "Europe/Oslo", "0", "some"],
         &["local", EUROPE, "Europe/Oslo"],
         &["local", EUROPE, "Europe/Oslo", "x"],
+        &["location", EUROPE, "5", "0"],
+        &["location", EUROPE, "6", "-1"],
         &["generate", "1", "-1", "x"],
         &["code", "read", "count"],
         &["code", "read", "count", "0"],

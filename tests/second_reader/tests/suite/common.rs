@@ -2,7 +2,8 @@
 
 use second_reader::generate::{plan, random_content, FileContent, FilePlan, Forms, Prng, Size};
 use second_reader::transition::{FIRST, LAST};
-use second_reader::{ask, ask_named, ask_plain, check, lines, map_local, rewrite, version_text, Answer, Mark, Refusal};
+use second_reader::{ask, ask_named, ask_plain, check, lines, location, map_local, rewrite, version_text};
+use second_reader::{Answer, LocationField, Mark, Pin, Refusal};
 
 /// Bytes from hex digits; spaces are skipped.
 pub fn hex(text: &str) -> Vec<u8> {
@@ -79,8 +80,20 @@ pub fn generated(seed: u64, size: Size) -> (FileContent, FilePlan, Prng) {
 /// The worked values of the readings on 02: a call, the bytes that it is made on and what it gives, in their words.
 pub fn worked(values: &[(&str, &str, &str)]) {
     for (call, bytes, given) in values {
-        assert_eq!(called(call, &hex(&bytes.replace('V', "00000000"))), *given, "{call} on {bytes}");
+        assert_eq!(called(call, &bytes_of(bytes)), *given, "{call} on {bytes}");
     }
+}
+
+/// Bytes in the words of the readings: `V` is the version, `P` a pool of A, B and C (the next field stands at 13), and `A` the
+/// zone A, fixed, UTC, named A (the next field stands at 19).
+pub fn bytes_of(words: &str) -> Vec<u8> {
+    let word = |word: &str| match word {
+        "V" => hex("00000000"),
+        "P" => hex("0007 03014101420143"),
+        "A" => hex("0104 00013000"),
+        other => hex(other),
+    };
+    words.split_whitespace().flat_map(word).collect()
 }
 
 /// What a call gives: "a refusal is \"number place\"", a good check is "0", a rewriting "0" and its bytes.
@@ -115,6 +128,10 @@ fn called(call: &str, file: &[u8]) -> String {
         ["wall", id, local] => shown(map_local(file, named_bytes(id), ticks_of(local)), |found| {
             format!("{} {} {}", found.count, found.earliest, found.latest)
         }),
+        ["location", field, number] => {
+            let field = if *field == "6" { LocationField::Zone } else { LocationField::Zone1970 };
+            shown(location(file, field, number.parse().expect("a number")), |pin| pin_text(file, &pin))
+        }
         _ => panic!("{call} is no call"),
     }
 }
@@ -129,6 +146,14 @@ fn answer_text(file: &[u8], answer: &Answer) -> String {
     let place = answer.name.start;
     let Answer { wall, savings, standard, start, end, .. } = answer;
     format!("{wall} {savings} {standard} {name}@{place} {start} {end}")
+}
+
+/// Latitude, longitude, zone ID, comment, and each country's name and code.
+fn pin_text(file: &[u8], pin: &Pin) -> String {
+    let text = |part: &std::ops::Range<usize>| String::from_utf8_lossy(&file[part.clone()]).to_string();
+    let mut words = vec![pin.latitude.to_string(), pin.longitude.to_string(), text(&pin.zone), text(&pin.comment)];
+    words.extend(pin.countries.iter().map(|(name, code)| format!("{}/{}", text(name), text(code))));
+    words.join(" ")
 }
 
 fn to_hex(bytes: &[u8]) -> String {

@@ -119,6 +119,15 @@ fn pool_shapes(seen: &mut Seen, content: &FileContent) {
     note(seen, content.zones.is_empty(), "no zone");
     note(seen, content.zones.iter().any(|zone| content.id(zone).is_empty()), "empty ID");
     note(seen, content.version.is_none(), "no version text");
+    for location in content.locations.iter().chain(&content.locations_1970).flatten() {
+        note(seen, location.latitude.abs() == 324_000, "a pole");
+        note(seen, location.longitude.abs() == 648_000, "the date line");
+        note(seen, location.latitude < 0 && location.longitude < 0, "south and west");
+        note(seen, location.countries.is_empty(), "no country");
+        note(seen, location.countries.len() > 1, "some countries");
+    }
+    note(seen, content.locations.as_ref().is_some_and(Vec::is_empty), "field 6 without locations");
+    note(seen, content.locations_1970.as_ref().is_some_and(Vec::is_empty), "field 7 without locations");
     let Some(pairs) = &content.aliases else {
         return note(seen, true, "no aliases");
     };
@@ -181,6 +190,13 @@ fn every_shape_is_generated() {
         "no zone",
         "empty ID",
         "no version text",
+        "a pole",
+        "the date line",
+        "south and west",
+        "no country",
+        "some countries",
+        "field 6 without locations",
+        "field 7 without locations",
         "no aliases",
         "aliases without pairs",
         "an alias of a zone",
@@ -218,6 +234,7 @@ fn every_number_is_reached_by_damage() {
     let mut asked = BTreeSet::new();
     let mut behind_pool = BTreeSet::new();
     let mut in_aliases = BTreeSet::new();
+    let mut in_locations = [BTreeSet::new(), BTreeSet::new()];
     for seed in 0..4000 {
         let (content, whole, mut prng) = generated(seed, Size::Small);
         let kind = *prng.pick(&Damage::ALL);
@@ -228,9 +245,12 @@ fn every_number_is_reached_by_damage() {
         if place > 4 {
             behind_pool.insert(number);
         }
-        if number > 0 && file.get(place as usize) == Some(&3) && place > 4 {
-            in_aliases.insert(number);
-        }
+        match file.get(place as usize) {
+            Some(3) if number > 0 && place > 4 => in_aliases.insert(number),
+            Some(6) if number > 0 && place > 4 => in_locations[0].insert(number),
+            Some(7) if number > 0 && place > 4 => in_locations[1].insert(number),
+            _ => false,
+        };
         asked.insert(part(&file).0);
         for zone in &content.zones {
             for mark in [Mark::MoreMayCome, Mark::ThisIsAll] {
@@ -243,9 +263,11 @@ fn every_number_is_reached_by_damage() {
             }
         }
     }
-    assert_eq!(checked, BTreeSet::from([0, 2, 3, 4, 5, 6, 7, 8, 9, 10, 11, 13, 19]));
-    assert_eq!(behind_pool, BTreeSet::from([2, 4, 5, 7, 8, 9, 10, 11, 13, 19]));
+    assert_eq!(checked, BTreeSet::from([0, 2, 3, 4, 5, 6, 7, 8, 9, 10, 11, 13, 19, 20]));
+    assert_eq!(behind_pool, BTreeSet::from([2, 4, 5, 7, 8, 9, 10, 11, 13, 19, 20]));
     assert_eq!(in_aliases, BTreeSet::from([2, 4, 5, 7, 8, 9, 19]));
+    assert_eq!(in_locations[0], BTreeSet::from([2, 4, 5, 7, 8, 9, 20]));
+    assert_eq!(in_locations[1], BTreeSet::from([2, 4, 5, 7, 8, 9, 20]));
     assert_eq!(asked, BTreeSet::from([0, 1, 2, 3, 4, 5, 6, 7, 8, 9, 10, 11, 12]));
 }
 

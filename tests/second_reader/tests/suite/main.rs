@@ -8,6 +8,7 @@ mod common;
 mod demand3;
 mod generator;
 mod intervals;
+mod locations;
 mod nameless;
 mod numbers;
 mod padded_sizes;

@@ -116,7 +116,7 @@ fn number_5_order() {
     gives(&hex(&format!("{A} 030100 0200")), (5, 12), (12, 9), (12, 9));
     gives(&hex(&format!("{A} 030100 01")), (5, 12), (12, 9), (12, 9));
     for id in 2..=7 {
-        // Field 2's data is one empty text, field 3's no pairs; the others' isn't read.
+        // Field 2's data is one empty text, field 3's no pairs, 6's and 7's no locations; the others' isn't read.
         let twice = format!("{A} {id:02x}0100 {id:02x}0100");
         gives(&hex(&twice), (5, 12), (12, 9), (12, 9));
     }

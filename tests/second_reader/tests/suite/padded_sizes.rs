@@ -173,7 +173,7 @@ fn paddings_change_nothing_but_places() {
             }
         }
     }
-    assert_eq!(numbers, BTreeSet::from([0, 2, 3, 4, 5, 6, 7, 8, 9, 10, 11, 13, 19]));
+    assert_eq!(numbers, BTreeSet::from([0, 2, 3, 4, 5, 6, 7, 8, 9, 10, 11, 13, 19, 20]));
 }
 
 #[test]
@@ -212,6 +212,9 @@ fn every_other_count_stays_shortest() {
                     Kind::Month => "month",
                     Kind::Day(_) => "day",
                     Kind::PairCount => "pair count",
+                    Kind::LocationCount => "location count",
+                    Kind::Coordinate(_) => "coordinate",
+                    Kind::CountryCount => "country count",
                     _ => continue,
                 };
                 kinds.insert(what);
@@ -224,5 +227,5 @@ fn every_other_count_stays_shortest() {
             }
         }
     }
-    assert_eq!(kinds.len(), 8, "{kinds:?}");
+    assert_eq!(kinds.len(), 11, "{kinds:?}");
 }

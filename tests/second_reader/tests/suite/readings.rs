@@ -145,7 +145,7 @@ fn reading_11_14_first() {
 #[test]
 fn reading_12_ids_that_repeat() {
     assert_eq!(check(&with("0800 0800 0900 ff00 ff00")), (0, 0));
-    assert_eq!(check(&with("0700 0700")), (5, 11));
+    assert_eq!(check(&with("070100 070100")), (5, 12));
 }
 
 #[test]
@@ -291,7 +291,7 @@ fn against_the_published_format() {
     // b: a fixed zone's name may be absent (02, Ask 2).
     all_three(&with("0103 000130"), 0, 0);
     // c: no field 2 is fine, a second 6 or 7 isn't.
-    assert_eq!(check(&with("0600 0600")), (5, 11));
+    assert_eq!(check(&with("060100 060100")), (5, 12));
     // f: a longer count for a month or day is judged by its range.
     let file = tail_file("30 00 1c8301 00 00 00");
     all_three(&file, 11, 9);

@@ -28,7 +28,7 @@ fn changes(file: &[u8], zone: &str, ticks: i64, before: (i32, &str), after: (i32
 
 #[test]
 fn well_formed_and_in_preferred_form() {
-    for (path, zones, length) in [(ALL, 447, 118_028), (EUROPE, 53, 21_993)] {
+    for (path, zones, length) in [(ALL, 447, 136_221), (EUROPE, 53, 23_990)] {
         let file = read(path);
         assert_eq!(file.len(), length);
         assert_eq!(check(&file), (0, 0), "{path}");
@@ -55,10 +55,12 @@ fn what_they_hold() {
             }
         }
     }
-    assert_eq!((fixed, listed, tails, intervals, contents.pool.len()), (32, 286, 129, 19_148, 776));
+    assert_eq!((fixed, listed, tails, intervals, contents.pool.len()), (32, 286, 129, 19_148, 1488));
     assert_eq!(contents.aliases.map(|pairs| pairs.len()), Some(151));
+    assert_eq!((contents.locations.len(), contents.locations_1970.len()), (418, 312));
     let europe = read(EUROPE);
     let contents = read_file(&europe).expect("well formed");
+    assert_eq!((contents.locations.len(), contents.locations_1970.len()), (52, 38));
     for (_, zone) in &contents.zones {
         let id = &europe[contents.pool[zone.id].clone()];
         assert!(id.starts_with(b"Europe/") || id == b"Etc/UTC", "{}", String::from_utf8_lossy(id));

@@ -1,0 +1,3 @@
+pub mod Location
+pub mod Country
+pub mod Numbers

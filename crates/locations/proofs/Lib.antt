@@ -1,0 +1,4 @@
+pub mod ReadLaws
+pub mod FindLaws
+pub mod Vectors
+pub mod SoundLaws

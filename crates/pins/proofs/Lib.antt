@@ -1,0 +1,5 @@
+pub mod DegreesLaws
+pub mod Vectors
+pub mod ClosestLaws
+pub mod GapLaws
+pub mod NearestLaws

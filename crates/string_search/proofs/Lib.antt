@@ -1,0 +1,3 @@
+pub mod SuffixLaws
+pub mod SearchLaws
+pub mod PoolStringLaws

@@ -19,10 +19,12 @@
  *
  * Memory. A pointer and the length behind it name that many readable (out: writable) bytes. Where the length is 0 the
  * pointer is not followed and may be null. A pointer to a struct is never null. out overlaps nothing else that is lent.
- * No function keeps a pointer, allocates, or has state, so any number of threads may call them.
+ * No function keeps a pointer, allocates, or has state, so any number of threads may call them. A receiver's state is
+ * yours.
  *
  * Stack, measured and not proved: up to 71 KB for nzd_check, nzd_version_text, nzd_rewrite and nzd_location, 63 KB for
- * nzd_ask_named, 39 KB for nzd_ask, nzd_ask_plain and nzd_map_local, below 1 KB for a small code.
+ * nzd_ask_named, 39 KB for nzd_ask, nzd_ask_plain and nzd_map_local, as much for the same of a receiver, below 1 KB for
+ * nzd_receiver_add and a small code.
  */
 #ifndef NZD_H
 #define NZD_H
@@ -60,7 +62,7 @@ enum nzd_number {
                                      location */
     NZD_SECOND_ZONE = 13,         /* a second zone with the same ID (never given by a question) */
     NZD_INSTANT_OUT_OF_RANGE = 14,/* the asked instant is outside years 1 to 9999 */
-    NZD_OUTPUT_TOO_SHORT = 15,
+    NZD_OUTPUT_TOO_SHORT = 15,    /* the output, or the buffer of a receiver */
     NZD_NO_INSTANT = 17,          /* no instant reads as the local time, as where clocks went forward over it */
     NZD_TOO_MANY_STEPS = 18,      /* the eighth target of an alias is again only an alias */
     NZD_SECOND_ALIAS = 19,        /* a second alias with the same bytes in field 3 */
@@ -101,7 +103,7 @@ static inline const char *nzd_words(unsigned number) {
     case NZD_NOT_FOUND: return "no such zone, version text or location";
     case NZD_SECOND_ZONE: return "a second zone has the same ID";
     case NZD_INSTANT_OUT_OF_RANGE: return "the instant is outside years 1 to 9999";
-    case NZD_OUTPUT_TOO_SHORT: return "the output is too short";
+    case NZD_OUTPUT_TOO_SHORT: return "the output, or the buffer of a receiver, is too short";
     case NZD_NO_INSTANT: return "no instant reads as that local time";
     case NZD_TOO_MANY_STEPS: return "an alias leads over more than eight others, or in a circle";
     case NZD_SECOND_ALIAS: return "a second alias has the same name";
@@ -229,6 +231,48 @@ uint64_t nzd_version_text(const uint8_t *file, size_t n, struct nzd_text *out);
  * file is checked first; then 15 if out is shorter than the preferred form.
  */
 uint64_t nzd_rewrite(const uint8_t *file, size_t n, uint8_t *out, size_t out_n);
+
+/*
+ * A receiver, for a file that arrives in pieces. It is three plain numbers in memory that you own, over a buffer that you
+ * lend with each call: always the same one, to which nobody else writes. The bytes that it holds stand at the buffer's
+ * front; add each piece as it arrives, and ask as soon as you like: what is given with more, save 1, stays as it is until
+ * a reset. One that is all 0 is new. It may be copied and kept like any number, and asks nothing of you on any state.
+ */
+struct nzd_receiver {
+    size_t held;  /* how many bytes are held */
+    size_t place; /* of the first field that is not whole, its ID byte; held if all are. 0 in the version, or if it is
+                     not 0. A field that 4 to 7 refuses by its ID or size is never whole; its contents play no part */
+    size_t prev;  /* the ID of the field before place, 0 if there is none, from which the next piece goes on */
+};
+
+/* Empties a receiver, not the buffer. */
+void nzd_receiver_reset(struct nzd_receiver *r);
+
+/*
+ * Adds a piece behind what is held; it may be empty, and is no part of the buffer. 15 if held and new bytes are more than
+ * buffer_n: then receiver and buffer stay as they are. Takes time for the piece and for the fields that it completes only.
+ */
+uint64_t nzd_receiver_add(struct nzd_receiver *r, uint8_t *buffer, size_t buffer_n, const uint8_t *piece, size_t piece_n);
+
+/*
+ * The functions above of what a receiver holds: each gives what it would on the first held bytes of the buffer, places
+ * and texts counting from there. 15 comes first, before 14, on a receiver that holds more than buffer_n, which one that
+ * nzd_receiver_add filled over this buffer never does.
+ */
+uint64_t nzd_receiver_ask(struct nzd_receiver r, const uint8_t *buffer, size_t buffer_n, const uint8_t *id, size_t id_n,
+                          int64_t ticks, bool more, struct nzd_answer *out);
+uint64_t nzd_receiver_ask_plain(struct nzd_receiver r, const uint8_t *buffer, size_t buffer_n, const uint8_t *id,
+                                size_t id_n, int64_t ticks, struct nzd_answer *out);
+uint64_t nzd_receiver_ask_named(struct nzd_receiver r, const uint8_t *buffer, size_t buffer_n, const uint8_t *name,
+                                size_t name_n, int64_t ticks, bool more, struct nzd_answer *out);
+uint64_t nzd_receiver_map_local(struct nzd_receiver r, const uint8_t *buffer, size_t buffer_n, const uint8_t *id,
+                                size_t id_n, int64_t local, struct nzd_local *out);
+/* nzd_next_country steps the view, over the buffer's first held bytes. */
+uint64_t nzd_receiver_location(struct nzd_receiver r, const uint8_t *buffer, size_t buffer_n, uint64_t field,
+                               uint64_t number, struct nzd_pin *pin, struct nzd_located *out);
+uint64_t nzd_receiver_check(struct nzd_receiver r, const uint8_t *buffer, size_t buffer_n);
+uint64_t nzd_receiver_version_text(struct nzd_receiver r, const uint8_t *buffer, size_t buffer_n, struct nzd_text *out);
+uint64_t nzd_receiver_rewrite(struct nzd_receiver r, const uint8_t *buffer, size_t buffer_n, uint8_t *out, size_t out_n);
 
 /* Small codes, read from the front of s; what follows the code is ignored. 9 if s ends early. */
 struct nzd_value {

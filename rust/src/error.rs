@@ -34,7 +34,7 @@ pub enum Number {
     SecondZone,
     /// 14: the asked instant is outside years 1 to 9999.
     InstantOutOfRange,
-    /// 15: the output is too short.
+    /// 15: the output, or the buffer of a receiver, is too short.
     OutputTooShort,
     /// 17: no instant reads as the local time, as where clocks went forward over it. No error has it:
     /// [`map_local`](crate::map_local) gives [`LocalInstants::None`](crate::LocalInstants::None).
@@ -65,7 +65,7 @@ const NUMBERS: [(u8, Number, &str); 19] = [
     (12, Number::NotFound, "no such zone, version text or location"),
     (13, Number::SecondZone, "a second zone has the same ID"),
     (14, Number::InstantOutOfRange, "the instant is outside years 1 to 9999"),
-    (15, Number::OutputTooShort, "the output is too short"),
+    (15, Number::OutputTooShort, "the output, or the buffer of a receiver, is too short"),
     (17, Number::NoInstant, "no instant reads as that local time"),
     (18, Number::TooManySteps, "an alias leads over more than eight others, or in a circle"),
     (19, Number::SecondAlias, "a second alias has the same name"),

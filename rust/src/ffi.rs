@@ -2,11 +2,26 @@
 //!
 //! All `unsafe` of this crate is here. The C functions ask only that a pointer and its length name valid memory, and
 //! that nothing else names what is written; a slice or an array says both. So each function here is safe for every
-//! argument. The structs of `include/nzd.h` are arrays here: their numbers in a row.
+//! argument. The structs of `include/nzd.h` are arrays here: their numbers in a row; but for the receiver, which some
+//! functions take by value.
 
 #![allow(unsafe_code)]
 
+/// `struct nzd_receiver`.
+#[derive(Clone, Copy, Debug, Default, PartialEq, Eq, Hash)]
+#[repr(C)]
+pub struct Receiver {
+    /// How many bytes at the buffer's front are held.
+    pub held: usize,
+    /// The place of the first unfinished field.
+    pub place: usize,
+    /// The ID of the field before it, 0 if there is none.
+    pub prev: usize,
+}
+
 mod c {
+    use super::Receiver;
+
     extern "C" {
         pub fn nzd_check(file: *const u8, n: usize) -> u64;
         pub fn nzd_ask(
@@ -54,6 +69,65 @@ mod c {
         pub fn nzd_next_country(file: *const u8, n: usize, view: *mut [u64; 4], out: *mut [u64; 4]) -> bool;
         pub fn nzd_version_text(file: *const u8, n: usize, out: *mut [i64; 2]) -> u64;
         pub fn nzd_rewrite(file: *const u8, n: usize, out: *mut u8, out_n: usize) -> u64;
+        pub fn nzd_receiver_reset(r: *mut Receiver);
+        pub fn nzd_receiver_add(
+            r: *mut Receiver,
+            buffer: *mut u8,
+            buffer_n: usize,
+            piece: *const u8,
+            piece_n: usize,
+        ) -> u64;
+        pub fn nzd_receiver_ask(
+            r: Receiver,
+            buffer: *const u8,
+            buffer_n: usize,
+            id: *const u8,
+            id_n: usize,
+            ticks: i64,
+            more: bool,
+            out: *mut [i64; 7],
+        ) -> u64;
+        pub fn nzd_receiver_ask_plain(
+            r: Receiver,
+            buffer: *const u8,
+            buffer_n: usize,
+            id: *const u8,
+            id_n: usize,
+            ticks: i64,
+            out: *mut [i64; 7],
+        ) -> u64;
+        pub fn nzd_receiver_ask_named(
+            r: Receiver,
+            buffer: *const u8,
+            buffer_n: usize,
+            name: *const u8,
+            name_n: usize,
+            ticks: i64,
+            more: bool,
+            out: *mut [i64; 7],
+        ) -> u64;
+        pub fn nzd_receiver_map_local(
+            r: Receiver,
+            buffer: *const u8,
+            buffer_n: usize,
+            id: *const u8,
+            id_n: usize,
+            local: i64,
+            out: *mut [i64; 3],
+        ) -> u64;
+        pub fn nzd_receiver_location(
+            r: Receiver,
+            buffer: *const u8,
+            buffer_n: usize,
+            field: u64,
+            number: u64,
+            pin: *mut [f64; 2],
+            out: *mut [u64; 8],
+        ) -> u64;
+        pub fn nzd_receiver_check(r: Receiver, buffer: *const u8, buffer_n: usize) -> u64;
+        pub fn nzd_receiver_version_text(r: Receiver, buffer: *const u8, buffer_n: usize, out: *mut [i64; 2]) -> u64;
+        pub fn nzd_receiver_rewrite(r: Receiver, buffer: *const u8, buffer_n: usize, out: *mut u8, out_n: usize)
+            -> u64;
         pub fn nzd_read_count(s: *const u8, n: usize, out: *mut [i64; 2]) -> u64;
         pub fn nzd_read_signed_count(s: *const u8, n: usize, out: *mut [i64; 2]) -> u64;
         pub fn nzd_read_offset(s: *const u8, n: usize, out: *mut [i64; 2]) -> u64;
@@ -117,6 +191,63 @@ pub fn version_text(file: &[u8], out: &mut [i64; 2]) -> u64 {
 /// `nzd_rewrite`.
 pub fn rewrite(file: &[u8], out: &mut [u8]) -> u64 {
     unsafe { c::nzd_rewrite(file.as_ptr(), file.len(), out.as_mut_ptr(), out.len()) }
+}
+
+/// `nzd_receiver_reset`.
+pub fn receiver_reset(r: &mut Receiver) {
+    unsafe { c::nzd_receiver_reset(r) }
+}
+
+/// `nzd_receiver_add`.
+pub fn receiver_add(r: &mut Receiver, buffer: &mut [u8], piece: &[u8]) -> u64 {
+    unsafe { c::nzd_receiver_add(r, buffer.as_mut_ptr(), buffer.len(), piece.as_ptr(), piece.len()) }
+}
+
+/// `nzd_receiver_ask`.
+pub fn receiver_ask(r: Receiver, buffer: &[u8], id: &[u8], ticks: i64, more: bool, out: &mut [i64; 7]) -> u64 {
+    unsafe { c::nzd_receiver_ask(r, buffer.as_ptr(), buffer.len(), id.as_ptr(), id.len(), ticks, more, out) }
+}
+
+/// `nzd_receiver_ask_plain`.
+pub fn receiver_ask_plain(r: Receiver, buffer: &[u8], id: &[u8], ticks: i64, out: &mut [i64; 7]) -> u64 {
+    unsafe { c::nzd_receiver_ask_plain(r, buffer.as_ptr(), buffer.len(), id.as_ptr(), id.len(), ticks, out) }
+}
+
+/// `nzd_receiver_ask_named`.
+pub fn receiver_ask_named(r: Receiver, buffer: &[u8], name: &[u8], ticks: i64, more: bool, out: &mut [i64; 7]) -> u64 {
+    unsafe { c::nzd_receiver_ask_named(r, buffer.as_ptr(), buffer.len(), name.as_ptr(), name.len(), ticks, more, out) }
+}
+
+/// `nzd_receiver_map_local`.
+pub fn receiver_map_local(r: Receiver, buffer: &[u8], id: &[u8], local: i64, out: &mut [i64; 3]) -> u64 {
+    unsafe { c::nzd_receiver_map_local(r, buffer.as_ptr(), buffer.len(), id.as_ptr(), id.len(), local, out) }
+}
+
+/// `nzd_receiver_location`.
+pub fn receiver_location(
+    r: Receiver,
+    buffer: &[u8],
+    field: u64,
+    number: u64,
+    pin: &mut [f64; 2],
+    out: &mut [u64; 8],
+) -> u64 {
+    unsafe { c::nzd_receiver_location(r, buffer.as_ptr(), buffer.len(), field, number, pin, out) }
+}
+
+/// `nzd_receiver_check`.
+pub fn receiver_check(r: Receiver, buffer: &[u8]) -> u64 {
+    unsafe { c::nzd_receiver_check(r, buffer.as_ptr(), buffer.len()) }
+}
+
+/// `nzd_receiver_version_text`.
+pub fn receiver_version_text(r: Receiver, buffer: &[u8], out: &mut [i64; 2]) -> u64 {
+    unsafe { c::nzd_receiver_version_text(r, buffer.as_ptr(), buffer.len(), out) }
+}
+
+/// `nzd_receiver_rewrite`.
+pub fn receiver_rewrite(r: Receiver, buffer: &[u8], out: &mut [u8]) -> u64 {
+    unsafe { c::nzd_receiver_rewrite(r, buffer.as_ptr(), buffer.len(), out.as_mut_ptr(), out.len()) }
 }
 
 /// `nzd_read_count`.

@@ -2,7 +2,7 @@
 //!
 //! A file is lent as bytes. Any bytes, any zone ID and any instant get an answer or an [`Error`]; nothing has to be
 //! checked first. The bytes may be the first part of a file that is still arriving: what is said of them then stays
-//! true whatever bytes follow.
+//! true whatever bytes follow. A [`Receiver`] takes a file in pieces.
 //!
 //! Instants are ticks of 100 ns since 1970-01-01T00:00Z, which [`ticks_of_unix_seconds`] and [`ticks_of_system_time`]
 //! give; offsets and savings are milliseconds. A local time is ticks since 1970-01-01T00:00 as clocks of a zone show it;
@@ -32,11 +32,13 @@ mod error;
 pub mod ffi;
 mod local;
 mod locations;
+mod receiver;
 mod ticks;
 
 pub use error::{Error, Number};
 pub use local::{map_local, LocalInstants};
 pub use locations::{location, locations, Countries, Country, Location, LocationField, Locations, Pin};
+pub use receiver::Receiver;
 #[cfg(feature = "std")]
 pub use ticks::ticks_of_system_time;
 pub use ticks::{ticks_of_unix_seconds, TICKS_PER_SECOND};

@@ -86,7 +86,12 @@ impl LocalInstants {
 /// ```
 pub fn map_local(file: &[u8], id: impl AsRef<[u8]>, local: i64) -> Result<LocalInstants, Error> {
     let mut out = [0; 3];
-    match decode(ffi::map_local(file, id.as_ref(), local, &mut out)) {
+    instants(ffi::map_local(file, id.as_ref(), local, &mut out), out)
+}
+
+/// A result, and the numbers of an answer.
+pub(crate) fn instants(result: u64, out: [i64; 3]) -> Result<LocalInstants, Error> {
+    match decode(result) {
         Ok(_) => Ok(match out {
             [1, only, _] => LocalInstants::One(only),
             [2, earlier, later] => LocalInstants::Two { earlier, later },

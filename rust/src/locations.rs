@@ -107,12 +107,21 @@ fn part(bytes: &[u8], place: u64, length: u64) -> &[u8] {
 /// # Ok::<(), nzd::Error>(())
 /// ```
 pub fn location(file: &[u8], field: LocationField, number: u64) -> Result<Location<'_>, Error> {
+    located(file, field, |id, pin, out| ffi::location(file, id, number, pin, out))
+}
+
+/// What the C function, given the field's ID, says of the file's bytes.
+pub(crate) fn located(
+    file: &[u8],
+    field: LocationField,
+    ask: impl FnOnce(u64, &mut [f64; 2], &mut [u64; 8]) -> u64,
+) -> Result<Location<'_>, Error> {
     let id = match field {
         LocationField::Zone => 6,
         LocationField::Zone1970 => 7,
     };
     let (mut pin, mut out) = ([0.0; 2], [0; 8]);
-    decode(ffi::location(file, id, number, &mut pin, &mut out))?;
+    decode(ask(id, &mut pin, &mut out))?;
     let [latitude, longitude] = pin;
     let [zone, zone_length, comment, comment_length, start, end, place, left] = out;
     Ok(Location {

@@ -1,7 +1,7 @@
 //! The worked values of the scope paper and some of the realistic files', by the wrapper.
 
 use nzd::{ask, ask_plain, check, codes, location, locations, map_local, rewrite, version_text, LocationField, Pin};
-use nzd::{Answer, Bound, Error, LocalInstants, Mark, Number};
+use nzd::{Answer, Bound, Error, LocalInstants, Mark, Number, Receiver};
 
 /// "00 00 00 00, 00 05 01 03 55 54 43, 01 04 00 01 30 00: 17 bytes, one fixed zone \"UTC\""
 const UTC: &[u8] = b"\0\0\0\0\x00\x05\x01\x03UTC\x01\x04\x00\x01\x30\x00";
@@ -199,4 +199,45 @@ fn small_codes() {
     assert_eq!(codes::read_text(b"\x04UTC"), Err(early));
     let short = Error { number: Number::OutputTooShort, place: 0 };
     assert_eq!(codes::write_text(b"UTC", &mut [0; 3]), Err(short));
+}
+
+#[test]
+fn bytes_in_pieces() {
+    fn denied<T>(number: Number, place: usize) -> Result<T, Error> {
+        Err(Error { number, place })
+    }
+    let mut buffer = [0xaa; 19];
+    let mut receiver = Receiver::new(&mut buffer);
+    // Byte by byte: the version, field 0 and the zone.
+    for (count, byte) in (1..).zip(UTC) {
+        assert_eq!(receiver.add(&[*byte]), Ok(()));
+        let place = match count {
+            1..=3 => 0,
+            5..=10 => 4,
+            12..=16 => 11,
+            _ => count,
+        };
+        assert_eq!((receiver.held(), receiver.place()), (&UTC[..count], place));
+        let said = receiver.ask("UTC", 0, Mark::MoreMayCome).map(|answer| answer.wall_offset_ms);
+        assert_eq!(said, if count < 17 { denied(Number::NotYet, place) } else { Ok(0) });
+    }
+    assert_eq!(receiver.ask_plain("GMT", 0), denied(Number::NotYet, 17));
+    assert_eq!(receiver.check(), Ok(()));
+    assert_eq!(receiver.version_text(), denied(Number::NotFound, 17));
+    assert_eq!(receiver.map_local("UTC", 5), Ok(LocalInstants::One(5)));
+    let mut out = [0; 17];
+    assert_eq!(receiver.rewrite(&mut out), Ok(17));
+    assert_eq!(out, UTC);
+    // What doesn't fit is refused whole, and what just fits is not.
+    assert_eq!(receiver.add(&[0; 3]), denied(Number::OutputTooShort, 0));
+    assert_eq!((receiver.held(), receiver.place()), (UTC, 17));
+    assert_eq!(receiver.add(&[0; 2]), Ok(()));
+    assert_eq!(receiver.add(&[]), Ok(()));
+    assert_eq!((receiver.held().len(), receiver.place()), (19, 17));
+    assert_eq!(receiver.check(), denied(Number::FieldOrder, 17));
+    // A reset empties the receiver, not the buffer.
+    receiver.reset();
+    assert_eq!((receiver.held(), receiver.place()), (&[][..], 0));
+    assert_eq!(receiver.ask("UTC", 0, Mark::ThisIsAll), denied(Number::CutShort, 0));
+    assert_eq!(buffer[..17], UTC[..]);
 }

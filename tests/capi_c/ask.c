@@ -21,6 +21,7 @@ typedef char answer_is_seven_numbers[sizeof(struct nzd_answer) == 7 * sizeof(int
 typedef char local_is_three_numbers[sizeof(struct nzd_local) == 3 * sizeof(int64_t) ? 1 : -1];
 typedef char text_is_two_numbers[sizeof(struct nzd_text) == 2 * sizeof(int64_t) ? 1 : -1];
 typedef char value_is_two_numbers[sizeof(struct nzd_value) == 2 * sizeof(int64_t) ? 1 : -1];
+typedef char receiver_is_three_numbers[sizeof(struct nzd_receiver) == 3 * sizeof(size_t) ? 1 : -1];
 typedef char transition_is_three_numbers[sizeof(struct nzd_transition) == 3 * sizeof(int64_t) ? 1 : -1];
 
 /* A pointer whose length is 0 may be null. The numbers are document 01's. */
@@ -30,6 +31,7 @@ static void no_bytes(void) {
     struct nzd_text text;
     struct nzd_value value;
     struct nzd_transition transition;
+    struct nzd_receiver none = {0, 0, 0};
     EXPECT(nzd_check(NULL, 0) == NZD_CUT_SHORT);
     EXPECT(nzd_ask(NULL, 0, NULL, 0, 0, true, &answer) == NZD_NOT_YET);
     EXPECT(nzd_ask(NULL, 0, NULL, 0, 0, false, &answer) == NZD_CUT_SHORT);
@@ -44,6 +46,13 @@ static void no_bytes(void) {
     EXPECT(nzd_version_text(NULL, 0, &text) == NZD_CUT_SHORT);
     EXPECT(nzd_rewrite(NULL, 0, NULL, 0) == NZD_CUT_SHORT);
     EXPECT(nzd_rewrite(file, sizeof file, NULL, 0) == NZD_OUTPUT_TOO_SHORT);
+    EXPECT(nzd_receiver_add(&none, NULL, 0, NULL, 0) == NZD_ANSWERED);
+    EXPECT(nzd_receiver_ask(none, NULL, 0, NULL, 0, 0, true, &answer) == NZD_NOT_YET);
+    EXPECT(nzd_receiver_ask_plain(none, NULL, 0, NULL, 0, 0, &answer) == NZD_NOT_YET);
+    EXPECT(nzd_receiver_map_local(none, NULL, 0, NULL, 0, 0, &local) == NZD_CUT_SHORT);
+    EXPECT(nzd_receiver_check(none, NULL, 0) == NZD_CUT_SHORT);
+    EXPECT(nzd_receiver_version_text(none, NULL, 0, &text) == NZD_CUT_SHORT);
+    EXPECT(nzd_receiver_rewrite(none, NULL, 0, NULL, 0) == NZD_CUT_SHORT);
     EXPECT(nzd_read_count(NULL, 0, &value) == NZD_BAD_DATA);
     EXPECT(nzd_read_signed_count(NULL, 0, &value) == NZD_BAD_DATA);
     EXPECT(nzd_read_offset(NULL, 0, &value) == NZD_BAD_DATA);
@@ -146,6 +155,53 @@ static void local_times(void) {
     EXPECT(refused(ahead, sizeof ahead - 1, "A", 0) == NZD_CUT_SHORT + 256 * 9);
 }
 
+static int stands(struct nzd_receiver r, size_t held, size_t place) {
+    return r.held == held && r.place == place;
+}
+
+/* A file in pieces: byte by byte, one that does not fit, a walk that stops, and a receiver that holds more than the
+   buffer. */
+static void receiver(void) {
+    static const uint8_t utc[] = {'U', 'T', 'C'}, zeros[3], fall[] = {0, 0, 0, 0, 0, 1, 0, 9, 0, 8, 0, 255, 0};
+    struct nzd_receiver r = {7, 7, 7}, over = {4, 4, 0};
+    struct nzd_answer answer;
+    struct nzd_local local;
+    struct nzd_text text;
+    uint8_t buffer[sizeof file + 2], out[sizeof file];
+    size_t i;
+    memset(buffer, 0xaa, sizeof buffer);
+    nzd_receiver_reset(&r);
+    EXPECT(stands(r, 0, 0));
+    for (i = 0; i < sizeof file; i++) {
+        EXPECT(nzd_receiver_ask(r, buffer, sizeof buffer, utc, 3, 0, true, &answer) % 256 == NZD_NOT_YET);
+        EXPECT(nzd_receiver_add(&r, buffer, sizeof buffer, file + i, 1) == NZD_ANSWERED);
+        EXPECT(stands(r, i + 1, i + 1 < 4 ? 0 : i + 1 < 11 && i + 1 > 4 ? 4 : i + 1 > 11 && i + 1 < 17 ? 11 : i + 1));
+    }
+    EXPECT(nzd_receiver_add(&r, buffer, sizeof buffer, zeros, 3) == NZD_OUTPUT_TOO_SHORT);
+    EXPECT(stands(r, 17, 17) && memcmp(buffer, file, sizeof file) == 0 && buffer[17] == 0xaa && buffer[18] == 0xaa);
+    EXPECT(nzd_receiver_ask(r, buffer, sizeof buffer, utc, 3, 0, false, &answer) == NZD_ANSWERED);
+    EXPECT(answer.wall_ms == 0 && memcmp(buffer + answer.name_place, utc, 3) == 0 && answer.name_length == 3);
+    EXPECT(nzd_receiver_ask_plain(r, buffer, sizeof buffer, utc, 3, 0, &answer) == NZD_ANSWERED);
+    EXPECT(nzd_receiver_map_local(r, buffer, sizeof buffer, utc, 3, 5, &local) == NZD_ANSWERED && local.earliest == 5);
+    EXPECT(nzd_receiver_check(r, buffer, sizeof buffer) == NZD_ANSWERED);
+    EXPECT(nzd_receiver_version_text(r, buffer, sizeof buffer, &text) == NZD_NOT_FOUND + 256 * 17);
+    EXPECT(nzd_receiver_rewrite(r, buffer, sizeof buffer, out, sizeof out) == 256 * 17 && memcmp(out, file, 17) == 0);
+    EXPECT(nzd_receiver_add(&r, buffer, sizeof buffer, zeros, 2) == NZD_ANSWERED && stands(r, 19, 17));
+    nzd_receiver_reset(&r);
+    EXPECT(stands(r, 0, 0) && memcmp(buffer, file, sizeof file) == 0);
+    /* A field 8 behind a field 9 stops the walk for good. */
+    for (i = 0; i < sizeof fall; i++) EXPECT(nzd_receiver_add(&r, buffer, sizeof buffer, fall + i, 1) == NZD_ANSWERED);
+    EXPECT(stands(r, 13, 9));
+    /* 15 comes before 14. */
+    EXPECT(nzd_receiver_ask(over, buffer, 3, utc, 3, NZD_LAST_INSTANT + 1, true, &answer) == NZD_OUTPUT_TOO_SHORT);
+    EXPECT(nzd_receiver_ask_plain(over, buffer, 3, utc, 3, NZD_LAST_INSTANT + 1, &answer) == NZD_OUTPUT_TOO_SHORT);
+    EXPECT(nzd_receiver_map_local(over, buffer, 3, utc, 3, 0, &local) == NZD_OUTPUT_TOO_SHORT);
+    EXPECT(nzd_receiver_check(over, buffer, 3) == NZD_OUTPUT_TOO_SHORT);
+    EXPECT(nzd_receiver_version_text(over, buffer, 3, &text) == NZD_OUTPUT_TOO_SHORT);
+    EXPECT(nzd_receiver_rewrite(over, buffer, 3, out, sizeof out) == NZD_OUTPUT_TOO_SHORT);
+    EXPECT(nzd_receiver_add(&over, buffer, 3, NULL, 0) == NZD_OUTPUT_TOO_SHORT && stands(over, 4, 4));
+}
+
 /* Every number has words of its own. */
 static void words(void) {
     unsigned a, b;
@@ -166,6 +222,7 @@ int main(void) {
     members();
     names();
     local_times();
+    receiver();
     words();
     if (failures) return 1;
     printf("0 %" PRId64 " %" PRId64 " %" PRId64 " %.*s\n", out.wall_ms, out.savings_ms, out.standard_ms,

@@ -3,4 +3,6 @@ pub mod SmallLaws
 pub mod FormLaws
 pub mod PutLaws
 pub mod RewriteLaws
+pub mod ReceivedLaws
+pub mod Walk
 pub mod LocationLaws

@@ -1,4 +1,5 @@
 // The functions for programs in C: thin over the proved ones, by numbers and slices alone. include/nzd.h says how they are called.
+use receivers::Receiver;
 ghost use mathlib.Core.Path.{_≡_};
 ghost use Rattle.counts.specs.Count.{readCount};
 ghost use Rattle.counts.specs.SignedCount.{readSignedCount, signedCountForm};
@@ -8,11 +9,13 @@ ghost use Rattle.texts.specs.Text.{readText, textForm};
 ghost use Rattle.field_checks.specs.Check.{checkOf, versionOf};
 ghost use Rattle.questions.specs.Question.{ask as askOf, askPlain};
 ghost use Rattle.named_questions.specs.Named.{askNamed};
+ghost use Rattle.receivers.specs.Receive.{fresh, Adds};
 ghost use Rattle.replies.specs.Reply.{Gives, Puts};
 ghost use Rattle.replies.specs.Functions.{readReply, numberReply, textReply, momentReply, previousOf, integerForm};
 ghost use Rattle.file_replies.specs.Functions.{verdictResult, markOf, answerReply, versionReply};
+ghost use Rattle.capi.specs.Functions.{Rewrites, MapsLocal, kindForm, StepsView};
+ghost use Rattle.capi.specs.Received.{askReceived, askPlainReceived, askNamedReceived, locationReceived, MapsReceived, checkReceived, versionReceived, RewritesReceived};
 ghost use Rattle.file_replies.specs.Locations.{locationBy, GivesLocation};
-ghost use Rattle.capi.specs.Functions.{Rewrites, MapsLocal, StepsView, kindForm};
 
 // The preferred form of a whole file.
 #[no_mangle]
@@ -117,6 +120,157 @@ pub extern "C" fn nzd_version_text(file: &[u8], out: &mut [i64; 2]) -> u64
 {
     let t = checks::version_text(file);
     file_replies::give_version(t, out)
+}
+
+// Empties a receiver.
+#[no_mangle]
+pub extern "C" fn nzd_receiver_reset(r: &mut Receiver)
+    ensures { λ _. ⌜ now (r .exit) ≡ fresh ⌝ }
+{
+    *r = Receiver {
+        held: 0,
+        place: 0,
+        prev: 0,
+    };
+}
+
+// Adds a piece behind what a receiver holds: the receiver is changed in place.
+#[no_mangle]
+pub extern "C" fn nzd_receiver_add(r: &mut Receiver, buffer: &mut [u8], piece: &[u8]) -> u64
+    ensures { λ n. ⌜ Adds (now (r .entry)) (now (buffer .entry)) (now (piece .entry)) (record { receiver = now (r .exit); number = n }) (now (buffer .exit)) ⌝ }
+{
+    let o = receivers::added(*r, buffer, piece);
+    *r = o.receiver;
+    o.number
+}
+
+// The marked question of what a receiver holds.
+#[no_mangle]
+pub extern "C" fn nzd_receiver_ask(
+    r: Receiver,
+    buffer: &[u8],
+    id: &[u8],
+    ticks: i64,
+    more: bool,
+    out: &mut [i64; 7],
+) -> u64
+    ensures { λ x. ⌜ Gives (askReceived r (now (buffer .entry)) (now (id .entry)) ticks more) (now (out .entry)) x (now (out .exit)) ⌝ }
+{
+    let held = r.held;
+    if buffer.len() < held {
+        return 15;
+    }
+    nzd_ask(&buffer[..held], id, ticks, more, out)
+}
+
+// The plain question of what a receiver holds.
+#[no_mangle]
+pub extern "C" fn nzd_receiver_ask_plain(
+    r: Receiver,
+    buffer: &[u8],
+    id: &[u8],
+    ticks: i64,
+    out: &mut [i64; 7],
+) -> u64
+    ensures { λ x. ⌜ Gives (askPlainReceived r (now (buffer .entry)) (now (id .entry)) ticks) (now (out .entry)) x (now (out .exit)) ⌝ }
+{
+    let held = r.held;
+    if buffer.len() < held {
+        return 15;
+    }
+    nzd_ask_plain(&buffer[..held], id, ticks, out)
+}
+
+// The named question of what a receiver holds.
+#[no_mangle]
+pub extern "C" fn nzd_receiver_ask_named(
+    r: Receiver,
+    buffer: &[u8],
+    name: &[u8],
+    ticks: i64,
+    more: bool,
+    out: &mut [i64; 7],
+) -> u64
+    ensures { λ x. ⌜ Gives (askNamedReceived r (now (buffer .entry)) (now (name .entry)) ticks more) (now (out .entry)) x (now (out .exit)) ⌝ }
+{
+    let held = r.held;
+    if buffer.len() < held {
+        return 15;
+    }
+    nzd_ask_named(&buffer[..held], name, ticks, more, out)
+}
+
+// The instants that read as a local time, by what a receiver holds.
+#[no_mangle]
+pub extern "C" fn nzd_receiver_map_local(
+    r: Receiver,
+    buffer: &[u8],
+    id: &[u8],
+    local: i64,
+    out: &mut [i64; 3],
+) -> u64
+    ensures { λ x. ⌜ MapsReceived r (now (buffer .entry)) (now (id .entry)) local (now (out .entry)) x (now (out .exit)) ⌝ }
+{
+    let held = r.held;
+    if buffer.len() < held {
+        return 15;
+    }
+    nzd_map_local(&buffer[..held], id, local, out)
+}
+
+// A location by what a receiver holds.
+#[no_mangle]
+pub extern "C" fn nzd_receiver_location(
+    r: Receiver,
+    buffer: &[u8],
+    field: u64,
+    number: u64,
+    pin: &mut [f64; 2],
+    out: &mut [u64; 8],
+) -> u64
+    ensures { λ x. ⌜ GivesLocation (locationReceived r (now (buffer .entry)) field number) (now (pin .entry)) (now (out .entry)) x (now (pin .exit)) (now (out .exit)) ⌝ }
+{
+    let held = r.held;
+    if buffer.len() < held {
+        return 15;
+    }
+    nzd_location(&buffer[..held], field, number, pin, out)
+}
+
+// The check of what a receiver holds.
+#[no_mangle]
+pub extern "C" fn nzd_receiver_check(r: Receiver, buffer: &[u8]) -> u64
+    ensures { λ x. ⌜ x ≡ checkReceived r (now (buffer .entry)) ⌝ }
+{
+    let held = r.held;
+    if buffer.len() < held {
+        return 15;
+    }
+    nzd_check(&buffer[..held])
+}
+
+// The version text of what a receiver holds.
+#[no_mangle]
+pub extern "C" fn nzd_receiver_version_text(r: Receiver, buffer: &[u8], out: &mut [i64; 2]) -> u64
+    ensures { λ x. ⌜ Gives (versionReceived r (now (buffer .entry))) (now (out .entry)) x (now (out .exit)) ⌝ }
+{
+    let held = r.held;
+    if buffer.len() < held {
+        return 15;
+    }
+    nzd_version_text(&buffer[..held], out)
+}
+
+// The preferred form of what a receiver holds.
+#[no_mangle]
+pub extern "C" fn nzd_receiver_rewrite(r: Receiver, buffer: &[u8], out: &mut [u8]) -> u64
+    ensures { λ x. ⌜ RewritesReceived r (now (buffer .entry)) (now (out .entry)) x (now (out .exit)) ⌝ }
+{
+    let held = r.held;
+    if buffer.len() < held {
+        return 15;
+    }
+    nzd_rewrite(&buffer[..held], out)
 }
 
 #[no_mangle]

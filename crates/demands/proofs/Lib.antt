@@ -24,4 +24,5 @@ pub mod NamedExact
 pub mod NamedTarget
 pub mod NamedNumbers
 pub mod NamedExample
+pub mod Received
 pub mod LocationTable

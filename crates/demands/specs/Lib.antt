@@ -8,3 +8,4 @@ pub mod Whole
 pub mod Rewrites
 pub mod Places
 pub mod Named
+pub mod Received

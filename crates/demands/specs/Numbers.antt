@@ -62,6 +62,11 @@ pub data OfMapping (n : ℕ) : Type 0 where
   mapping-no-zone : n ≡ 12 → OfMapping n
   mapping-none : n ≡ 17 → OfMapping n
 
+-- what a question of a receiver refuses with: what it would on the held bytes, and 15 where more is held than the buffer has
+pub data OfHeld (P : ℕ → Type 0) (n : ℕ) : Type 0 where
+  on-held : P n → OfHeld P n
+  over-full : n ≡ 15 → OfHeld P n
+
 -- what is given back is an answer, or a refusal whose number has P
 abbrev pub InTable : (ℕ → Type 0) → GivenBack → Type 0
 InTable P (answering vs) = Unit {0}

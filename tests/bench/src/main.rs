@@ -1,5 +1,6 @@
-//! Measures the proved library beside the peer, and prints two Markdown tables with a few words: on the realistic files, ours
-//! against the peer's; on files of n, 2n, 4n and 8n bytes, how the time grows. Fails if the two give different answers.
+//! Measures the proved library beside the peer, and prints three Markdown tables with a few words: on the realistic files, ours
+//! against the peer's, and the same files in pieces; on files of n, 2n, 4n and 8n bytes, how the time grows. Fails if the two give
+//! different answers.
 
 mod clock;
 mod files;
@@ -11,12 +12,15 @@ use measure::{measure, FEW_SAMPLES, SAMPLES};
 use second_reader::generate::FileContent;
 use second_reader::zone::{Rest, Zone};
 use std::process::ExitCode;
-use work::Work;
+use work::{asked_after_each, from_the_front, Work};
 
 /// 1950-01-01T00:00Z, and as a local time.
 const LISTED: i64 = -631_152_000 * 10_000_000;
 /// 2100-07-01T00:00Z, and as a local time.
 const IN_TAIL: i64 = 4_118_083_200 * 10_000_000;
+
+/// How many bytes a piece of a file has: one, a radio frame's, a packet's.
+const PIECES: [usize; 3] = [1, 64, 1460];
 
 /// What is wanted of our time against the peer's.
 const WANTED_RATIO: f64 = 1.0;
@@ -40,7 +44,7 @@ impl Count {
 fn main() -> ExitCode {
     println!("A time is the processor time of one call in µs, the least of {SAMPLES} samples ({FEW_SAMPLES} where a call takes");
     println!("longer than 0.1 s), ours and the peer's taken in turn.\n");
-    if let Err(fault) = realistic().and_then(|()| growing()) {
+    if let Err(fault) = realistic().and_then(|()| in_pieces()).and_then(|()| growing()) {
         eprintln!("bench: {fault}");
         return ExitCode::FAILURE;
     }
@@ -83,6 +87,40 @@ fn realistic() -> Result<(), String> {
         "\nThe ratio is above {WANTED_RATIO:.1}, so the peer the quicker one, in {} of {} rows.\n",
         above.above, above.all
     );
+    Ok(())
+}
+
+/// The realistic files in pieces, by a receiver: beside the peer's, beside a walk from the front after each piece, and with a
+/// question after each.
+fn in_pieces() -> Result<(), String> {
+    println!("## Bytes in pieces\n");
+    println!("Times are for one piece: of a receiver, ours and the peer's, which go on from the first unfinished field; of the peer's walk");
+    println!("over the fields from the front after each piece; and of a receiver of ours that is asked for the last zone after each.\n");
+    println!(
+        "| File | Piece, bytes | Pieces | Ours, µs | Peer, µs | Ratio | From the front, µs | Ours and a question, µs |"
+    );
+    println!("|---|---:|---:|---:|---:|---:|---:|---:|");
+    for name in ["all.nzd", "europe.nzd"] {
+        let path = format!("{}/../data/{name}", env!("CARGO_MANIFEST_DIR"));
+        let file = std::fs::read(&path).map_err(|error| format!("{path}: {error}"))?;
+        let content = content(&file).map_err(|refusal| format!("{path}: {refusal}"))?;
+        let last = content.zones.last().map_or(&[][..], |zone| content.id(zone));
+        for size in PIECES {
+            let work = Work::Receive { size };
+            agree(&file, name, "in pieces", &work)?;
+            let mut pieces = Vec::from(work.pieces(&file));
+            pieces.push(from_the_front(&file, size));
+            pieces.push(asked_after_each(&file, size, last, LISTED));
+            let count = file.len().div_ceil(size);
+            let times: Vec<f64> = measure(&mut pieces).into_iter().map(|time| time / count as f64).collect();
+            let [ours, peer, front, asked] = [0, 1, 2, 3].map(|at| us(times[at]));
+            println!(
+                "| `{name}` | {size} | {count} | {ours} | {peer} | {:.2} | {front} | {asked} |",
+                times[0] / times[1]
+            );
+        }
+    }
+    println!();
     Ok(())
 }
 
@@ -157,6 +195,7 @@ fn growing() -> Result<(), String> {
             rows.push(("check", [(); 4].map(|()| Work::Check)));
             rows.push(("rewrite", [(); 4].map(|()| Work::Rewrite)));
         }
+        rows.push(("pieces of 64 bytes", [(); 4].map(|()| Work::Receive { size: 64 })));
         if !kind.well_formed {
             rows.push(("check", [(); 4].map(|()| Work::Check)));
         }
@@ -194,6 +233,7 @@ fn agree(file: &[u8], name: &str, what: &str, work: &Work) -> Result<(), String>
 fn us(nanoseconds: f64) -> String {
     let us = nanoseconds / 1000.0;
     match us {
+        0.0..0.1 => format!("{us:.4}"),
         0.0..10.0 => format!("{us:.2}"),
         10.0..100.0 => format!("{us:.1}"),
         _ => format!("{us:.0}"),

@@ -1,4 +1,5 @@
-//! What is measured: a check, a question by ID or by name, a local time, a location, all countries of a field or a rewrite, by the library and by the peer.
+//! What is measured: a check, a question by ID or by name, a local time, a location, all countries of a field, a rewrite or a file in pieces, by the
+//! library and by the peer.
 
 use crate::measure::Piece;
 use nzd::{Bound, LocationField, Mark};
@@ -29,6 +30,10 @@ pub enum Work {
         field: u8,
     },
     Rewrite,
+    /// The whole file, in pieces of so many bytes.
+    Receive {
+        size: usize,
+    },
 }
 
 /// What a question gives: number and place of a refusal, or the values of an answer.
@@ -92,6 +97,10 @@ impl Work {
                 let given = nzd::rewrite(file, &mut ours).map_err(pair);
                 given == peer::rewrite(file, &mut theirs).map_err(peer_pair) && ours == theirs
             }
+            Work::Receive { size } => {
+                let (mut ours, mut theirs) = (vec![0; file.len()], vec![0; file.len()]);
+                received(file, *size, &mut ours) == received_by_peer(file, *size, &mut theirs) && ours == theirs
+            }
         }
     }
 
@@ -126,8 +135,57 @@ impl Work {
                     piece(move || peer::rewrite(black_box(file), black_box(&mut theirs))),
                 ]
             }
+            Work::Receive { size } => {
+                let (mut ours, mut theirs) = (vec![0; file.len()], vec![0; file.len()]);
+                [
+                    piece(move || received(black_box(file), *size, black_box(&mut ours))),
+                    piece(move || received_by_peer(black_box(file), *size, black_box(&mut theirs))),
+                ]
+            }
         }
     }
+}
+
+/// The place at the end of a file in pieces that the buffer has room for.
+fn received(file: &[u8], size: usize, buffer: &mut [u8]) -> Option<usize> {
+    let mut receiver = nzd::Receiver::new(buffer);
+    for piece in file.chunks(size) {
+        receiver.add(piece).ok()?;
+    }
+    Some(receiver.place())
+}
+
+fn received_by_peer(file: &[u8], size: usize, buffer: &mut [u8]) -> Option<usize> {
+    let mut receiver = peer::Receiver::default();
+    for piece in file.chunks(size) {
+        receiver.add(buffer, piece).ok()?;
+    }
+    Some(receiver.place)
+}
+
+/// The same without a place to go on from: the peer walks from the front after each piece.
+pub fn from_the_front<'a>(file: &'a [u8], size: usize) -> Piece<'a> {
+    let mut buffer = vec![0; file.len()];
+    piece(move || {
+        let mut held = 0;
+        for piece in black_box(file).chunks(size) {
+            buffer[held..][..piece.len()].copy_from_slice(piece);
+            held += piece.len();
+            black_box(peer::unfinished(&buffer[..held]));
+        }
+    })
+}
+
+/// A file in pieces, with a question that expects more after each.
+pub fn asked_after_each<'a>(file: &'a [u8], size: usize, id: &'a [u8], ticks: i64) -> Piece<'a> {
+    let mut buffer = vec![0; file.len()];
+    piece(move || {
+        let mut receiver = nzd::Receiver::new(&mut buffer);
+        for piece in black_box(file).chunks(size) {
+            let _ = black_box(receiver.add(piece));
+            let _ = black_box(receiver.ask(id, ticks, Mark::MoreMayCome));
+        }
+    })
 }
 
 fn field_of(field: u8) -> LocationField {

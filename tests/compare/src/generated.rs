@@ -4,6 +4,7 @@ use crate::cases::padded;
 use crate::local::{map, times};
 use crate::locations;
 use crate::questions::{ask, other_ids, prefixes, Question};
+use crate::receiver::pieces;
 use crate::tally::{Difference, Tally};
 use crate::whole::{check, whole};
 use second_reader::generate::{
@@ -42,6 +43,7 @@ pub fn round(tally: &mut Tally, seed: u64, number: u64) -> Result<(), Difference
         for (id, local) in &locals {
             map(tally, &file, id, *local)?;
         }
+        pieces(tally, &file, &asked, &locals, &mut prng)?;
         if file.len() <= EVERY_PREFIX {
             let few: Vec<Question> = (0..3).map(|_| prng.pick(&asked).clone()).collect();
             prefixes(tally, &file, &few, 1, &mut prng)?;

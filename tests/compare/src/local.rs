@@ -20,7 +20,7 @@ pub fn map(tally: &mut Tally, file: &[u8], id: &[u8], local: i64) -> Result<(), 
 }
 
 /// The numbers of the C function again.
-fn numbers_of(found: LocalInstants) -> Result<[i64; 3], (u8, u64)> {
+pub fn numbers_of(found: LocalInstants) -> Result<[i64; 3], (u8, u64)> {
     let count = found.count();
     match (count, found.earliest().zip(found.latest())) {
         (0, None) => Err((17, 0)),

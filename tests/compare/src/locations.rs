@@ -6,7 +6,8 @@ use crate::whole::{error_pair, pair};
 use nzd::ffi;
 use second_reader::codes::encode_signed_count;
 use second_reader::generate::Prng;
-use second_reader::locations::LocationField;
+use second_reader::locations::{self as second, LocationField};
+use second_reader::number::Refusal;
 use std::ops::Range;
 
 /// What lent memory holds before a call.
@@ -76,18 +77,21 @@ fn clone(outcome: &Outcome<Located>) -> Outcome<Located> {
     outcome.as_ref().map_or_else(|refusal| Err(*refusal), |_| panic!("a refusal"))
 }
 
+/// What the second reader gives.
+fn expected(found: &Result<second::Pin, Refusal>) -> Outcome<Located> {
+    found.clone().map_err(pair).map(|found| Located {
+        pin: [found.latitude.to_bits(), found.longitude.to_bits()],
+        texts: [found.zone, found.comment],
+        countries: found.countries.into_iter().map(|(name, code)| [name, code]).collect(),
+    })
+}
+
 /// Compares one location, and says whether there is one.
 fn one(tally: &mut Tally, file: &[u8], field: LocationField, number: u64) -> Result<bool, Difference> {
     let asked = format!("location {number} of field {}", field.id());
-    let found = second_reader::locations::location(file, field, number);
+    let found = second::location(file, field, number);
     let there = found.is_ok();
-    let theirs = || {
-        found.clone().map_err(pair).map(|found| Located {
-            pin: [found.latitude.to_bits(), found.longitude.to_bits()],
-            texts: [found.zone, found.comment],
-            countries: found.countries.into_iter().map(|(name, code)| [name, code]).collect(),
-        })
-    };
+    let theirs = || expected(&found);
     tally.same(&asked, file, given(file, u64::from(field.id()), number)?, theirs())?;
     tally.same(&format!("{asked}, by the wrapper"), file, wrapped(file, field, number), theirs())?;
     Ok(there)
@@ -97,14 +101,48 @@ fn range(place: u64, length: u64) -> Range<usize> {
     place as usize..(place + length) as usize
 }
 
+/// Compares the first location of each field by what a receiver holds: as the second reader's receiver has it.
+pub fn of_receiver(
+    tally: &mut Tally,
+    what: &str,
+    held: &[u8],
+    said: impl Fn(LocationField) -> Result<second::Pin, Refusal>,
+    ask: impl Fn(u64, &mut [f64; 2], &mut [u64; 8]) -> u64,
+    wrapped: &nzd::Receiver<'_>,
+) -> Result<(), Difference> {
+    for field in [LocationField::Zone, LocationField::Zone1970] {
+        let found = said(field);
+        let ours = given_by(held, |pin, out| ask(u64::from(field.id()), pin, out))?;
+        tally.same(&what, held, ours, expected(&found))?;
+        let by_wrapper = wrapped_parts(wrapped.held(), wrapped.location(named(field), 0));
+        tally.same(&what, held, by_wrapper, expected(&found))?;
+    }
+    Ok(())
+}
+
+fn named(field: LocationField) -> nzd::LocationField {
+    match field {
+        LocationField::Zone => nzd::LocationField::Zone,
+        LocationField::Zone1970 => nzd::LocationField::Zone1970,
+    }
+}
+
 /// By the C functions, with memory beside what is lent that must stay.
 fn given(file: &[u8], field: u64, number: u64) -> Result<Outcome<Located>, Difference> {
+    given_by(file, |pin, out| ffi::location(file, field, number, pin, out))
+}
+
+/// By a C function, of the file's bytes.
+fn given_by(
+    file: &[u8],
+    ask: impl FnOnce(&mut [f64; 2], &mut [u64; 8]) -> u64,
+) -> Result<Outcome<Located>, Difference> {
     let left = |numbers: &[u64]| numbers.iter().all(|number| *number == FOUND);
     let mut pins = [f64::from_bits(FOUND); 6];
     let mut lent = [FOUND; 14];
     let pin = (&mut pins[2..4]).try_into().expect("two");
     let out = (&mut lent[3..11]).try_into().expect("eight");
-    let result = ffi::location(file, field, number, pin, out);
+    let result = ask(pin, out);
     let bits = pins.map(f64::to_bits);
     let refused = result != 0;
     if !left(&bits[..2])
@@ -146,15 +184,15 @@ fn given(file: &[u8], field: u64, number: u64) -> Result<Outcome<Located>, Diffe
 
 /// By the wrapper.
 fn wrapped(file: &[u8], field: LocationField, number: u64) -> Outcome<Located> {
-    let field = match field {
-        LocationField::Zone => nzd::LocationField::Zone,
-        LocationField::Zone1970 => nzd::LocationField::Zone1970,
-    };
+    wrapped_parts(file, nzd::location(file, named(field), number))
+}
+
+fn wrapped_parts(file: &[u8], found: Result<nzd::Location<'_>, nzd::Error>) -> Outcome<Located> {
     let part = |text: &str| {
         let place = text.as_ptr() as usize - file.as_ptr() as usize;
         place..place + text.len()
     };
-    let found = nzd::location(file, field, number).map_err(error_pair)?;
+    let found = found.map_err(error_pair)?;
     Ok(Located {
         pin: [found.pin.latitude.to_bits(), found.pin.longitude.to_bits()],
         texts: [part(found.zone), part(found.comment)],

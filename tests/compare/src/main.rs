@@ -15,6 +15,7 @@ mod local;
 mod locations;
 mod published;
 mod questions;
+mod receiver;
 mod sweeps;
 mod tally;
 mod whole;
@@ -63,6 +64,7 @@ fn compare(tally: &mut Tally, options: &Options, files: &[(String, Vec<u8>)]) ->
         move |difference: Difference| format!("{what}: {difference}")
     };
     cases::all(tally, &mut prng).map_err(named("a worked case"))?;
+    receiver::worked(tally).map_err(named("a worked case"))?;
     sweeps::all(tally).map_err(named("a sweep"))?;
     for (name, file) in files {
         published::file(tally, file, &mut prng).map_err(named(name))?;

@@ -13,7 +13,7 @@ pub type Question = (Vec<u8>, i64);
 
 /// How a question is asked.
 #[derive(Clone, Copy, Debug)]
-enum Way {
+pub enum Way {
     More,
     All,
     Plain,
@@ -66,7 +66,7 @@ pub fn ask(tally: &mut Tally, file: &[u8], id: &[u8], ticks: i64) -> Result<(), 
     Ok(())
 }
 
-fn numbers_of(answer: &Answer) -> [i64; 7] {
+pub fn numbers_of(answer: &Answer) -> [i64; 7] {
     let Answer { wall, savings, standard, name, start, end } = answer;
     let bound = |bound: &Transition| match bound {
         Transition::StartOfTime => i64::MIN,
@@ -77,7 +77,7 @@ fn numbers_of(answer: &Answer) -> [i64; 7] {
     [wall, savings, standard, name.start as i64, name.len() as i64, bound(start), bound(end)]
 }
 
-fn wrapped_numbers(file: &[u8], answer: Result<nzd::Answer<'_>, nzd::Error>) -> Outcome<[i64; 7]> {
+pub fn wrapped_numbers(file: &[u8], answer: Result<nzd::Answer<'_>, nzd::Error>) -> Outcome<[i64; 7]> {
     let answer = answer.map_err(error_pair)?;
     let nzd::Answer { wall_offset_ms, savings_ms, standard_offset_ms, start, end, .. } = answer;
     let bound = |bound: Bound| match bound {

@@ -45,6 +45,11 @@ impl<'a> Fields<'a> {
         }
     }
 
+    /// From the place of a field on, where the ID of the one before it is known.
+    pub fn onward(bytes: &'a [u8], at: usize, before: Option<u8>, cut: u8) -> Fields<'a> {
+        Fields { bytes, at, before, cut }
+    }
+
     /// The place of the next field.
     pub fn place(&self) -> usize {
         self.at

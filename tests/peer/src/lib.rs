@@ -13,6 +13,7 @@ mod ids;
 mod local;
 mod locations;
 mod pool;
+mod receiver;
 mod rewrite;
 mod tail;
 mod whole;
@@ -21,6 +22,7 @@ mod zone;
 pub use aliases::ask_named;
 pub use local::LocalInstants;
 pub use locations::{location, Countries, Location};
+pub use receiver::{unfinished, Receiver};
 pub use rewrite::rewrite;
 pub use whole::{check, version_text};
 

@@ -278,3 +278,28 @@ fn limits() {
     }
     assert_eq!(seen.whole, BTreeSet::from([0, 2, 4, 7, 12, 15]));
 }
+
+/// Files in pieces of any lengths, good and damaged: the place after each, from where the walk stopped and from the front.
+#[test]
+fn pieces() {
+    for seed in 0..400 {
+        let mut prng = Prng::of_case(8, seed);
+        let content = random_content(&mut prng, Size::Small);
+        let good = plan(&content, &mut Forms::Any(&mut prng));
+        let kind = *prng.pick(&Damage::ALL);
+        for file in [good.bytes(), damaged(&good, kind, &mut prng)] {
+            let mut buffer = vec![0; file.len()];
+            let mut receiver = peer::Receiver::default();
+            while receiver.held < file.len() {
+                let most = (file.len() - receiver.held).min(if prng.one_in(4) { 2000 } else { 20 });
+                let piece = &file[receiver.held..][..1 + prng.below(most)];
+                assert_eq!(receiver.add(&mut buffer, piece), Ok(()));
+                let held = &file[..receiver.held];
+                let place = second_reader::receiver::unfinished(held);
+                assert_eq!((receiver.place, peer::unfinished(held)), (place, place), "{held:02x?}");
+            }
+            assert_eq!(buffer, file);
+            assert_eq!(receiver.add(&mut buffer, &[0]), Err(peer::Refusal { number: 15, place: 0 }));
+        }
+    }
+}

@@ -5,7 +5,7 @@ use crate::Done;
 use second_reader::codes;
 use second_reader::recurrence::{parse_rule, parse_tail};
 use second_reader::transition::in_range;
-use second_reader::{calendar, Number, Transition};
+use second_reader::{calendar, Number, Receiver, Transition};
 use std::ffi::OsStr;
 use std::fmt::Display;
 
@@ -14,6 +14,8 @@ type Case = Result<Result<String, Number>, String>;
 
 /// More room than any code needs, and little enough to be lent for each case.
 const MOST_ROOM: usize = 65_536;
+/// More than the longest file.
+const MOST_BUFFER: usize = 8_388_608;
 
 /// The case that the words make, or each line of standard input if there are none.
 pub(crate) fn run(command: &str, words: &[&OsStr]) -> Result<Done, Misuse> {
@@ -120,6 +122,34 @@ fn date_case(year: i64, month: u32, day: i64) -> Case {
         return Err("there is no such date".to_string());
     }
     Ok(Ok(calendar::day_number(year, month, day).to_string()))
+}
+
+/// A receiver over a buffer of some length: for each piece, or `reset`, what is held and the place of the first unfinished
+/// field, or the refusal.
+pub(crate) fn receive(words: &[&OsStr]) -> Result<Done, Misuse> {
+    let words: Vec<&str> = words.iter().map(|word| word.to_str().ok_or(Misuse::Usage)).collect::<Result<_, _>>()?;
+    let (length, pieces) = words.split_first().ok_or(Misuse::Usage)?;
+    let length: usize = number(length)?;
+    if length > MOST_BUFFER {
+        return Err(Misuse::Words(format!("the buffer is longer than {MOST_BUFFER}")));
+    }
+    let mut buffer = vec![0; length];
+    let mut receiver = Receiver::new();
+    let mut output = String::new();
+    for piece in pieces {
+        let added = match *piece {
+            "reset" => {
+                receiver.reset();
+                Ok(())
+            }
+            hex => receiver.add(&mut buffer, &bytes(hex)?),
+        };
+        output += &match added {
+            Ok(()) => format!("0 {} {}\n", receiver.held, receiver.place),
+            Err(refusal) => format!("{refusal}\n"),
+        };
+    }
+    Ok(Done { output: output.into_bytes(), refused: None })
 }
 
 fn number<T: std::str::FromStr>(word: &str) -> Result<T, String> {

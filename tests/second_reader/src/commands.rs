@@ -59,6 +59,7 @@ pub(crate) fn run(arguments: &[OsString]) -> Result<Done, Misuse> {
         (Some("rewrite"), [file, out]) => rewrite_file(file, out),
         (Some("lines"), [file]) => answer_lines(file),
         (Some("generate"), [seed, count, dir]) => generate_files(number(seed)?, number(count)?, Path::new(dir)),
+        (Some("receive"), words) => cases::receive(words),
         (Some(name @ ("code" | "rule" | "tail" | "date")), words) => cases::run(name, words),
         _ => Err(Misuse::Usage),
     }

@@ -18,6 +18,7 @@ usage: second_reader COMMAND ...
   version FILE                         `0 TEXT`, or number and place
   rewrite FILE OUT                     write the preferred file to OUT: `0 LENGTH`, or number and place
   lines FILE                           question lines on standard input, the program's output
+  receive LENGTH PIECE...              for each piece (hex, `-` or reset) `0 HELD PLACE`, or number and place
   generate SEED COUNT DIR              write files with question lines and expected output into DIR
 
   code read KIND HEX [PREVIOUS]        one small code: `0 LENGTH VALUE`, or number and place

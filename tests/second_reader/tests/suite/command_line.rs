@@ -126,6 +126,13 @@ fn single_codes() {
 }
 
 #[test]
+fn receiving() {
+    let pieces = ["receive", "12", "000000", "00", "000100", "02010003", "0201", "-", "reset", "00000001", "00"];
+    prints(&pieces, "", "0 3 0\n0 4 4\n0 7 7\n0 11 10\n15 0\n0 11 10\n0 0 0\n0 4 0\n0 5 0\n", 0);
+    prints(&["receive", "0"], "", "", 0);
+}
+
+#[test]
 fn rules_tails_and_dates() {
     prints(&["rule", "1C030132", "0", "0", "2024"], "", "0 17118468000000000\n", 0);
     prints(&["rule", "1C000132", "0", "0", "2024"], "", "11 0\n", 1);
@@ -163,6 +170,9 @@ fn misuse_is_said_in_words() {
         &["local", EUROPE, "Europe/Oslo", "x"],
         &["location", EUROPE, "5", "0"],
         &["location", EUROPE, "6", "-1"],
+        &["receive"],
+        &["receive", "4", "0"],
+        &["receive", "99999999"],
         &["generate", "1", "-1", "x"],
         &["code", "read", "count"],
         &["code", "read", "count", "0"],

@@ -16,6 +16,7 @@ mod plain_question;
 mod program;
 mod readings;
 mod realistic;
+mod receiver;
 mod recurrences;
 mod rewriting;
 mod standard_offset;

@@ -1,0 +1,3 @@
+pub mod Receive
+pub mod Calls
+pub mod OnHeld

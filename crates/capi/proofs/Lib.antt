@@ -3,6 +3,5 @@ pub mod SmallLaws
 pub mod FormLaws
 pub mod PutLaws
 pub mod RewriteLaws
-pub mod ReceivedLaws
 pub mod Walk
 pub mod LocationLaws

@@ -6,7 +6,6 @@ use mathlib.Core.Option.{Option, none, some}
 use Prim.Native.Nat.{ℕ, _≤_}
 use native.Mathlib.Omega.{arith}
 use lib.Dec.{eqb}
-use lib.Ieee.{Float}
 use lib.ListN.{length}
 use Rattle.base.specs.Pick.{pick}
 use Rattle.base.specs.All.{All}
@@ -32,9 +31,8 @@ use Rattle.locations.specs.declared.Sought.the-variants.{Here as There, Beyond,
 use Rattle.pool.specs.Index.{roomOf}
 use Rattle.location_lookup.specs.Location.{lentPart, answerIn, inField, byFields, inFile, byCheck, locationOf}
 use Rattle.location_lookup.specs.declared.LocationAnswer.{LocationAnswer}
-use Rattle.location_lookup.specs.declared.NextPair.{NextPair}
-use Rattle.file_replies.specs.Locations.{noField, locationBy, GivesLocation, GivesCountry}
-use Rattle.file_replies.specs.Small.{SmallLocation}
+use Rattle.file_locations.specs.ByField.{noField, locationBy}
+use Rattle.location_replies.specs.Small.{SmallLocation}
 use Rattle.capi.proofs.PlaceLaws.{check-small}
 
 -- the length of a well-formed file
@@ -105,11 +103,3 @@ by-near f i number = go (eqb i 6) (eqb i 7)
 
 pub location-small : (f : List ℕ) (i number : ℕ) (a : LocationAnswer) → a ≡ locationBy f i number → SmallLocation a
 location-small f i number a e = subst SmallLocation (sym e) (by-near f i number)
-
-pub location-as : (a b : LocationAnswer) (c : List Float) (d : List ℕ) (r : ℕ) (e : List Float) (g : List ℕ) → a ≡ b → GivesLocation a c d r e g
-    → GivesLocation b c d r e g
-location-as a b c d r e g h k = subst (λ (x : LocationAnswer). GivesLocation x c d r e g) h k
-
-pub country-as : (x y : NextPair) (start′ end : ℕ) (c d : List ℕ) (r : Bool) (e g : List ℕ) → x ≡ y → GivesCountry x start′ end c d r e g
-    → GivesCountry y start′ end c d r e g
-country-as x y start′ end c d r e g h k = subst (λ (z : NextPair). GivesCountry z start′ end c d r e g) h k

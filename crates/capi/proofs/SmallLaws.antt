@@ -34,7 +34,7 @@ use Rattle.field_checks.specs.declared.VersionText.the-variants.{Part as TextPa
 use Rattle.field_checks.proofs.VersionLaws.{text-of-field}
 use Rattle.answers.specs.Answers.{Pool, noPool}
 use Rattle.questions.specs.Question.{answerAt, question, finish, ask}
-use Rattle.named_questions.specs.Named.{Known, nothing, naming, askNamed}
+use Rattle.named_fields.specs.Named.{Known, nothing, naming, askNamed}
 use Rattle.named_questions.proofs.NameLaws.{name-inside as named-inside}
 use Rattle.answers.specs.declared.Mark.{Mark}
 use Rattle.answers.specs.declared.Found.{Found}

@@ -8,14 +8,15 @@ ghost use Rattle.transitions.specs.Transition.{readMoment};
 ghost use Rattle.texts.specs.Text.{readText, textForm};
 ghost use Rattle.field_checks.specs.Check.{checkOf, versionOf};
 ghost use Rattle.questions.specs.Question.{ask as askOf, askPlain};
-ghost use Rattle.named_questions.specs.Named.{askNamed};
+ghost use Rattle.named_fields.specs.Named.{askNamed};
 ghost use Rattle.receivers.specs.Receive.{fresh, Adds};
 ghost use Rattle.replies.specs.Reply.{Gives, Puts};
 ghost use Rattle.replies.specs.Functions.{readReply, numberReply, textReply, momentReply, previousOf, integerForm};
 ghost use Rattle.file_replies.specs.Functions.{verdictResult, markOf, answerReply, versionReply};
-ghost use Rattle.capi.specs.Functions.{Rewrites, MapsLocal, kindForm, StepsView};
-ghost use Rattle.capi.specs.Received.{askReceived, askPlainReceived, askNamedReceived, locationReceived, MapsReceived, checkReceived, versionReceived, RewritesReceived};
-ghost use Rattle.file_replies.specs.Locations.{locationBy, GivesLocation};
+ghost use Rattle.capi_contracts.specs.Functions.{Rewrites, MapsLocal, kindForm, StepsView};
+ghost use Rattle.capi_contracts.specs.Received.{askReceived, askPlainReceived, askNamedReceived, locationReceived, MapsReceived, checkReceived, versionReceived, RewritesReceived};
+ghost use Rattle.file_locations.specs.ByField.{locationBy};
+ghost use Rattle.location_replies.specs.Locations.{GivesLocation};
 
 // The preferred form of a whole file.
 #[no_mangle]
@@ -90,8 +91,8 @@ pub extern "C" fn nzd_location(
 ) -> u64
     ensures { λ r. ⌜ GivesLocation (locationBy (now (file .entry)) field number) (now (pin .entry)) (now (out .entry)) r (now (pin .exit)) (now (out .exit)) ⌝ }
 {
-    let a = file_replies::location_by(file, field, number);
-    file_replies::give_location(a, pin, out)
+    let a = file_locations::location_by(file, field, number);
+    location_replies::give_location(a, pin, out)
 }
 
 // The next country of a view, whatever its numbers are.
@@ -110,7 +111,7 @@ pub extern "C" fn nzd_next_country(file: &[u8], view: &mut [u64; 4], out: &mut [
         at as usize,
         left as usize,
     );
-    file_replies::give_country(x, start, end, view, out)
+    location_replies::give_country(x, start, end, view, out)
 }
 
 // The version text.
@@ -314,9 +315,9 @@ pub extern "C" fn nzd_read_transition(
 ) -> u64
     ensures { λ r. ⌜ Gives (momentReply (readMoment (previousOf finite previous) (now (s .entry)))) (now (out .entry)) r (now (out .exit)) ⌝ }
 {
-    let p = replies::previous_of(finite, previous);
+    let p = moment_replies::previous_of(finite, previous);
     let c = transitions::read_moment(p, s);
-    replies::give_moment(c, out)
+    moment_replies::give_moment(c, out)
 }
 
 #[no_mangle]
@@ -361,8 +362,8 @@ pub extern "C" fn nzd_write_transition(
 ) -> u64
     ensures { λ r. ⌜ Puts (kindForm finite previous kind ticks) (now (out .entry)) r (now (out .exit)) ⌝ }
 {
-    let p = replies::previous_of(finite, previous);
-    let m = replies::moment_of(kind, ticks);
+    let p = moment_replies::previous_of(finite, previous);
+    let m = moment_replies::moment_of(kind, ticks);
     let w = transitions::write_moment(p, m, out);
     replies::written(w)
 }

@@ -20,7 +20,7 @@ fn step(s: &[u8], c: Cursor, index: &mut [u32; 8192], order: &mut [u16; 8192]) -
 {
     let at = c.at;
     let kept = c.kept;
-    let f = frames::read_frame(&s[at..], 255, at, 4 < at, c.prev);
+    let f = headers::read_frame(&s[at..], 255, at, 4 < at, c.prev);
     match f {
         Frame::End => Turn::Done(field_checks::conclude(at, kept)),
         Frame::Cut => Turn::Done(Conclusion::Refused(2, at)),

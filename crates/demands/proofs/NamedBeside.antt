@@ -27,7 +27,7 @@ use Rattle.field_checks.specs.Check.{Memory, placed, withText, textIn, textKept
 use Rattle.answers.specs.Answers.{Pool, answered}
 use Rattle.answers.specs.declared.Found.{Found}
 use Rattle.questions.specs.Question.{answerAt}
-use Rattle.named_questions.specs.Named.{Known, zoneIn, zonesOf, textSays, resolved, aliasSays, says}
+use Rattle.named_fields.specs.Named.{Known, zoneIn, zonesOf, textSays, resolved, aliasSays, says}
 use Rattle.demands.proofs.Beside.{Alike, Passed, keeps, answers}
 
 -- what is known of a field up to ID 2: field 0 has the file's pool, and no zone has the asked ID

@@ -36,7 +36,7 @@ use Rattle.answers.specs.declared.Found.{Found}
 use Rattle.answers.specs.declared.Answer.the-variants.{In}
 use Rattle.locate.specs.Asked.{says as askedSays}
 use Rattle.questions.specs.Question.{answerAt, question, finish, ask}
-use Rattle.named_questions.specs.Named.{Seen, zoneIn, Known, nothing, zonesOf, seenOf, says, naming, askNamed}
+use Rattle.named_fields.specs.Named.{Seen, zoneIn, Known, nothing, zonesOf, seenOf, says, naming, askNamed}
 use Rattle.named_questions.proofs.GrowLaws.{pass-asked, pass-first-pool}
 use Rattle.named_questions.proofs.NameLaws.{standing-name}
 use Rattle.demands.specs.Zones.{InRange, Asked, NoZone}

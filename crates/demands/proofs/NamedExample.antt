@@ -27,7 +27,7 @@ use Rattle.frames.specs.Frame.{order, zeros, version, sized, field, frame, Fiel
 use Rattle.frames.specs.Machine.{act, step, walk}
 use Rattle.frames.specs.Fields.{scan, listing}
 use Rattle.field_checks.specs.Check.{nowhere, poolKept, newId, zoneKept, aliasesKept, judged, WellFormed, filePool}
-use Rattle.named_questions.specs.Named.{zoneIn, zonesOf, seenOf}
+use Rattle.named_fields.specs.Named.{zoneIn, zonesOf, seenOf}
 use Rattle.demands.specs.Zones.{InRange, NoZone}
 use Rattle.demands.specs.Named.{Aliases, ByAlias, OfTarget}
 use Rattle.demands.proofs.NamedExact.{by-alias}

@@ -30,7 +30,7 @@ use Rattle.answers.specs.declared.Found.{Found}
 use Rattle.answers.specs.declared.Answer.the-variants.{Refused}
 use Rattle.locate.specs.Asked.{says as askedSays}
 use Rattle.questions.specs.Question.{answerAt, finish}
-use Rattle.named_questions.specs.Named.{zoneIn, Known, nothing, remembered, textSays, resolved, aliasSays, says, naming, askNamed}
+use Rattle.named_fields.specs.Named.{zoneIn, Known, nothing, remembered, textSays, resolved, aliasSays, says, naming, askNamed}
 use Rattle.demands.specs.Numbers.{OfFile, OfQuestion, not-yet, question-cut, question-fault, no-zone, no-instant, InTable}
 use Rattle.demands.specs.Numbers.{OfNamed, named-question, too-many-steps, named-second-key}
 use Rattle.demands.proofs.ContentNumbers.{FineAliases, aliases-numbers}

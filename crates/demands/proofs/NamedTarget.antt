@@ -31,7 +31,7 @@ use Rattle.answers.specs.Answers.{answered}
 use Rattle.answers.specs.declared.Mark.the-variants.{All as Whole}
 use Rattle.answers.specs.declared.Answer.the-variants.{In}
 use Rattle.questions.specs.Question.{ask}
-use Rattle.named_questions.specs.Named.{Seen, zoneIn, seenIn, zonesOf, seenOf, askNamed}
+use Rattle.named_fields.specs.Named.{Seen, zoneIn, seenIn, zonesOf, seenOf, askNamed}
 use Rattle.demands.specs.Zones.{InRange, Asked, NoZone}
 use Rattle.demands.specs.Named.{Aliases, firstPool, leadsTo, OfTarget}
 use Rattle.demands.proofs.Lone.{none-before}

@@ -18,7 +18,7 @@ use Rattle.receivers.specs.Calls.{Call, State, heldIn, start, run, accepted, in
 use Rattle.receivers.proofs.CallLaws.{receives, grows}
 use Rattle.receivers.proofs.HeldLaws.{asks-accepted}
 use Rattle.questions.specs.Question.{ask}
-use Rattle.named_questions.specs.Named.{askNamed}
+use Rattle.named_fields.specs.Named.{askNamed}
 use Rattle.answers.specs.Answers.{numberOf}
 use Rattle.answers.specs.Numbers.{givenByAnswer}
 use Rattle.answers.specs.declared.Mark.{Mark}

@@ -23,7 +23,7 @@ use Rattle.answers.specs.declared.Found.{Found}
 use Rattle.answers.specs.declared.Answer.{Answer}
 use Rattle.answers.specs.declared.Answer.the-variants.{In, Refused}
 use Rattle.questions.specs.Question.{ask}
-use Rattle.named_questions.specs.Named.{zoneIn, seenOf, askNamed}
+use Rattle.named_fields.specs.Named.{zoneIn, seenOf, askNamed}
 use Rattle.demands.specs.Zones.{Asked, NoZone}
 
 -- "If that gives anything but 'not yet', then whatever bytes follow, the bytes so lengthened give the same answer or refusal, asked with

@@ -8,7 +8,7 @@ use Rattle.receivers.specs.OnHeld.{onHeld}
 use Rattle.receivers.specs.Calls.{State, heldIn}
 use Rattle.answers.specs.Answers.{numberOf, nameOf}
 use Rattle.questions.specs.Question.{ask}
-use Rattle.named_questions.specs.Named.{askNamed}
+use Rattle.named_fields.specs.Named.{askNamed}
 use Rattle.answers.specs.declared.Mark.{Mark}
 use Rattle.answers.specs.declared.Mark.the-variants.{More}
 use Rattle.answers.specs.declared.Found.{Found}

@@ -19,7 +19,7 @@ fn seek(s: &[u8], id: u8) -> FieldPlace
     let mut at: usize = 4;
     let mut prev: usize = 0;
     loop {
-        let f = frames::read_frame(&s[at..], 255, at, 4 < at, prev);
+        let f = headers::read_frame(&s[at..], 255, at, 4 < at, prev);
         match f {
             Frame::End => {
                 return FieldPlace::Nowhere;
@@ -51,7 +51,7 @@ fn seek(s: &[u8], id: u8) -> FieldPlace
 pub fn find_field(s: &[u8], id: u8) -> FieldPlace
     ensures { λ r. ⌜ r ≡ fieldPlace id (now (s .entry)) ⌝ }
 {
-    match frames::read_frame(s, 255, 0, false, 0) {
+    match headers::read_frame(s, 255, 0, false, 0) {
         Frame::Version => seek(s, id),
         Frame::End => FieldPlace::Nowhere,
         Frame::Cut => FieldPlace::Nowhere,

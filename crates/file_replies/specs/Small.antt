@@ -5,8 +5,6 @@ use Rattle.field_checks.specs.declared.Verdict.{Verdict}
 use Rattle.field_checks.specs.declared.Verdict.the-variants.{Good, Refused as Ill}
 use Rattle.field_checks.specs.declared.VersionText.{VersionText}
 use Rattle.field_checks.specs.declared.VersionText.the-variants.{Part as TextPart, Refused as NoText}
-use Rattle.location_lookup.specs.declared.LocationAnswer.{LocationAnswer}
-use Rattle.location_lookup.specs.declared.LocationAnswer.the-variants.{Here, Refused}
 use Rattle.answers.specs.declared.Answer.{Answer}
 use Rattle.answers.specs.declared.Answer.the-variants.{In, Refused as Denied}
 use Rattle.rewrite.specs.declared.Rewritten.{Rewritten}
@@ -48,10 +46,3 @@ RewrittenTo (Unwritten n p) = p ≤ 4194304
 
 pub record SmallRewritten (r : Rewritten) : Type 0 where
   pub to : RewrittenTo r
-
-abbrev pub LocationTo : LocationAnswer → Type 0
-LocationTo (Here x) = Unit {0}
-LocationTo (Refused n p) = p ≤ 4194304
-
-pub record SmallLocation (a : LocationAnswer) : Type 0 where
-  pub to : LocationTo a

@@ -54,7 +54,7 @@ fn read_pool(s: &[u8]) -> First
     ensures { λ r. ⌜ FirstOf (now (s .entry)) r ⌝ }
 {
     let at: usize = 4;
-    match frames::read_frame(&s[at..], 1, at, false, 0) {
+    match headers::read_frame(&s[at..], 1, at, false, 0) {
         Frame::End => First::End(at),
         Frame::Cut => First::Cut(at),
         Frame::Refused(n) => First::Refused(n, at),
@@ -71,7 +71,7 @@ fn read_pool(s: &[u8]) -> First
 pub fn read_first(s: &[u8]) -> First
     ensures { λ r. ⌜ FirstOf (now (s .entry)) r ⌝ }
 {
-    match frames::read_frame(s, 1, 0, false, 0) {
+    match headers::read_frame(s, 1, 0, false, 0) {
         Frame::End => First::End(0),
         Frame::Cut => First::Cut(0),
         Frame::Refused(n) => First::Refused(n, 0),
@@ -116,7 +116,7 @@ pub fn walk_zones(
     let mut at = end;
     let mut prev: usize = 0;
     loop {
-        let f = frames::read_frame(&s[at..], 1, at, true, prev);
+        let f = headers::read_frame(&s[at..], 1, at, true, prev);
         match f {
             Frame::End => {
                 return Located::End(at);

@@ -74,7 +74,7 @@ fn run_line(line: &[u8], buf: &mut [u8]) {
     let field = field_of(cases::natural(hex::text(line, 0)));
     let number = cases::natural(hex::text(line, 1));
     let n = cases::build(line, 2, buf);
-    let a = location_lookup::location(&buf[..n], field, number);
+    let a = file_locations::location(&buf[..n], field, number);
     show_answer(&buf[..n], a);
 }
 

@@ -1,6 +1,5 @@
 // A location of a file by field and number, and the view of its countries: the countries' texts by the view's numbers.
 use countries::Item;
-use field_checks::Verdict;
 use field_search::FieldPlace;
 use locations::LocationField;
 use locations::Sought;
@@ -11,8 +10,7 @@ ghost use mathlib.Core.Path.{_≡_};
 ghost use Prim.Native.Nat.{_≤_};
 ghost use Rattle.signed.specs.Zigzag.{unzigzagOf};
 ghost use Rattle.pins.specs.Degrees.{pinOf};
-ghost use Rattle.locations.specs.Content.{idOf};
-ghost use Rattle.location_lookup.specs.Location.{lentPart, textIn, locatedAt, inField, inFile, locationOf};
+ghost use Rattle.location_lookup.specs.Location.{lentPart, textIn, locatedAt, inField};
 ghost use Rattle.location_lookup.specs.Country.{pairOf, nextOf};
 
 // A location: its pin, the places and lengths of its zone ID and its comment in the lent bytes, and the view of its countries: where the
@@ -72,15 +70,6 @@ fn text_in(s: &[u8], b: usize, c: usize, k: u64) -> Span
     }
 }
 
-fn id_of(field: LocationField) -> u8
-    ensures { λ r. ⌜ r ≡ idOf field ⌝ }
-{
-    match field {
-        LocationField::Zone => 6,
-        LocationField::Zone1970 => 7,
-    }
-}
-
 // The pin of seconds as signed counts have them.
 fn pin_at(latitude: u64, longitude: u64) -> Pin
     requires { ⌜ (latitude ≤ 648000) × (longitude ≤ 1296000) ⌝ }
@@ -111,7 +100,7 @@ fn locate(s: &[u8], b: usize, c: usize, a: usize, e: usize, x: Spot) -> Located
 }
 
 // The location with a number in the field at the place p, whose data go from a to e; those of the pool go from b to c.
-fn in_field(
+pub fn in_field(
     s: &[u8],
     b: usize,
     c: usize,
@@ -129,29 +118,6 @@ fn in_field(
         Sought::Here(x) => LocationAnswer::Here(locate(s, b, c, a, e, x)),
         Sought::Beyond => LocationAnswer::Refused(12, p),
         Sought::Refused(k) => LocationAnswer::Refused(k, p),
-    }
-}
-
-// The same in a file that is checked.
-fn in_file(s: &[u8], field: LocationField, number: u64) -> LocationAnswer
-    ensures { λ r. ⌜ r ≡ inFile (now (s .entry)) field number ⌝ }
-{
-    match field_search::find_field(s, 0) {
-        FieldPlace::Nowhere => LocationAnswer::Refused(12, s.len()),
-        FieldPlace::At(_, b, c) => match field_search::find_field(s, id_of(field)) {
-            FieldPlace::Nowhere => LocationAnswer::Refused(12, s.len()),
-            FieldPlace::At(p, a, e) => in_field(s, b, c, p, a, e, field, number),
-        },
-    }
-}
-
-// The location with a number, from 0, in a field of a whole file, all checked first.
-pub fn location(s: &[u8], field: LocationField, number: u64) -> LocationAnswer
-    ensures { λ r. ⌜ r ≡ locationOf (now (s .entry)) field number ⌝ }
-{
-    match checks::check(s) {
-        Verdict::Refused(n, p) => LocationAnswer::Refused(n, p),
-        Verdict::Good => in_file(s, field, number),
     }
 }
 

@@ -31,9 +31,9 @@ fn read_listed(s: &[u8], at: usize, pool: u64, id: u64, n: u64, t: u64) -> ZoneR
     requires { ⌜ at ≤ length (now s) ⌝ }
     ensures { λ r. ⌜ r ≡ readOf t (parseIntervals pool id n (drop at (now (s .entry)))) ⌝ }
 {
-    match intervals::read_intervals(s, at, pool, n, t) {
+    match interval_scans::read_intervals(s, at, pool, n, t) {
         ScanRead::Refused(k) => ZoneRead::Refused(k),
-        ScanRead::Got(c, e) => match zones::read_end(s, e, pool, c.last) {
+        ScanRead::Got(c, e) => match zone_ends::read_end(s, e, pool, c.last) {
             ZoneEnd::Refused(k) => ZoneRead::Refused(k),
             ZoneEnd::Untailed => ZoneRead::Listed(id, c),
             ZoneEnd::Tailed(m) => ZoneRead::Tailed(id, c, m),
@@ -45,7 +45,7 @@ fn read_listed(s: &[u8], at: usize, pool: u64, id: u64, n: u64, t: u64) -> ZoneR
 fn read_zone(s: &[u8], pool: u64, t: u64) -> ZoneRead
     ensures { λ r. ⌜ r ≡ readOf t (parseZone pool (now (s .entry))) ⌝ }
 {
-    match zones::read_front(s, pool) {
+    match zone_fronts::read_front(s, pool) {
         ZoneFront::Refused(k) => ZoneRead::Refused(k),
         ZoneFront::Fixed(id, offset, n) => ZoneRead::Fixed(id, offset, n),
         ZoneFront::Listed(id, n, a) => read_listed(s, a, pool, id, n, t),

@@ -35,8 +35,8 @@ use Rattle.locate.proofs.HeldLaws.{says-held}
 use Rattle.questions.specs.Question.{answerAt, finish}
 use Rattle.questions.specs.View.{outcomeOf, outcomeAt}
 use Rattle.questions.proofs.AskLaws.{finish-is}
-use Rattle.named_questions.specs.Named.{zoneIn, Known, nothing, remembered, textSays, resolved, aliasSays, says, naming, askNamed}
-use Rattle.named_questions.specs.View.{told, NamedAs}
+use Rattle.named_fields.specs.Named.{zoneIn, Known, nothing, remembered, textSays, resolved, aliasSays, says, naming, askNamed}
+use Rattle.named_fields.specs.View.{told, NamedAs}
 
 -- a job that makes its answer of the named zone makes it of the zone that is held
 module _ {A : Type 0} (h : Pool → Zone → A) (x : List ℕ) where

@@ -30,7 +30,7 @@ use Rattle.answers.specs.declared.Found.{Found}
 use Rattle.locate.specs.Asked.{poolSays, says as askedSays}
 use Rattle.questions.specs.Question.{answerAt}
 use Rattle.questions.proofs.NameLaws.{zone-keeps}
-use Rattle.named_questions.specs.Named.{Seen, Known, nothing, zoneIn, zonesOf, seenOf, remembered, textSays, resolved, aliasSays, says}
+use Rattle.named_fields.specs.Named.{Seen, Known, nothing, zoneIn, zonesOf, seenOf, remembered, textSays, resolved, aliasSays, says}
 
 -- what is remembered behind fields that are kept, the first of them aside
 pub record Grown (k k′ : Known) (gs : List Field) : Type 0 where

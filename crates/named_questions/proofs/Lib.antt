@@ -1,6 +1,3 @@
-pub mod SeenLaws
-pub mod JudgeLaws
-pub mod AliasLaws
 pub mod WalkingLaws
 pub mod AskLaws
 pub mod GrowLaws

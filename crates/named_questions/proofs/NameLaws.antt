@@ -47,7 +47,7 @@ use Rattle.answers.specs.declared.Answer.the-variants.{In, Refused}
 use Rattle.locate.specs.Asked.{says as askedSays}
 use Rattle.questions.specs.Question.{answerAt, finish}
 use Rattle.questions.proofs.NameLaws.{Inside, Named, says-named, says-inside}
-use Rattle.named_questions.specs.Named.{Seen, zoneIn, Known, nothing, seenIn, zonesOf, remembered, textSays, resolved, aliasSays, says, naming, askNamed}
+use Rattle.named_fields.specs.Named.{Seen, zoneIn, Known, nothing, seenIn, zonesOf, remembered, textSays, resolved, aliasSays, says, naming, askNamed}
 use Rattle.named_questions.proofs.GrowLaws.{field-grown}
 
 -- the names of a zone that was seen are strings of the pool

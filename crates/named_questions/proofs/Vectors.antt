@@ -26,7 +26,7 @@ use Rattle.answers.specs.Answers.{numberOf, placeOf}
 use Rattle.answers.specs.declared.Mark.{Mark}
 use Rattle.answers.specs.declared.Mark.the-variants.{More, All}
 use Rattle.locate.specs.Asked.{says as askedSays}
-use Rattle.named_questions.specs.Named.{zoneIn, zonesOf, says, askNamed}
+use Rattle.named_fields.specs.Named.{zoneIn, zonesOf, says, askNamed}
 
 -- strings "A" and "B", a zone "A", and what follows
 abbrev pub behind : List ℕ → List ℕ

@@ -36,10 +36,10 @@ use Rattle.locate.specs.declared.Located.the-variants.{Found, Refused, Cut, End
 use Rattle.locate.specs.declared.Judged.{Judged}
 use Rattle.locate.specs.declared.Judged.the-variants.{Here, Keep, Fault}
 use Rattle.locate.proofs.WalkingLaws.{pool-bad, pool-keep}
-use Rattle.named_questions.specs.Named.{Seen, zoneIn, Known, nothing, zonesOf, remembered, resolved, aliasSays, says, naming}
-use Rattle.named_questions.specs.View.{knownAt, stringsAt, Clear, Flags, stateFrom, Meets, told, NamedAs, contentOut, FieldTo, JudgedField, JudgedAliases, byPool}
-use Rattle.named_questions.proofs.SeenLaws.{zone-first, zone-last, flags-none}
-use Rattle.named_questions.proofs.JudgeLaws.{no-zones, one-zone, says-zone}
+use Rattle.named_fields.specs.Named.{Seen, zoneIn, Known, nothing, zonesOf, remembered, resolved, aliasSays, says, naming}
+use Rattle.named_fields.specs.View.{knownAt, stringsAt, Clear, Flags, stateFrom, Meets, told, NamedAs, contentOut, FieldTo, JudgedField, JudgedAliases, byPool}
+use Rattle.named_fields.proofs.SeenLaws.{zone-first, zone-last, flags-none}
+use Rattle.named_fields.proofs.JudgeLaws.{no-zones, one-zone, says-zone}
 
 module _ (x : List ℕ) (s : List ℕ) (start end : ℕ) where
   abbrev m : Pool

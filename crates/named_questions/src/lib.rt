@@ -1,17 +1,13 @@
 // The named question, on any bytes: the walk to the zone that a name leads to, by its ID or over aliases, and the answer there.
-use alias_lookup::Target;
-use aliases::Verdict;
 use answers::Answer;
 use answers::Mark;
 use answers::Outcome;
-use base::Read;
 use frames::Frame;
 use locate::First;
 use locate::Judged;
 use locate::Located;
 use locate::Spot;
 use pool::Checked;
-use texts::Text;
 ghost use mathlib.Core.Path.{_≡_};
 ghost use mathlib.Core.List.{[]};
 ghost use mathlib.Core.Bool.{true};
@@ -21,115 +17,14 @@ ghost use lib.Seq.{sets};
 ghost use Rattle.base.specs.Moment.{Finite};
 ghost use Rattle.pool.specs.Pool.{parsePool, stringsOf};
 ghost use Rattle.pool.specs.Index.{startsOf, roomOf, Ready};
-ghost use Rattle.zones.specs.Parse.{parseZone};
 ghost use Rattle.frames.specs.Machine.{from, stateAt, walk};
 ghost use Rattle.frames.specs.Mapped.{mapOut};
 ghost use Rattle.locate.specs.Asked.{held, ofHeld};
 ghost use Rattle.locate.specs.View.{part, poolAt, Lies};
 ghost use Rattle.questions.specs.Question.{answerAt};
 ghost use Rattle.questions.specs.View.{outcomeOf};
-ghost use Rattle.named_questions.specs.Named.{nothing, naming, askNamed};
-ghost use Rattle.named_questions.specs.View.{knownAt, Clear, NamedAs, JudgedText, JudgedZone, JudgedField, JudgedAliases, byPool};
-
-// Field 2 in d.
-fn judge_text(d: &[u8]) -> Judged
-    ensures { λ r. ⌜ JudgedText (now (d .entry)) r ⌝ }
-{
-    match texts::read_text(d) {
-        Text::Refused(n) => Judged::Fault(n),
-        Text::Part(b, n) => {
-            if b + n == d.len() {
-                return Judged::Keep;
-            }
-            Judged::Fault(9)
-        }
-    }
-}
-
-// A whole zone in d. One with another ID than the asked one gets a flag.
-fn judge_zone(
-    pool: &[u8],
-    starts: &[u32],
-    count: usize,
-    d: &[u8],
-    name: &[u8],
-    flags: &mut [u8],
-) -> Judged
-    requires { ⌜ Ready (now pool) (now starts) × (count ≡ length (stringsOf (now pool))) × (count ≤ length (now flags)) ⌝ }
-    ensures { λ r. ⌜ JudgedZone (now (name .entry)) (now (pool .entry)) (parseZone count (now (d .entry))) (now (flags .entry)) (now (flags .exit)) r ⌝ }
-{
-    let j = locate::judge(pool, starts, count, d, name);
-    match j {
-        Judged::Here => Judged::Here,
-        Judged::Fault(n) => Judged::Fault(n),
-        Judged::Keep => match places::name_at(d, 0, count as u64) {
-            Read::Refused(n) => Judged::Fault(n),
-            Read::Value(k, _) => {
-                flags[k as usize] = 1;
-                Judged::Keep
-            }
-        },
-    }
-}
-
-// The field with the ID i, 1 or 2, in s[d..q], behind field 0 in s[start..end].
-fn judge_field(
-    s: &[u8],
-    starts: &[u32],
-    start: usize,
-    end: usize,
-    count: usize,
-    i: u8,
-    d: usize,
-    q: usize,
-    name: &[u8],
-    flags: &mut [u8],
-) -> Judged
-    requires { ⌜ Lies (now s) start end × Ready (part start end (now s)) (now starts) × (count ≡ length (stringsOf (part start end (now s)))) × (count ≤ length (now flags)) × (d ≤ q) × (q ≤ length (now s)) ⌝ }
-    ensures { λ r. ⌜ JudgedField (now (name .entry)) (now (s .entry)) start end i d q (now (flags .entry)) (now (flags .exit)) r ⌝ }
-{
-    if i == 1 {
-        return judge_zone(&s[start..end], starts, count, &s[d..q], name, flags);
-    }
-    judge_text(&s[d..q])
-}
-
-// Field 3 in s[d..q], whose ID byte is at a place: what the name leads to. It is no zone's ID, so its zone is that of a target.
-fn follow(
-    s: &[u8],
-    starts: &[u32],
-    start: usize,
-    end: usize,
-    count: usize,
-    place: usize,
-    d: usize,
-    q: usize,
-    name: &[u8],
-    flags: &[u8],
-) -> Located
-    requires { ⌜ Lies (now s) start end × Ready (part start end (now s)) (now starts) × (count ≡ length (stringsOf (part start end (now s)))) × (count ≤ length (now flags)) × (d ≤ q) × (q ≤ length (now s)) ⌝ }
-    ensures { λ r. ⌜ JudgedAliases (now (name .entry)) (now (s .entry)) start end place d q (now (flags .entry)) r ⌝ }
-{
-    let v = aliases::check(&s[start..end], starts, count, &s[d..q]);
-    match v {
-        Verdict::Refused(n) => Located::Refused(n, place),
-        Verdict::Good => {
-            let t = alias_lookup::lookup(&s[start..end], starts, count, &s[d..q], flags, name, 8);
-            match t {
-                Target::Unknown => Located::Refused(12, place),
-                Target::Deep => Located::Refused(18, place),
-                Target::Zone(k) => locate::walk_zones(
-                    s,
-                    starts,
-                    start,
-                    end,
-                    count,
-                    strings::text_by(&s[start..end], starts, k),
-                ),
-            }
-        }
-    }
-}
+ghost use Rattle.named_fields.specs.Named.{nothing, naming, askNamed};
+ghost use Rattle.named_fields.specs.View.{knownAt, Clear, NamedAs, byPool};
 
 // The fields behind field 0, whose data is s[start..end]. flags gets those of the zones that are passed.
 fn walk_fields(
@@ -147,7 +42,7 @@ fn walk_fields(
     let mut at = end;
     let mut prev: usize = 0;
     loop {
-        let f = frames::read_frame(&s[at..], 3, at, true, prev);
+        let f = headers::read_frame(&s[at..], 3, at, true, prev);
         match f {
             Frame::End => {
                 return Located::End(at);
@@ -166,9 +61,31 @@ fn walk_fields(
                 let d = at + h;
                 let e = d + n;
                 if i == 3 {
-                    return follow(s, starts, start, end, count, at, d, e, name, &*flags);
+                    return alias_targets::follow(
+                        s,
+                        starts,
+                        start,
+                        end,
+                        count,
+                        at,
+                        d,
+                        e,
+                        name,
+                        &*flags,
+                    );
                 }
-                let j = judge_field(s, starts, start, end, count, i, d, e, name, flags);
+                let j = named_fields::judge_field(
+                    s,
+                    starts,
+                    start,
+                    end,
+                    count,
+                    i,
+                    d,
+                    e,
+                    name,
+                    flags,
+                );
                 match j {
                     Judged::Here => {
                         return Located::Found(Spot {

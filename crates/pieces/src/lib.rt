@@ -31,7 +31,7 @@ pub fn piece_end(s: &[u8], at: usize, n: u64) -> usize
         return s.len();
     }
     if 3 <= s.len() - at {
-        if places::short_details(s, at) {
+        if short_places::short_details(s, at) {
             return at + 3;
         }
     }
@@ -47,7 +47,7 @@ pub fn short_piece(s: &[u8], at: usize, prev: u64, n: u64) -> u64
     ensures { λ r. ⌜ ShortPiece (now (s .entry)) n prev at r ⌝ }
 {
     if 0 < n {
-        return places::short_at(s, at, 2, prev);
+        return short_places::short_at(s, at, 2, prev);
     }
     0
 }

@@ -32,7 +32,7 @@ fn read_field(s: &[u8], at: usize) -> Extent
     ensures { λ r. ⌜ IsField (now (s .entry)) at r ⌝ }
 {
     let a = at + 1;
-    match frames::read_size(&s[a..]) {
+    match sizes::read_size(&s[a..]) {
         Read::Refused(_) => Extent {
             id: 0,
             start: a,

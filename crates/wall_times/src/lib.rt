@@ -58,7 +58,7 @@ fn map_with(s: &[u8], d: usize, e: usize, id: &[u8], l: u64, starts: &mut [u32])
         Located::Found(v) => {
             let from = v.start;
             let to = v.past;
-            match local_times::find(&s[from..to], v.count as u64, l) {
+            match local_lookups::find(&s[from..to], v.count as u64, l) {
                 LocalAnswer::Refused(n) => Mapping::Refused(n, v.place),
                 LocalAnswer::Instants(a) => in_ticks(a),
             }

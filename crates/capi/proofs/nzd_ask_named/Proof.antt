@@ -2,7 +2,7 @@ use mathlib.Core.Path.{_≡_, ap, subst⁻¹}
 use native.Mathlib.Omega.{arith}
 use denote.Ref.{now}
 use mir.Facts.{toZ-ofZ}
-use Rattle.named_questions.specs.Named.{askNamed}
+use Rattle.named_fields.specs.Named.{askNamed}
 use Rattle.replies.proofs.ReplyLaws.{gives-as}
 use Rattle.file_replies.specs.Small.{SmallAnswer}
 use Rattle.file_replies.specs.Functions.{markOf, answerReply}

@@ -1,4 +1,5 @@
-use Rattle.capi.proofs.LocationLaws.{location-small, location-as}
+use Rattle.location_replies.proofs.LocationLaws.{location-as}
+use Rattle.capi.proofs.LocationLaws.{location-small}
 use borrow.Author.Needs.{needs}
 use Rattle.capi.proofs.nzd_location.Statement.{statement}
 use Rattle.capi.proofs.nzd_location.Tie as tie

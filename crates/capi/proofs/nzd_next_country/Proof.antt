@@ -1,4 +1,4 @@
-use Rattle.capi.proofs.LocationLaws.{country-as}
+use Rattle.location_replies.proofs.LocationLaws.{country-as}
 use borrow.Author.Needs.{needs}
 use Rattle.capi.proofs.nzd_next_country.Statement.{statement}
 use Rattle.capi.proofs.nzd_next_country.Tie as tie

@@ -3,7 +3,7 @@ use mir.Facts.{toZ-ofZ}
 use Rattle.questions.specs.Question.{ask}
 use Rattle.file_replies.specs.Functions.{markOf, answerReply}
 use Rattle.receivers.proofs.HeldLaws.{held-within}
-use Rattle.capi.proofs.ReceivedLaws.{full-gives, held-gives}
+use Rattle.capi_contracts.proofs.ReceivedLaws.{full-gives, held-gives}
 use borrow.Author.Needs.{needs}
 use Rattle.capi.proofs.nzd_receiver_ask.Statement.{statement}
 use Rattle.capi.proofs.nzd_receiver_ask.Tie as tie

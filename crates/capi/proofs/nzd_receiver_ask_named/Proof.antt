@@ -1,9 +1,9 @@
 use denote.Ref.{now}
 use mir.Facts.{toZ-ofZ}
-use Rattle.named_questions.specs.Named.{askNamed}
+use Rattle.named_fields.specs.Named.{askNamed}
 use Rattle.file_replies.specs.Functions.{markOf, answerReply}
 use Rattle.receivers.proofs.HeldLaws.{held-within}
-use Rattle.capi.proofs.ReceivedLaws.{full-gives, held-gives}
+use Rattle.capi_contracts.proofs.ReceivedLaws.{full-gives, held-gives}
 use borrow.Author.Needs.{needs}
 use Rattle.capi.proofs.nzd_receiver_ask_named.Statement.{statement}
 use Rattle.capi.proofs.nzd_receiver_ask_named.Tie as tie

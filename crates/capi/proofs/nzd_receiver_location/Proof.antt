@@ -1,6 +1,6 @@
 use denote.Ref.{now}
 use Rattle.receivers.proofs.HeldLaws.{held-within}
-use Rattle.capi.proofs.ReceivedLaws.{full-location, held-location}
+use Rattle.capi_contracts.proofs.ReceivedLaws.{full-location, held-location}
 use borrow.Author.Needs.{needs}
 use Rattle.capi.proofs.nzd_receiver_location.Statement.{statement}
 use Rattle.capi.proofs.nzd_receiver_location.Tie as tie

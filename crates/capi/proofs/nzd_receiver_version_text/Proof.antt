@@ -2,7 +2,7 @@ use denote.Ref.{now}
 use Rattle.field_checks.specs.Check.{versionOf}
 use Rattle.file_replies.specs.Functions.{versionReply}
 use Rattle.receivers.proofs.HeldLaws.{held-within}
-use Rattle.capi.proofs.ReceivedLaws.{full-gives, held-gives}
+use Rattle.capi_contracts.proofs.ReceivedLaws.{full-gives, held-gives}
 use borrow.Author.Needs.{needs}
 use Rattle.capi.proofs.nzd_receiver_version_text.Statement.{statement}
 use Rattle.capi.proofs.nzd_receiver_version_text.Tie as tie

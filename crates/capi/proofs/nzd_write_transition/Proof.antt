@@ -3,7 +3,7 @@ use denote.Ref.{now}
 use mir.Facts.{toZ-ofZ}
 use Rattle.base.specs.Writing.{Writes}
 use Rattle.replies.specs.Functions.{previousOf, momentOf}
-use Rattle.capi.specs.Functions.{kindForm}
+use Rattle.capi_contracts.specs.Functions.{kindForm}
 use Rattle.capi.proofs.FormLaws.{moment-form}
 use Rattle.capi.proofs.PutLaws.{puts, result-small}
 use borrow.Author.Needs.{needs}

@@ -6,7 +6,7 @@ use Rattle.locate.specs.Asked.{Held, held, ofHeld}
 use Rattle.locate.proofs.WalkingLaws.{first-pool, first-fault, first-short, first-over}
 use Rattle.questions.specs.Question.{answerAt}
 use Rattle.questions.specs.View.{outcomeOf}
-use Rattle.named_questions.specs.Named.{Known, nothing, naming}
+use Rattle.named_fields.specs.Named.{Known, nothing, naming}
 use Rattle.named_questions.proofs.WalkingLaws.{pool-walk}
 use Rattle.named_questions.proofs.AskLaws.{out-walk, out-refused, out-cut, out-end}
 use borrow.Author.Needs.{needs}

@@ -3,7 +3,7 @@ use mathlib.Core.Path.{sym, _∙_}
 use Rattle.pool.proofs.PoolLaws.{taken, failed, ready}
 use denote.Ref.{now}
 use Rattle.locate.specs.View.{part}
-use Rattle.named_questions.proofs.SeenLaws.{room-strings}
+use Rattle.named_fields.proofs.SeenLaws.{room-strings}
 use Rattle.named_questions.proofs.WalkingLaws.{named-fault, named-on}
 use borrow.Author.Needs.{needs}
 use Rattle.named_questions.proofs.walk_named.Statement.{statement}

@@ -1,0 +1,38 @@
+-- What each C function says, by the definitions of the crates below. To be believed: what programs in C are told.
+use Prim.Native.Nat.{ℕ}
+use mathlib.Core.Bool.{Bool}
+use mathlib.Core.List.{List}
+use mathlib.Core.Path.{_≡_}
+use lib.IntN.{ℤ}
+use lib.ListN.{getD}
+use Rattle.base.specs.Writing.{Form}
+use Rattle.transitions.specs.Transition.{momentForm}
+use Rattle.rewrite.specs.Preferred.{rewriteOf, outputOf}
+use Rattle.wall_times.specs.WallTime.{MapsTo}
+use Rattle.wall_times.specs.declared.Mapping.{Mapping}
+use Rattle.replies.specs.Reply.{Gives}
+use Rattle.replies.specs.Functions.{previousOf, momentOf}
+use Rattle.location_lookup.specs.Country.{nextOf}
+use Rattle.file_replies.specs.Functions.{rewrittenResult, mappingReply}
+use Rattle.location_replies.specs.Locations.{GivesCountry}
+
+-- the result r and the output e at the return of a rewrite of f, where the output was d: "A rewrite gives its length and leaves later
+-- output bytes as found."
+pub record Rewrites (f d : List ℕ) (r : ℕ) (e : List ℕ) : Type 0 where
+  pub result : r ≡ rewrittenResult (rewriteOf f d)
+  pub output : e ≡ outputOf f d
+
+-- the result r and the output e at the return of a local time's mapping, where the output was d. MapsTo leaves one mapping (map-one in
+-- wall_times)
+pub record MapsLocal (f id : List ℕ) (local : ℤ) (d : List ℤ) (r : ℕ) (e : List ℤ) : Type 0 where
+  pub mapping : Mapping
+  pub maps : MapsTo f id local mapping
+  pub gives : Gives (mappingReply mapping) d r e
+
+-- a step of the view c over the file f, whatever its numbers are: where the field's data start and end, the place of the next country in them, and
+-- how many are left
+abbrev pub StepsView : List ℕ → List ℕ → List ℕ → Bool → List ℕ → List ℕ → Type 0
+StepsView f c d r e g = GivesCountry (nextOf f (getD c 0 0) (getD c 1 0) (getD c 2 0) (getD c 3 0)) (getD c 0 0) (getD c 1 0) c d r e g
+
+abbrev pub kindForm : Bool → ℤ → ℕ → ℤ → Form
+kindForm finite previous kind z = momentForm (previousOf finite previous) (momentOf kind z)

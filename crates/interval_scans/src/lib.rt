@@ -1,0 +1,92 @@
+// The listed intervals of a zone, read one after the other; what an instant needs of them is kept on the way.
+use base::END;
+use intervals::Interval;
+use intervals::IntervalRead;
+use intervals::Scan;
+use intervals::ScanRead;
+ghost use mathlib.Core.Path.{_≡_};
+ghost use Prim.Native.Nat.{_≤_};
+ghost use lib.ListN.{length, drop};
+ghost use Rattle.base.specs.Parsed.{many};
+ghost use Rattle.base.specs.Moment.{endOfTime};
+ghost use Rattle.places.specs.Placed.{Stands};
+ghost use Rattle.intervals.specs.Interval.{parseInterval, startOf};
+ghost use Rattle.intervals.specs.Scan.{ofInterval, ofScan, advance as advanceOf, scanOf};
+
+// An interval, as read_any_interval has it. One of twelve bytes, with its start in ticks, takes no call; its first byte tells, so that no
+// other loses time on it.
+pub fn read_interval(s: &[u8], at: usize, pool: u64, prev: u64) -> IntervalRead
+    requires { ⌜ at ≤ length (now s) ⌝ }
+    ensures { λ r. ⌜ Stands (now (s .entry)) (parseInterval pool prev (drop at (now (s .entry)))) (ofInterval r) ⌝ }
+{
+    if at < s.len() {
+        if s[at] == 2 {
+            let m = short_intervals::short_start(s, at, 9, pool, prev);
+            if m != 0 {
+                return IntervalRead::Got(short_intervals::short_interval(s, at + 9, m), at + 12);
+            }
+        }
+    }
+    any_intervals::read_any_interval(s, at, pool, prev)
+}
+
+fn advance(t: u64, c: Scan, i: Interval) -> Scan
+    ensures { λ r. ⌜ r ≡ advanceOf t c i ⌝ }
+{
+    let mut held = c.held;
+    let mut end = c.end;
+    if END <= end {
+        if t < i.start {
+            end = i.start;
+        } else {
+            held = i;
+            end = END;
+        }
+    }
+    Scan {
+        held: held,
+        end: end,
+        last: i.start,
+    }
+}
+
+// n intervals from the place at on. One of five bytes, the usual one, takes no call.
+pub fn read_intervals(s: &[u8], at: usize, pool: u64, n: u64, t: u64) -> ScanRead
+    requires { ⌜ at ≤ length (now s) ⌝ }
+    ensures { λ r. ⌜ Stands (now (s .entry)) (scanOf t (many (parseInterval pool) startOf n endOfTime (drop at (now (s .entry))))) (ofScan r) ⌝ }
+{
+    let mut left = n;
+    let mut place = at;
+    let mut c = Scan {
+        held: Interval {
+            start: 0,
+            name: 0,
+            wall: 0,
+            savings: 0,
+        },
+        end: END,
+        last: END,
+    };
+    while 0 < left {
+        let m = short_intervals::short_start(s, place, 2, pool, c.last);
+        if m != 0 {
+            let i = short_intervals::short_interval(s, place + 2, m);
+            left -= 1;
+            place += 5;
+            c = advance(t, c, i);
+        } else {
+            let item = read_interval(s, place, pool, c.last);
+            match item {
+                IntervalRead::Refused(k) => {
+                    return ScanRead::Refused(k);
+                }
+                IntervalRead::Got(i, e) => {
+                    left -= 1;
+                    place = e;
+                    c = advance(t, c, i);
+                }
+            }
+        }
+    }
+    ScanRead::Got(c, place)
+}

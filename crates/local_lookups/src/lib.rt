@@ -1,0 +1,119 @@
+// How many instants of a whole zone read as a local time, the earliest and the latest, in one walk over its data.
+use base::END;
+use intervals::Interval;
+use intervals::IntervalRead;
+use local_times::LocalAnswer;
+use local_times::LocalScan;
+use local_times::LocalScanRead;
+use local_times::Tally;
+use zones::ZoneEnd;
+use zones::ZoneFront;
+ghost use mathlib.Core.Path.{_≡_};
+ghost use Prim.Native.Nat.{_≤_};
+ghost use lib.ListN.{length, drop};
+ghost use Rattle.base.specs.Parsed.{many};
+ghost use Rattle.base.specs.Moment.{endOfTime};
+ghost use Rattle.places.specs.Placed.{Stands};
+ghost use Rattle.intervals.specs.Interval.{parseInterval, startOf};
+ghost use Rattle.zones.specs.Parse.{parseZone};
+ghost use Rattle.local_times.specs.View.{advance as advanceOf, scanOf, ofScan, withLast, IntervalsAt, answerOf};
+
+// The next interval: now the end of the one before it is known.
+fn advance(l: u64, c: LocalScan, i: Interval) -> LocalScan
+    requires { ⌜ (c .held .wall ≤ 172800000) × (c .tally .count ≤ 4100) ⌝ }
+    ensures { λ r. ⌜ r ≡ advanceOf l c i ⌝ }
+{
+    let held = c.held;
+    let t = local_times::candidate(l, held.wall, held.start, i.start);
+    let tally = local_times::counted(c.tally, t);
+    LocalScan {
+        held: i,
+        tally: tally,
+        last: i.start,
+    }
+}
+
+// n intervals from the place at on. The first turn counts in an interval that holds nothing.
+fn read_intervals(s: &[u8], at: usize, pool: u64, n: u64, l: u64) -> LocalScanRead
+    requires { ⌜ (at ≤ length (now s)) × (n ≤ 4096) ⌝ }
+    ensures { λ r. ⌜ Stands (now (s .entry)) (scanOf l (many (parseInterval pool) startOf n endOfTime (drop at (now (s .entry))))) (ofScan r) ⌝ }
+{
+    let mut left = n;
+    let mut place = at;
+    let mut c = LocalScan {
+        held: Interval {
+            start: 0,
+            name: 0,
+            wall: 0,
+            savings: 0,
+        },
+        tally: Tally {
+            count: 0,
+            earliest: 0,
+            latest: 0,
+        },
+        last: END,
+    };
+    while 0 < left {
+        let item = interval_scans::read_interval(s, place, pool, c.last);
+        match item {
+            IntervalRead::Refused(k) => {
+                return LocalScanRead::Refused(k);
+            }
+            IntervalRead::Got(i, e) => {
+                left -= 1;
+                place = e;
+                c = advance(l, c, i);
+            }
+        }
+    }
+    LocalScanRead::Got(c, place)
+}
+
+// The instants of a list that ends at a moment.
+fn with_last(l: u64, c: LocalScan, end: u64) -> Tally
+    requires { ⌜ (c .held .wall ≤ 172800000) × (c .tally .count ≤ 4100) ⌝ }
+    ensures { λ r. ⌜ r ≡ withLast l c end ⌝ }
+{
+    let held = c.held;
+    let t = local_times::candidate(l, held.wall, held.start, end);
+    local_times::counted(c.tally, t)
+}
+
+// A zone whose n intervals stand at a place.
+fn find_listed(s: &[u8], at: usize, pool: u64, n: u64, l: u64) -> LocalAnswer
+    requires { ⌜ IntervalsAt pool (now s) n at ⌝ }
+    ensures { λ r. ⌜ r ≡ answerOf l (parseZone pool (now (s .entry))) ⌝ }
+{
+    match read_intervals(s, at, pool, n, l) {
+        LocalScanRead::Refused(k) => LocalAnswer::Refused(k),
+        LocalScanRead::Got(c, e) => match zone_ends::read_end(s, e, pool, c.last) {
+            ZoneEnd::Refused(k) => LocalAnswer::Refused(k),
+            ZoneEnd::Untailed => LocalAnswer::Instants(with_last(l, c, END)),
+            ZoneEnd::Tailed(m) => {
+                let tail = m.tail;
+                let a = with_last(l, c, tail.start);
+                LocalAnswer::Instants(local_times::with_tail(l, a, tail))
+            }
+        },
+    }
+}
+
+// The instants of a zone that read as the local time l, all of the zone checked; pool is the pool's count.
+pub fn find(s: &[u8], pool: u64, l: u64) -> LocalAnswer
+    ensures { λ r. ⌜ r ≡ answerOf l (parseZone pool (now (s .entry))) ⌝ }
+{
+    match zone_fronts::read_front(s, pool) {
+        ZoneFront::Refused(k) => LocalAnswer::Refused(k),
+        ZoneFront::Fixed(_, offset, _) => {
+            let t = local_times::candidate(l, offset, 0, END);
+            let none = Tally {
+                count: 0,
+                earliest: 0,
+                latest: 0,
+            };
+            LocalAnswer::Instants(local_times::counted(none, t))
+        }
+        ZoneFront::Listed(_, n, a) => find_listed(s, a, pool, n, l),
+    }
+}

@@ -22,9 +22,9 @@
  * No function keeps a pointer, allocates, or has state, so any number of threads may call them. A receiver's state is
  * yours.
  *
- * Stack, measured and not proved: up to 71 KB for nzd_check, nzd_version_text, nzd_rewrite and nzd_location, 63 KB for
- * nzd_ask_named, 39 KB for nzd_ask, nzd_ask_plain and nzd_map_local, as much for the same of a receiver, below 1 KB for
- * nzd_receiver_add and a small code.
+ * Stack, measured and not proved: up to 80 KB for nzd_normalize, 72 KB for nzd_version_text and nzd_location, 64 KB for
+ * nzd_ask_named, 43 KB for nzd_map_local, 40 KB for nzd_ask and nzd_ask_plain, as much for the same of a receiver, below
+ * 1 KB for nzd_receiver_add and a small code.
  */
 #ifndef NZD_H
 #define NZD_H
@@ -118,9 +118,6 @@ static inline const char *nzd_words(unsigned number) {
 /* An interval's start that is start of time, and an end that is end of time. */
 #define NZD_START_OF_TIME INT64_MIN
 #define NZD_END_OF_TIME INT64_MAX
-
-/* Checks a whole file: 0 if it is well formed, else the first fault and its place. */
-uint64_t nzd_check(const uint8_t *file, size_t n);
 
 /* The interval of a zone that holds an instant. It holds its start and not its end. */
 struct nzd_answer {
@@ -226,11 +223,12 @@ struct nzd_text {
 uint64_t nzd_version_text(const uint8_t *file, size_t n, struct nzd_text *out);
 
 /*
- * Writes the preferred form of a well-formed file to the front of out: its transitions and its fields' sizes are in
+ * Checks a whole file, and writes its preferred form to the front of out: its transitions and its fields' sizes are in
  * their shortest form, whatever zero groups stood behind a size. nzd_length_of(r) is its length, which is at most n. The
- * file is checked first; then 15 if out is shorter than the preferred form.
+ * first fault of the file and its place come first, whatever out_n; then 15 if out is shorter than the preferred form. So
+ * with an out_n of 0 it is the check alone: 15 says that the file is well formed.
  */
-uint64_t nzd_rewrite(const uint8_t *file, size_t n, uint8_t *out, size_t out_n);
+uint64_t nzd_normalize(const uint8_t *file, size_t n, uint8_t *out, size_t out_n);
 
 /*
  * A receiver, for a file that arrives in pieces. It is three plain numbers in memory that you own, over a buffer that you
@@ -270,9 +268,8 @@ uint64_t nzd_receiver_map_local(struct nzd_receiver r, const uint8_t *buffer, si
 /* nzd_next_country steps the view, over the buffer's first held bytes. */
 uint64_t nzd_receiver_location(struct nzd_receiver r, const uint8_t *buffer, size_t buffer_n, uint64_t field,
                                uint64_t number, struct nzd_pin *pin, struct nzd_located *out);
-uint64_t nzd_receiver_check(struct nzd_receiver r, const uint8_t *buffer, size_t buffer_n);
 uint64_t nzd_receiver_version_text(struct nzd_receiver r, const uint8_t *buffer, size_t buffer_n, struct nzd_text *out);
-uint64_t nzd_receiver_rewrite(struct nzd_receiver r, const uint8_t *buffer, size_t buffer_n, uint8_t *out, size_t out_n);
+uint64_t nzd_receiver_normalize(struct nzd_receiver r, const uint8_t *buffer, size_t buffer_n, uint8_t *out, size_t out_n);
 
 /* Small codes, read from the front of s; what follows the code is ignored. 9 if s ends early. */
 struct nzd_value {

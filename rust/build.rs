@@ -32,7 +32,7 @@ fn main() {
 
 /// Whether the file is an archive with a function of ours.
 fn is_ours(path: &Path) -> bool {
-    let name = b"nzd_check\0";
+    let name = b"nzd_normalize\0";
     fs::read(path).is_ok_and(|bytes| bytes.starts_with(b"!<arch>\n") && bytes.windows(name.len()).any(|at| at == name))
 }
 

@@ -23,7 +23,6 @@ mod c {
     use super::Receiver;
 
     extern "C" {
-        pub fn nzd_check(file: *const u8, n: usize) -> u64;
         pub fn nzd_ask(
             file: *const u8,
             n: usize,
@@ -68,7 +67,7 @@ mod c {
         ) -> u64;
         pub fn nzd_next_country(file: *const u8, n: usize, view: *mut [u64; 4], out: *mut [u64; 4]) -> bool;
         pub fn nzd_version_text(file: *const u8, n: usize, out: *mut [i64; 2]) -> u64;
-        pub fn nzd_rewrite(file: *const u8, n: usize, out: *mut u8, out_n: usize) -> u64;
+        pub fn nzd_normalize(file: *const u8, n: usize, out: *mut u8, out_n: usize) -> u64;
         pub fn nzd_receiver_reset(r: *mut Receiver);
         pub fn nzd_receiver_add(
             r: *mut Receiver,
@@ -124,10 +123,14 @@ mod c {
             pin: *mut [f64; 2],
             out: *mut [u64; 8],
         ) -> u64;
-        pub fn nzd_receiver_check(r: Receiver, buffer: *const u8, buffer_n: usize) -> u64;
         pub fn nzd_receiver_version_text(r: Receiver, buffer: *const u8, buffer_n: usize, out: *mut [i64; 2]) -> u64;
-        pub fn nzd_receiver_rewrite(r: Receiver, buffer: *const u8, buffer_n: usize, out: *mut u8, out_n: usize)
-            -> u64;
+        pub fn nzd_receiver_normalize(
+            r: Receiver,
+            buffer: *const u8,
+            buffer_n: usize,
+            out: *mut u8,
+            out_n: usize,
+        ) -> u64;
         pub fn nzd_read_count(s: *const u8, n: usize, out: *mut [i64; 2]) -> u64;
         pub fn nzd_read_signed_count(s: *const u8, n: usize, out: *mut [i64; 2]) -> u64;
         pub fn nzd_read_offset(s: *const u8, n: usize, out: *mut [i64; 2]) -> u64;
@@ -146,11 +149,6 @@ mod c {
             out_n: usize,
         ) -> u64;
     }
-}
-
-/// `nzd_check`.
-pub fn check(file: &[u8]) -> u64 {
-    unsafe { c::nzd_check(file.as_ptr(), file.len()) }
 }
 
 /// `nzd_ask`.
@@ -188,9 +186,9 @@ pub fn version_text(file: &[u8], out: &mut [i64; 2]) -> u64 {
     unsafe { c::nzd_version_text(file.as_ptr(), file.len(), out) }
 }
 
-/// `nzd_rewrite`.
-pub fn rewrite(file: &[u8], out: &mut [u8]) -> u64 {
-    unsafe { c::nzd_rewrite(file.as_ptr(), file.len(), out.as_mut_ptr(), out.len()) }
+/// `nzd_normalize`.
+pub fn normalize(file: &[u8], out: &mut [u8]) -> u64 {
+    unsafe { c::nzd_normalize(file.as_ptr(), file.len(), out.as_mut_ptr(), out.len()) }
 }
 
 /// `nzd_receiver_reset`.
@@ -235,19 +233,14 @@ pub fn receiver_location(
     unsafe { c::nzd_receiver_location(r, buffer.as_ptr(), buffer.len(), field, number, pin, out) }
 }
 
-/// `nzd_receiver_check`.
-pub fn receiver_check(r: Receiver, buffer: &[u8]) -> u64 {
-    unsafe { c::nzd_receiver_check(r, buffer.as_ptr(), buffer.len()) }
-}
-
 /// `nzd_receiver_version_text`.
 pub fn receiver_version_text(r: Receiver, buffer: &[u8], out: &mut [i64; 2]) -> u64 {
     unsafe { c::nzd_receiver_version_text(r, buffer.as_ptr(), buffer.len(), out) }
 }
 
-/// `nzd_receiver_rewrite`.
-pub fn receiver_rewrite(r: Receiver, buffer: &[u8], out: &mut [u8]) -> u64 {
-    unsafe { c::nzd_receiver_rewrite(r, buffer.as_ptr(), buffer.len(), out.as_mut_ptr(), out.len()) }
+/// `nzd_receiver_normalize`.
+pub fn receiver_normalize(r: Receiver, buffer: &[u8], out: &mut [u8]) -> u64 {
+    unsafe { c::nzd_receiver_normalize(r, buffer.as_ptr(), buffer.len(), out.as_mut_ptr(), out.len()) }
 }
 
 /// `nzd_read_count`.

@@ -90,7 +90,7 @@ impl<'a> Answer<'a> {
     }
 }
 
-/// Checks a whole file.
+/// Checks a whole file: [`normalize`] without room for an output.
 ///
 /// ```
 /// use nzd::{Error, Number};
@@ -104,7 +104,15 @@ impl<'a> Answer<'a> {
 /// assert_eq!(error.to_string(), "cut short (number 2, place 11)");
 /// ```
 pub fn check(file: &[u8]) -> Result<(), Error> {
-    decode(ffi::check(file)).map(|_| ())
+    checked(normalize(file, &mut []))
+}
+
+/// What normalizing without room says of a file: only a well-formed one gets as far as the output's length.
+fn checked(normalized: Result<usize, Error>) -> Result<(), Error> {
+    match normalized {
+        Ok(_) | Err(Error { number: Number::OutputTooShort, .. }) => Ok(()),
+        Err(error) => Err(error),
+    }
 }
 
 /// Asks for the interval of the zone `id` that holds the instant `ticks`.
@@ -211,21 +219,31 @@ pub fn version_text(file: &[u8]) -> Result<&str, Error> {
     Ok(text(part(file, place, length)))
 }
 
-/// Writes the preferred form of a well-formed file to the front of `out`, and gives its length, which is at most the
-/// file's. The rest of `out`, and all of it on an error, stays as it was.
+/// Checks a whole file, writes its preferred form to the front of `out`, and gives the length of that, which is at most
+/// the file's. The rest of `out`, and all of it on an error, stays as it was.
+///
+/// # Errors
+///
+/// The first fault of the file, whatever the length of `out`; then [`Number::OutputTooShort`] if `out` is shorter than the
+/// preferred form. So with an empty `out` it is the [`check`] alone, and every well-formed file gets that number.
 ///
 /// ```
+/// use nzd::Number;
+///
 /// let file = b"\0\0\0\0\x00\x05\x01\x03UTC\x01\x04\x00\x01\x30\x00";
 /// let mut out = vec![0; file.len()];
-/// let length = nzd::rewrite(file, &mut out)?;
+/// let length = nzd::normalize(file, &mut out)?;
 /// // This file is in preferred form already.
 /// assert_eq!(&out[..length], file);
+/// assert_eq!(nzd::normalize(file, &mut []).unwrap_err().number, Number::OutputTooShort);
+/// assert_eq!(nzd::normalize(&file[..16], &mut []).unwrap_err().number, Number::CutShort);
+///
 /// // A field's size may have zero groups behind it, up to five bytes in all. The preferred form has none.
 /// let padded = b"\0\0\0\0\x00\x83\x00\x01\x01A";
-/// let length = nzd::rewrite(padded, &mut out)?;
+/// let length = nzd::normalize(padded, &mut out)?;
 /// assert_eq!(&out[..length], b"\0\0\0\0\x00\x03\x01\x01A");
 /// # Ok::<(), nzd::Error>(())
 /// ```
-pub fn rewrite(file: &[u8], out: &mut [u8]) -> Result<usize, Error> {
-    decode(ffi::rewrite(file, out))
+pub fn normalize(file: &[u8], out: &mut [u8]) -> Result<usize, Error> {
+    decode(ffi::normalize(file, out))
 }

@@ -3,7 +3,7 @@
 use crate::error::decode;
 use crate::local::instants;
 use crate::locations::located;
-use crate::{answer, ffi, part, text, Answer, Error, LocalInstants, Location, LocationField, Mark};
+use crate::{answer, checked, ffi, part, text, Answer, Error, LocalInstants, Location, LocationField, Mark};
 
 /// A receiver of a file's bytes in pieces, over a lent buffer.
 ///
@@ -105,7 +105,8 @@ impl<'buf> Receiver<'buf> {
 
     /// [`check`](crate::check) of the held bytes, which are all there is.
     pub fn check(&self) -> Result<(), Error> {
-        decode(ffi::receiver_check(self.state, self.buffer)).map(|_| ())
+        // What is held never passes the buffer, so 15 is about the output.
+        checked(self.normalize(&mut []))
     }
 
     /// [`version_text`](crate::version_text) of the held bytes, which are all there is.
@@ -116,8 +117,8 @@ impl<'buf> Receiver<'buf> {
         Ok(text(part(self.buffer, place, length)))
     }
 
-    /// [`rewrite`](crate::rewrite) of the held bytes, which are all there is.
-    pub fn rewrite(&self, out: &mut [u8]) -> Result<usize, Error> {
-        decode(ffi::receiver_rewrite(self.state, self.buffer, out))
+    /// [`normalize`](crate::normalize) of the held bytes, which are all there is.
+    pub fn normalize(&self, out: &mut [u8]) -> Result<usize, Error> {
+        decode(ffi::receiver_normalize(self.state, self.buffer, out))
     }
 }

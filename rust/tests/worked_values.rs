@@ -1,6 +1,6 @@
 //! The worked values of the scope paper and some of the realistic files', by the wrapper.
 
-use nzd::{ask, ask_plain, check, codes, location, locations, map_local, rewrite, version_text, LocationField, Pin};
+use nzd::{ask, ask_plain, check, codes, location, locations, map_local, normalize, version_text, LocationField, Pin};
 use nzd::{Answer, Bound, Error, LocalInstants, Mark, Number, Receiver};
 
 /// "00 00 00 00, 00 05 01 03 55 54 43, 01 04 00 01 30 00: 17 bytes, one fixed zone \"UTC\""
@@ -164,19 +164,30 @@ fn three_instants_read_as_one_local_time() {
 }
 
 #[test]
-fn rewriting() {
+fn normalizing() {
     // One zone "A": 1970 in ticks, which minutes since 1800 say in four bytes.
     let long = b"\0\0\0\0\x00\x03\x01\x01A\x01\x15\0\x02\x02\0\0\x30\x30\x02\0\0\0\0\0\0\0\0\0\x30\x30\x01\0";
     let short = b"\0\0\0\0\x00\x03\x01\x01A\x01\x10\0\x02\x02\0\0\x30\x30\xe0\x9b\xd1\x2a\0\x30\x30\x01\0";
     assert_eq!(check(long), Ok(()));
     let mut out = vec![0xaa; long.len()];
-    assert_eq!(rewrite(long, &mut out), Ok(short.len()));
+    assert_eq!(normalize(long, &mut out), Ok(short.len()));
     assert_eq!(&out[..short.len()], short);
     assert!(out[short.len()..].iter().all(|byte| *byte == 0xaa));
     // Room for one byte less: nothing is written.
     let mut out = vec![0xaa; short.len() - 1];
-    assert_eq!(rewrite(long, &mut out), Err(Error { number: Number::OutputTooShort, place: 0 }));
+    assert_eq!(normalize(long, &mut out), Err(Error { number: Number::OutputTooShort, place: 0 }));
     assert!(out.iter().all(|byte| *byte == 0xaa));
+    // The check's refusal comes first, whatever the room; without room a good file gets 15.
+    let good = b"\0\0\0\0\x00\x03\x01\x01A";
+    let bad = [&good[..], b"\x01\x02\0\x03"].concat();
+    let fault = Error { number: Number::BadData, place: 9 };
+    assert_eq!(normalize(&bad, &mut []), Err(fault));
+    assert_eq!(check(&bad), Err(fault));
+    assert_eq!(normalize(good, &mut []), Err(Error { number: Number::OutputTooShort, place: 0 }));
+    assert_eq!(check(good), Ok(()));
+    assert_eq!(normalize(good, &mut [0; 8]), Err(Error { number: Number::OutputTooShort, place: 0 }));
+    let mut out = [0; 9];
+    assert_eq!((normalize(good, &mut out), &out), (Ok(9), good));
 }
 
 #[test]
@@ -226,7 +237,7 @@ fn bytes_in_pieces() {
     assert_eq!(receiver.version_text(), denied(Number::NotFound, 17));
     assert_eq!(receiver.map_local("UTC", 5), Ok(LocalInstants::One(5)));
     let mut out = [0; 17];
-    assert_eq!(receiver.rewrite(&mut out), Ok(17));
+    assert_eq!(receiver.normalize(&mut out), Ok(17));
     assert_eq!(out, UTC);
     // What doesn't fit is refused whole, and what just fits is not.
     assert_eq!(receiver.add(&[0; 3]), denied(Number::OutputTooShort, 0));

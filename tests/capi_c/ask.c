@@ -32,7 +32,6 @@ static void no_bytes(void) {
     struct nzd_value value;
     struct nzd_transition transition;
     struct nzd_receiver none = {0, 0, 0};
-    EXPECT(nzd_check(NULL, 0) == NZD_CUT_SHORT);
     EXPECT(nzd_ask(NULL, 0, NULL, 0, 0, true, &answer) == NZD_NOT_YET);
     EXPECT(nzd_ask(NULL, 0, NULL, 0, 0, false, &answer) == NZD_CUT_SHORT);
     EXPECT(nzd_ask_plain(NULL, 0, NULL, 0, 0, &answer) == NZD_NOT_YET);
@@ -44,15 +43,14 @@ static void no_bytes(void) {
     EXPECT(nzd_map_local(NULL, 0, NULL, 0, 0, &local) == NZD_CUT_SHORT);
     EXPECT(nzd_map_local(file, sizeof file, NULL, 0, 0, &local) == NZD_NOT_FOUND + 256 * 17);
     EXPECT(nzd_version_text(NULL, 0, &text) == NZD_CUT_SHORT);
-    EXPECT(nzd_rewrite(NULL, 0, NULL, 0) == NZD_CUT_SHORT);
-    EXPECT(nzd_rewrite(file, sizeof file, NULL, 0) == NZD_OUTPUT_TOO_SHORT);
+    EXPECT(nzd_normalize(NULL, 0, NULL, 0) == NZD_CUT_SHORT);
+    EXPECT(nzd_normalize(file, sizeof file, NULL, 0) == NZD_OUTPUT_TOO_SHORT);
     EXPECT(nzd_receiver_add(&none, NULL, 0, NULL, 0) == NZD_ANSWERED);
     EXPECT(nzd_receiver_ask(none, NULL, 0, NULL, 0, 0, true, &answer) == NZD_NOT_YET);
     EXPECT(nzd_receiver_ask_plain(none, NULL, 0, NULL, 0, 0, &answer) == NZD_NOT_YET);
     EXPECT(nzd_receiver_map_local(none, NULL, 0, NULL, 0, 0, &local) == NZD_CUT_SHORT);
-    EXPECT(nzd_receiver_check(none, NULL, 0) == NZD_CUT_SHORT);
     EXPECT(nzd_receiver_version_text(none, NULL, 0, &text) == NZD_CUT_SHORT);
-    EXPECT(nzd_receiver_rewrite(none, NULL, 0, NULL, 0) == NZD_CUT_SHORT);
+    EXPECT(nzd_receiver_normalize(none, NULL, 0, NULL, 0) == NZD_CUT_SHORT);
     EXPECT(nzd_read_count(NULL, 0, &value) == NZD_BAD_DATA);
     EXPECT(nzd_read_signed_count(NULL, 0, &value) == NZD_BAD_DATA);
     EXPECT(nzd_read_offset(NULL, 0, &value) == NZD_BAD_DATA);
@@ -109,8 +107,21 @@ static void names(void) {
     EXPECT(named(alias, sizeof alias - 1, "B", false) == NZD_CUT_SHORT + 256 * 16);
     EXPECT(named(circle, sizeof circle, "B", true) == NZD_TOO_MANY_STEPS + 256 * 16);
     EXPECT(named(twice, sizeof twice, "B", true) == NZD_SECOND_ALIAS + 256 * 16);
-    EXPECT(nzd_check(circle, sizeof circle) == NZD_ANSWERED);
-    EXPECT(nzd_check(twice, sizeof twice) == NZD_SECOND_ALIAS + 256 * 16);
+    EXPECT(nzd_normalize(circle, sizeof circle, NULL, 0) == NZD_OUTPUT_TOO_SHORT);
+    EXPECT(nzd_normalize(twice, sizeof twice, NULL, 0) == NZD_SECOND_ALIAS + 256 * 16);
+}
+
+/* Check and preferred form in one: the check's refusal whatever the room, then 15, then the file; out is written on 0 only. */
+static void normalizes(void) {
+    static const uint8_t good[] = {0, 0, 0, 0, 0, 3, 1, 1, 'A'}, bad[] = {0, 0, 0, 0, 0, 3, 1, 1, 'A', 1, 2, 0, 3};
+    uint8_t out[10];
+    memset(out, 0xaa, sizeof out);
+    EXPECT(nzd_normalize(bad, sizeof bad, NULL, 0) == NZD_BAD_DATA + 256 * 9);
+    EXPECT(nzd_normalize(good, sizeof good, NULL, 0) == NZD_OUTPUT_TOO_SHORT);
+    EXPECT(nzd_normalize(good, sizeof good, out, 8) == NZD_OUTPUT_TOO_SHORT);
+    EXPECT(nzd_normalize(bad, sizeof bad, out, sizeof out) == NZD_BAD_DATA + 256 * 9);
+    EXPECT(out[0] == 0xaa && out[7] == 0xaa);
+    EXPECT(nzd_normalize(good, sizeof good, out, 9) == 256 * 9 && memcmp(out, good, 9) == 0 && out[9] == 0xaa);
 }
 
 /* Whether these are the instants of a local time in the zone "A". */
@@ -183,9 +194,9 @@ static void receiver(void) {
     EXPECT(answer.wall_ms == 0 && memcmp(buffer + answer.name_place, utc, 3) == 0 && answer.name_length == 3);
     EXPECT(nzd_receiver_ask_plain(r, buffer, sizeof buffer, utc, 3, 0, &answer) == NZD_ANSWERED);
     EXPECT(nzd_receiver_map_local(r, buffer, sizeof buffer, utc, 3, 5, &local) == NZD_ANSWERED && local.earliest == 5);
-    EXPECT(nzd_receiver_check(r, buffer, sizeof buffer) == NZD_ANSWERED);
+    EXPECT(nzd_receiver_normalize(r, buffer, sizeof buffer, NULL, 0) == NZD_OUTPUT_TOO_SHORT);
     EXPECT(nzd_receiver_version_text(r, buffer, sizeof buffer, &text) == NZD_NOT_FOUND + 256 * 17);
-    EXPECT(nzd_receiver_rewrite(r, buffer, sizeof buffer, out, sizeof out) == 256 * 17 && memcmp(out, file, 17) == 0);
+    EXPECT(nzd_receiver_normalize(r, buffer, sizeof buffer, out, sizeof out) == 256 * 17 && memcmp(out, file, 17) == 0);
     EXPECT(nzd_receiver_add(&r, buffer, sizeof buffer, zeros, 2) == NZD_ANSWERED && stands(r, 19, 17));
     nzd_receiver_reset(&r);
     EXPECT(stands(r, 0, 0) && memcmp(buffer, file, sizeof file) == 0);
@@ -196,9 +207,8 @@ static void receiver(void) {
     EXPECT(nzd_receiver_ask(over, buffer, 3, utc, 3, NZD_LAST_INSTANT + 1, true, &answer) == NZD_OUTPUT_TOO_SHORT);
     EXPECT(nzd_receiver_ask_plain(over, buffer, 3, utc, 3, NZD_LAST_INSTANT + 1, &answer) == NZD_OUTPUT_TOO_SHORT);
     EXPECT(nzd_receiver_map_local(over, buffer, 3, utc, 3, 0, &local) == NZD_OUTPUT_TOO_SHORT);
-    EXPECT(nzd_receiver_check(over, buffer, 3) == NZD_OUTPUT_TOO_SHORT);
     EXPECT(nzd_receiver_version_text(over, buffer, 3, &text) == NZD_OUTPUT_TOO_SHORT);
-    EXPECT(nzd_receiver_rewrite(over, buffer, 3, out, sizeof out) == NZD_OUTPUT_TOO_SHORT);
+    EXPECT(nzd_receiver_normalize(over, buffer, 3, out, sizeof out) == NZD_OUTPUT_TOO_SHORT);
     EXPECT(nzd_receiver_add(&over, buffer, 3, NULL, 0) == NZD_OUTPUT_TOO_SHORT && stands(over, 4, 4));
 }
 
@@ -221,6 +231,7 @@ int main(void) {
     no_bytes();
     members();
     names();
+    normalizes();
     local_times();
     receiver();
     words();

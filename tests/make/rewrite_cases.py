@@ -1,7 +1,7 @@
 #!/usr/bin/env python3
 """Writes the input and the expected output of the program rewrite_cases: run it in any folder.
 
-The second reader (tests/second_reader) rewrites each file. For a well-formed file the preferred one is made here too, from the same list of
+The second reader (tests/second_reader) normalizes each file, with room for all of it and with none. For a well-formed file the preferred one is made here too, from the same list of
 fields and transitions as the source, by the words of 01-scope.md, and both must be the same; for a damaged one the number and the place stand
 beside it here, and the second reader must give the same. The room and the bytes behind the preferred file are this script's own.
 The first word of the command line, if there is one, is the second reader's program; else it is built.
@@ -17,12 +17,15 @@ OUT = os.path.join(SECOND.folder.name, "out.nzd")
 
 
 def second(s):
-    """What the second reader gives for a rewrite: the line that it writes, and the preferred file or None."""
+    """What the second reader gives for normalizing: the line that it writes, and the preferred file or None."""
     with open(SECOND.file, "wb") as f:
         f.write(s)
-    said = SECOND.says("rewrite", SECOND.file, OUT).decode()
+    said = SECOND.says("normalize", SECOND.file, OUT, str(len(s))).decode()
+    bare = SECOND.says("normalize", SECOND.file, OUT, "0").decode()
     if not said.startswith("0 "):
+        assert bare == said
         return said, None
+    assert bare == "15 0"
     with open(OUT, "rb") as f:
         out = f.read()
     assert said == "0 %d" % len(out)
@@ -366,6 +369,13 @@ PREFERRED = (AB, zone(1, [(START, "mark"), (BASE, M), (BASE + 128 * HOUR, H), (E
 n = len(files(*PREFERRED)[0])
 good(PREFERRED, (0, 1, n - 5, n - 4, n - 1, n, n + 1, n + 2, n + 30))
 good((pool(),), (0, 1, 3, 4, 6, 7, 8))
+
+# ---- 02, Ask 10: "one operation that gives the check's refusal, or rewrites"; "An output of length 0 gets 15 once the file is good"
+
+ALONE = (pool(b"A"),)
+assert files(*ALONE)[0] == hex_("00000000" "0003010141")
+good(ALONE, (0, 8, 9, 10))
+refused(hex_("00000000" "0003010141" "0102" "0003"), "9 9", (0, 8, 9, 13))
 
 # ---- 02, Ask 6: "Rewriting always shortens such a size": of every field, those that are only stepped over too
 

@@ -33,7 +33,7 @@ use Rattle.location_lookup.specs.Location.{lentPart, answerIn, inField, byField
 use Rattle.location_lookup.specs.declared.LocationAnswer.{LocationAnswer}
 use Rattle.file_locations.specs.ByField.{noField, locationBy}
 use Rattle.location_replies.specs.Small.{SmallLocation}
-use Rattle.capi.proofs.PlaceLaws.{check-small}
+use Rattle.capi.proofs.PlaceLaws.{check-near}
 
 -- the length of a well-formed file
 good-length : (f : List ℕ) → checkOf f ≡ Good → length f ≤ 4194304
@@ -85,7 +85,7 @@ unfolding locationOf
 location-near f field number = go (checkOf f) refl
   where
     go : (v : Verdict) → checkOf f ≡ v → SmallLocation (byCheck f field number v)
-    go (Ill n p) e = record { to = check-small f (Ill n p) (sym e) .to }
+    go (Ill n p) e = record { to = check-near f (Ill n p) (sym e) .to }
     go Good e = in-file-near f e field number
 
 by-near : (f : List ℕ) (i number : ℕ) → SmallLocation (locationBy f i number)
@@ -93,7 +93,7 @@ unfolding locationBy
 by-near f i number = go (eqb i 6) (eqb i 7)
   where
     none-near : (v : Verdict) → checkOf f ≡ v → SmallLocation (noField f v)
-    none-near (Ill n p) e = record { to = check-small f (Ill n p) (sym e) .to }
+    none-near (Ill n p) e = record { to = check-near f (Ill n p) (sym e) .to }
     none-near Good e = record { to = good-length f e }
 
     go : (t u : Bool) → SmallLocation (pick t (locationOf f Zone number) (pick u (locationOf f Zone1970 number) (noField f (checkOf f))))

@@ -10,9 +10,9 @@ use Rattle.field_checks.specs.Check.{TextPlace, nowhere, placed, Memory, start,
 use Rattle.field_checks.specs.declared.Conclusion.{Conclusion}
 use Rattle.field_checks.specs.declared.Conclusion.the-variants.{Refused as Ill, Bare, WithText}
 use Rattle.field_checks.specs.declared.Verdict.{Verdict}
+use Rattle.field_checks.specs.declared.Verdict.the-variants.{Good, Refused as Unfit}
 use Rattle.field_checks.specs.declared.VersionText.{VersionText}
 use Rattle.field_checks.specs.declared.VersionText.the-variants.{Part as TextPart, Refused as NoText}
-use Rattle.file_replies.specs.Small.{SmallVerdict}
 
 -- the check
 abbrev ConclusionTo : Conclusion → Type 0
@@ -38,13 +38,20 @@ conclusion-near : (f : List ℕ) → NearConclusion (conclusion f)
 unfolding conclusion
 conclusion-near f = concludes-near (walk job start f) (walk-near job start f)
 
-verdict-near : (x : Conclusion) → NearConclusion x → SmallVerdict (verdictOf x)
+abbrev VerdictTo : Verdict → Type 0
+VerdictTo Good = Unit {0}
+VerdictTo (Unfit n p) = p ≤ 4194304
+
+pub record NearVerdict (v : Verdict) : Type 0 where
+  pub to : VerdictTo v
+
+verdict-near : (x : Conclusion) → NearConclusion x → NearVerdict (verdictOf x)
 verdict-near (Ill n p) h = record { to = h .to }
 verdict-near (Bare p) h = record { to = tt }
 verdict-near (WithText a n) h = record { to = tt }
 
-pub check-small : (f : List ℕ) (v : Verdict) → v ≡ checkOf f → SmallVerdict v
-check-small f v e = subst⁻¹ SmallVerdict e (verdict-near (conclusion f) (conclusion-near f))
+pub check-near : (f : List ℕ) (v : Verdict) → v ≡ checkOf f → NearVerdict v
+check-near f v e = subst⁻¹ NearVerdict e (verdict-near (conclusion f) (conclusion-near f))
 
 abbrev TextTo : VersionText → Type 0
 TextTo (TextPart a n) = Unit {0}

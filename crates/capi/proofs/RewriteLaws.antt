@@ -1,4 +1,4 @@
--- The length and the place that a rewrite gives fit one result. Assumes nothing.
+-- The length and the place that normalizing gives fit one result. Assumes nothing.
 use mathlib.Core.Path.{_≡_, refl, sym, subst⁻¹}
 use mathlib.Core.Bool.{Bool, true, false}
 use mathlib.Core.List.{List}
@@ -16,7 +16,7 @@ use Rattle.rewrite.specs.Preferred.{preferred, given, rewriteOf}
 use Rattle.rewrite.specs.declared.Rewritten.{Rewritten}
 use Rattle.rewrite.specs.declared.Rewritten.the-variants.{Length, Refused}
 use Rattle.rewrite.proofs.Rewriting.{preferred-limit}
-use Rattle.capi.proofs.PlaceLaws.{check-small}
+use Rattle.capi.proofs.PlaceLaws.{check-near}
 use Rattle.file_replies.specs.Small.{SmallRewritten}
 
 rewrite-near : (f d : List ℕ) → Bytes f → SmallRewritten (rewriteOf f d)
@@ -28,7 +28,7 @@ rewrite-near f d b = go (checkOf f) refl
     room false l = record { to = omega arith }
 
     go : (v : Verdict) → v ≡ checkOf f → SmallRewritten (given v (preferred f) d)
-    go (Ill n p) e = record { to = check-small f (Ill n p) e .to }
+    go (Ill n p) e = record { to = check-near f (Ill n p) e .to }
     go Good e = room (leb (length (preferred f)) (length d)) (preferred-limit f (good-well-formed f (sym e)) b)
 
 pub rewrite-small : (f d : List ℕ) (r : Rewritten) → Bytes f → r ≡ rewriteOf f d → SmallRewritten r

@@ -6,34 +6,25 @@ ghost use Rattle.counts.specs.SignedCount.{readSignedCount, signedCountForm};
 ghost use Rattle.offsets.specs.Offset.{readOffset, offsetForm};
 ghost use Rattle.transitions.specs.Transition.{readMoment};
 ghost use Rattle.texts.specs.Text.{readText, textForm};
-ghost use Rattle.field_checks.specs.Check.{checkOf, versionOf};
+ghost use Rattle.field_checks.specs.Check.{versionOf};
 ghost use Rattle.questions.specs.Question.{ask as askOf, askPlain};
 ghost use Rattle.named_fields.specs.Named.{askNamed};
 ghost use Rattle.receivers.specs.Receive.{fresh, Adds};
 ghost use Rattle.replies.specs.Reply.{Gives, Puts};
 ghost use Rattle.replies.specs.Functions.{readReply, numberReply, textReply, momentReply, previousOf, integerForm};
-ghost use Rattle.file_replies.specs.Functions.{verdictResult, markOf, answerReply, versionReply};
-ghost use Rattle.capi_contracts.specs.Functions.{Rewrites, MapsLocal, kindForm, StepsView};
-ghost use Rattle.capi_contracts.specs.Received.{askReceived, askPlainReceived, askNamedReceived, locationReceived, MapsReceived, checkReceived, versionReceived, RewritesReceived};
+ghost use Rattle.file_replies.specs.Functions.{markOf, answerReply, versionReply};
+ghost use Rattle.capi_contracts.specs.Functions.{MapsLocal, kindForm, StepsView, Normalizes};
+ghost use Rattle.capi_contracts.specs.Received.{askReceived, askPlainReceived, askNamedReceived, locationReceived, MapsReceived, versionReceived, NormalizesReceived};
 ghost use Rattle.file_locations.specs.ByField.{locationBy};
 ghost use Rattle.location_replies.specs.Locations.{GivesLocation};
 
-// The preferred form of a whole file.
+// The check of a whole file, and its preferred form.
 #[no_mangle]
-pub extern "C" fn nzd_rewrite(file: &[u8], out: &mut [u8]) -> u64
-    ensures { λ r. ⌜ Rewrites (now (file .entry)) (now (out .entry)) r (now (out .exit)) ⌝ }
+pub extern "C" fn nzd_normalize(file: &[u8], out: &mut [u8]) -> u64
+    ensures { λ r. ⌜ Normalizes (now (file .entry)) (now (out .entry)) r (now (out .exit)) ⌝ }
 {
-    let r = rewrite::rewrite(file, out);
+    let r = rewrite::normalize(file, out);
     file_replies::rewritten_result(r)
-}
-
-// The check of a whole file.
-#[no_mangle]
-pub extern "C" fn nzd_check(file: &[u8]) -> u64
-    ensures { λ r. ⌜ r ≡ verdictResult (checkOf (now (file .entry))) ⌝ }
-{
-    let v = checks::check(file);
-    file_replies::verdict_result(v)
 }
 
 // The marked question.
@@ -238,18 +229,6 @@ pub extern "C" fn nzd_receiver_location(
     nzd_location(&buffer[..held], field, number, pin, out)
 }
 
-// The check of what a receiver holds.
-#[no_mangle]
-pub extern "C" fn nzd_receiver_check(r: Receiver, buffer: &[u8]) -> u64
-    ensures { λ x. ⌜ x ≡ checkReceived r (now (buffer .entry)) ⌝ }
-{
-    let held = r.held;
-    if buffer.len() < held {
-        return 15;
-    }
-    nzd_check(&buffer[..held])
-}
-
 // The version text of what a receiver holds.
 #[no_mangle]
 pub extern "C" fn nzd_receiver_version_text(r: Receiver, buffer: &[u8], out: &mut [i64; 2]) -> u64
@@ -262,16 +241,16 @@ pub extern "C" fn nzd_receiver_version_text(r: Receiver, buffer: &[u8], out: &mu
     nzd_version_text(&buffer[..held], out)
 }
 
-// The preferred form of what a receiver holds.
+// The check and the preferred form of what a receiver holds.
 #[no_mangle]
-pub extern "C" fn nzd_receiver_rewrite(r: Receiver, buffer: &[u8], out: &mut [u8]) -> u64
-    ensures { λ x. ⌜ RewritesReceived r (now (buffer .entry)) (now (out .entry)) x (now (out .exit)) ⌝ }
+pub extern "C" fn nzd_receiver_normalize(r: Receiver, buffer: &[u8], out: &mut [u8]) -> u64
+    ensures { λ x. ⌜ NormalizesReceived r (now (buffer .entry)) (now (out .entry)) x (now (out .exit)) ⌝ }
 {
     let held = r.held;
     if buffer.len() < held {
         return 15;
     }
-    nzd_rewrite(&buffer[..held], out)
+    nzd_normalize(&buffer[..held], out)
 }
 
 #[no_mangle]

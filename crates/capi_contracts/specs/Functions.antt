@@ -16,9 +16,9 @@ use Rattle.location_lookup.specs.Country.{nextOf}
 use Rattle.file_replies.specs.Functions.{rewrittenResult, mappingReply}
 use Rattle.location_replies.specs.Locations.{GivesCountry}
 
--- the result r and the output e at the return of a rewrite of f, where the output was d: "A rewrite gives its length and leaves later
--- output bytes as found."
-pub record Rewrites (f d : List ℕ) (r : ℕ) (e : List ℕ) : Type 0 where
+-- the result r and the output e at the return of normalizing f, where the output was d: "one operation that gives the check's refusal, or
+-- rewrites". "A rewrite gives its length and leaves later output bytes as found."
+pub record Normalizes (f d : List ℕ) (r : ℕ) (e : List ℕ) : Type 0 where
   pub result : r ≡ rewrittenResult (rewriteOf f d)
   pub output : e ≡ outputOf f d
 

@@ -5,7 +5,7 @@ use mathlib.Core.List.{List}
 use mathlib.Core.Path.{_≡_}
 use lib.IntN.{ℤ}
 use lib.ListN.{length}
-use Rattle.field_checks.specs.Check.{checkOf, versionOf}
+use Rattle.field_checks.specs.Check.{versionOf}
 use Rattle.questions.specs.Question.{ask, askPlain}
 use Rattle.named_fields.specs.Named.{askNamed}
 use Rattle.location_lookup.specs.declared.LocationAnswer.{LocationAnswer}
@@ -15,7 +15,7 @@ use Rattle.receivers.specs.Receive.{heldBytes}
 use Rattle.receivers.specs.OnHeld.{onHeld}
 use Rattle.receivers.specs.declared.Receiver.{Receiver}
 use Rattle.replies.specs.Reply.{refusal, Reply, refused, Gives}
-use Rattle.file_replies.specs.Functions.{verdictResult, rewrittenResult, markOf, answerReply, versionReply}
+use Rattle.file_replies.specs.Functions.{rewrittenResult, markOf, answerReply, versionReply}
 use Rattle.file_locations.specs.ByField.{locationBy}
 use Rattle.capi_contracts.specs.Functions.{MapsLocal}
 
@@ -40,13 +40,10 @@ pub record MapsReceived (r : Receiver) (d id : List ℕ) (local : ℤ) (o : List
 abbrev pub locationReceived : Receiver → List ℕ → ℕ → ℕ → LocationAnswer
 locationReceived r d field number = onHeld (Nowhere 15 0) (λ f. locationBy f field number) r d
 
-abbrev pub checkReceived : Receiver → List ℕ → ℕ
-checkReceived r d = onHeld (refusal 15 0) (λ f. verdictResult (checkOf f)) r d
-
 abbrev pub versionReceived : Receiver → List ℕ → Reply
 versionReceived r d = replyOnHeld (λ f. versionReply (versionOf f)) r d
 
--- the result x and the output e at the return of a rewrite, where the output was o
-pub record RewritesReceived (r : Receiver) (d o : List ℕ) (x : ℕ) (e : List ℕ) : Type 0 where
+-- the result x and the output e at the return of normalizing, where the output was o
+pub record NormalizesReceived (r : Receiver) (d o : List ℕ) (x : ℕ) (e : List ℕ) : Type 0 where
   pub result : x ≡ onHeld (refusal 15 0) (λ f. rewrittenResult (rewriteOf f o)) r d
   pub output : e ≡ onHeld o (λ f. outputOf f o) r d

@@ -1,53 +1,17 @@
 // The whole-file check and the version text, from one walk over the file.
+use check_steps::Cursor;
+use check_steps::Turn;
 use field_checks::Conclusion;
-use field_checks::Cursor;
-use field_checks::Kept;
-use field_checks::Taken;
-use field_checks::Turn;
 use field_checks::Verdict;
 use field_checks::VersionText;
-use frames::Frame;
+use field_readers::Kept;
 ghost use mathlib.Core.Path.{_≡_};
-ghost use Prim.Native.Nat.{_≤_};
-ghost use lib.ListN.{length};
 ghost use Rattle.field_checks.specs.Check.{conclusion, checkOf, versionOf};
-ghost use Rattle.field_checks.specs.Cursor.{Indexed, Ordered, Stepped};
+ghost use Rattle.check_steps.specs.Flags.{FlagsWalked, FlagsChecked};
 
-// The frame at a cursor.
-fn step(s: &[u8], c: Cursor, index: &mut [u32; 8192], order: &mut [u16; 8192]) -> Turn
-    requires { ⌜ (c .at ≤ length (now s)) × Indexed (now s) (c .kept) (now index) × Ordered (now s) (c .kept) (now order) ⌝ }
-    ensures { λ r. ⌜ Stepped (now (s .entry)) c (now (index .entry)) (now (order .entry)) (now (index .exit)) (now (order .exit)) r ⌝ }
-{
-    let at = c.at;
-    let kept = c.kept;
-    let f = headers::read_frame(&s[at..], 255, at, 4 < at, c.prev);
-    match f {
-        Frame::End => Turn::Done(field_checks::conclude(at, kept)),
-        Frame::Cut => Turn::Done(Conclusion::Refused(2, at)),
-        Frame::Refused(n) => Turn::Done(Conclusion::Refused(n, at)),
-        Frame::Version => Turn::Next(Cursor {
-            at: at + 4,
-            prev: 0,
-            kept: kept,
-        }),
-        Frame::Whole(i, h, n) => {
-            let e = at + (h + n);
-            let t = field_checks::take_field(s, kept, i, at + h, e, index, order);
-            match t {
-                Taken::Refused(m) => Turn::Done(Conclusion::Refused(m, at)),
-                Taken::Keep(k) => Turn::Next(Cursor {
-                    at: e,
-                    prev: i as usize,
-                    kept: k,
-                }),
-            }
-        }
-    }
-}
-
-// The walk over a whole file.
-fn walk(s: &[u8]) -> Conclusion
-    ensures { λ r. ⌜ r ≡ conclusion (now (s .entry)) ⌝ }
+// The walk over a whole file, which leaves the flags of its zones.
+fn walk(s: &[u8], flags: &mut [u8]) -> Conclusion
+    ensures { λ r. ⌜ (r ≡ conclusion (now (s .entry))) × FlagsWalked (now (s .entry)) (now (flags .exit)) r ⌝ }
 {
     let mut index = [0u32; 8192];
     let mut order = [0u16; 8192];
@@ -64,7 +28,7 @@ fn walk(s: &[u8]) -> Conclusion
         },
     };
     loop {
-        let t = step(s, c, &mut index, &mut order);
+        let t = check_steps::step(s, c, &mut index, &mut order, &mut *flags);
         match t {
             Turn::Done(x) => {
                 return x;
@@ -76,11 +40,11 @@ fn walk(s: &[u8]) -> Conclusion
     }
 }
 
-// The check of a whole file.
-pub fn check(s: &[u8]) -> Verdict
-    ensures { λ r. ⌜ r ≡ checkOf (now (s .entry)) ⌝ }
+// The check of a whole file, which leaves the flags of its zones, by the numbers of their IDs in the pool.
+pub fn check_flags(s: &[u8], flags: &mut [u8]) -> Verdict
+    ensures { λ r. ⌜ (r ≡ checkOf (now (s .entry))) × FlagsChecked (now (s .entry)) (now (flags .exit)) r ⌝ }
 {
-    let x = walk(s);
+    let x = walk(s, flags);
     match x {
         Conclusion::Refused(n, p) => Verdict::Refused(n, p),
         Conclusion::Bare(_) => Verdict::Good,
@@ -88,11 +52,20 @@ pub fn check(s: &[u8]) -> Verdict
     }
 }
 
+// The check of a whole file. Without flags no zone's form is looked at.
+pub fn check(s: &[u8]) -> Verdict
+    ensures { λ r. ⌜ r ≡ checkOf (now (s .entry)) ⌝ }
+{
+    let mut flags = [0u8; 0];
+    check_flags(s, &mut flags)
+}
+
 // The version text of a file, all checked first.
 pub fn version_text(s: &[u8]) -> VersionText
     ensures { λ r. ⌜ r ≡ versionOf (now (s .entry)) ⌝ }
 {
-    let x = walk(s);
+    let mut flags = [0u8; 0];
+    let x = walk(s, &mut flags);
     match x {
         Conclusion::Refused(n, p) => VersionText::Refused(n, p),
         Conclusion::Bare(p) => VersionText::Refused(12, p),

@@ -1,12 +1,11 @@
-// A field's data in their preferred form: whether they are in it, how long it is, and the writing of it. Every transition is written in
-// the writer's form, all else is copied.
+// A zone's data in their preferred form: how long they are, and the writing of them. Every transition is written in the writer's form, all else is
+// copied.
 use base::END;
 use base::Read;
 use base::Wrote;
 ghost use mathlib.Core.Path.{_≡_};
 ghost use mathlib.Core.List.{_++_};
-ghost use Prim.Native.Nat.{_-_, _≤_};
-ghost use lib.Dec.{eqb};
+ghost use Prim.Native.Nat.{_≤_};
 ghost use lib.ListN.{length};
 ghost use Rattle.base.specs.Moment.{endOfTime};
 ghost use Rattle.base.proofs.MomentLaws.{Moment};
@@ -40,41 +39,6 @@ fn pieces_size(s: &[u8], at: usize, n: u64) -> usize
         }
     }
     size
-}
-
-// Whether n pieces from a place on are in their preferred form: the first that is longer tells that they aren't.
-fn pieces_preferred(s: &[u8], at: usize, n: u64) -> bool
-    requires { ⌜ HasPieces (now s) n at ⌝ }
-    ensures { λ r. ⌜ r ≡ eqb (length (printPieces endOfTime (piecesAt (now (s .entry)) n at))) (length (now (s .entry)) - at) ⌝ }
-{
-    let mut left = n;
-    let mut place = at;
-    let mut prev = END;
-    while 0 < left {
-        left -= 1;
-        let m = pieces::short_piece(s, place, prev, left);
-        if m != 0 {
-            place += 5;
-            prev = m;
-        } else {
-            let item = places::moment_at(s, place, prev);
-            match item {
-                Read::Refused(_) => {
-                    return false;
-                }
-                Read::Value(m, a) => {
-                    let e = pieces::piece_end(s, a, left);
-                    let k = a - place;
-                    if pieces::code_size(prev, m, k) != k {
-                        return false;
-                    }
-                    place = e;
-                    prev = m;
-                }
-            }
-        }
-    }
-    true
 }
 
 // Writes a transition and the bytes that follow it.
@@ -116,7 +80,7 @@ fn write_pieces(s: &[u8], at: usize, n: u64, out: &mut [u8]) -> usize
 }
 
 // The length of a zone's data in their preferred form.
-fn zone_size(s: &[u8]) -> usize
+pub fn zone_size(s: &[u8]) -> usize
     requires { ⌜ HasContent (now s) ⌝ }
     ensures { λ r. ⌜ r ≡ length (print (contentOf 1 (now (s .entry)))) ⌝ }
 {
@@ -138,39 +102,6 @@ pub fn write_zone(s: &[u8], out: &mut [u8]) -> usize
             k + write_pieces(s, a, n, &mut out[k..])
         }
     }
-}
-
-// The length of the preferred data of a field with the ID i.
-pub fn size(i: u8, d: &[u8]) -> usize
-    requires { ⌜ (i ≡ 1 → HasContent (now d)) ⌝ }
-    ensures { λ r. ⌜ r ≡ length (print (contentOf i (now (d .entry)))) ⌝ }
-{
-    if i == 1 {
-        return zone_size(d);
-    }
-    d.len()
-}
-
-// Whether a zone's data are in their preferred form.
-fn zone_preferred(s: &[u8]) -> bool
-    requires { ⌜ HasContent (now s) ⌝ }
-    ensures { λ r. ⌜ r ≡ eqb (length (print (contentOf 1 (now (s .entry))))) (length (now (s .entry))) ⌝ }
-{
-    match pieces::read_head(s) {
-        Read::Refused(_) => false,
-        Read::Value(n, a) => pieces_preferred(s, a, n),
-    }
-}
-
-// Whether the data of a field with the ID i are in their preferred form, which is so where that is as long.
-pub fn is_preferred(i: u8, d: &[u8]) -> bool
-    requires { ⌜ (i ≡ 1 → HasContent (now d)) ⌝ }
-    ensures { λ r. ⌜ r ≡ eqb (length (print (contentOf i (now (d .entry))))) (length (now (d .entry))) ⌝ }
-{
-    if i == 1 {
-        return zone_preferred(d);
-    }
-    true
 }
 
 // How many bytes the size of a zone's preferred data takes. Most often the longest and the shortest that they can be tell.

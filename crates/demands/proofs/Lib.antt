@@ -8,7 +8,7 @@ pub mod RangeLaws
 pub mod Standard
 pub mod Right
 pub mod Rewriting
-pub mod Rewritten
+pub mod Normalized
 pub mod Example
 pub mod Tailed
 pub mod Nameless

@@ -1,4 +1,4 @@
--- THE NUMBERS GIVEN BACK are those that document 01's table has for a check, the version text, a rewrite and a question. Assumes nothing.
+-- THE NUMBERS GIVEN BACK are those that document 01's table has for a check, the version text, normalizing and a question. Assumes nothing.
 use mathlib.Core.Path.{_≡_, refl}
 use mathlib.Core.Bool.{Bool, true, false}
 use mathlib.Core.List.{List, [], _∷_}
@@ -59,7 +59,7 @@ use Rattle.answers.specs.declared.Mark.the-variants.{More, All as Whole′}
 use Rattle.answers.specs.declared.Found.{Found}
 use Rattle.answers.specs.declared.Answer.the-variants.{Refused as No}
 use Rattle.demands.specs.Numbers.{OfContent, too-large, faulty, OfFile, OfCheck, check-cut, check-fault, second-zone, second-key, InTable, location-fault, misread, out-of-range}
-use Rattle.demands.specs.Numbers.{OfRewrite, rewrite-check, no-room, OfVersion, version-check, no-text}
+use Rattle.demands.specs.Numbers.{OfNormalize, normalize-check, no-room, OfVersion, version-check, no-text}
 use Rattle.demands.specs.Numbers.{OfQuestion, not-yet, question-cut, question-fault, no-zone, no-instant}
 use Rattle.demands.proofs.ContentNumbers.{Fine, zone-numbers, FineAliases, aliases-numbers}
 use Rattle.demands.proofs.LocationNumbers.{Located, location-numbers}
@@ -305,17 +305,17 @@ version-numbers f b = go (conclusion f) (conclusion-numbers f b)
     go (Bare p) h = no-text refl
     go (WithText a n) h = tt
 
--- A REWRITE GIVES 0, 2 TO 11, 13, 15, 19 OR 20, whatever the output
-pub rewrite-numbers : (f d : List ℕ) → Bytes f → InTable OfRewrite (givenByRewritten (rewriteOf f d))
+-- NORMALIZING GIVES 0, 2 TO 11, 13, 15, 19 OR 20, whatever the output
+pub normalize-numbers : (f d : List ℕ) → Bytes f → InTable OfNormalize (givenByRewritten (rewriteOf f d))
 unfolding rewriteOf
-rewrite-numbers f d b = go (checkOf f) (check-numbers f b)
+normalize-numbers f d b = go (checkOf f) (check-numbers f b)
   where
-    by-room : (t : Bool) → InTable OfRewrite (givenByRewritten (pick t (Length (length (preferred f))) (Unwritten 15 0)))
+    by-room : (t : Bool) → InTable OfNormalize (givenByRewritten (pick t (Length (length (preferred f))) (Unwritten 15 0)))
     by-room true = tt
     by-room false = no-room refl
 
-    go : (v : Verdict) → InTable OfCheck (givenByVerdict v) → InTable OfRewrite (givenByRewritten (given v (preferred f) d))
-    go (Ill n p) h = rewrite-check h
+    go : (v : Verdict) → InTable OfCheck (givenByVerdict v) → InTable OfNormalize (givenByRewritten (given v (preferred f) d))
+    go (Ill n p) h = normalize-check h
     go Good h = by-room (leb (length (preferred f)) (length d))
 
 -- A QUESTION GIVES 0 TO 12 OR 14, whatever the bytes, and never 13

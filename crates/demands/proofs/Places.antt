@@ -78,7 +78,7 @@ question-place bs id z mark =
     done (cut p) h = record { place = h .at }
     done (ended m p) h = record { place = h .at }
 
--- the check, the version text and the rewriter
+-- the check, the version text and normalizing
 module _ (f : List ℕ) where
   abbrev Concludes : Conclusion → Type 0
   Concludes (Unfit n p) = p ≤ length f
@@ -118,9 +118,9 @@ module _ (f : List ℕ) where
       go (Bare p) h = record { place = h .at }
       go (WithText a n) h = record { place = omega arith }
 
-  pub rewrite-place : (d : List ℕ) → PlacedIn f (givenByRewritten (rewriteOf f d))
+  pub normalize-place : (d : List ℕ) → PlacedIn f (givenByRewritten (rewriteOf f d))
   unfolding rewriteOf
-  rewrite-place d = go (checkOf f) check-place
+  normalize-place d = go (checkOf f) check-place
     where
       go : (v : Verdict) → PlacedIn f (givenByVerdict v) → PlacedIn f (givenByRewritten (given v (preferred f) d))
       go (Ill n p) h = record { place = h .place }

@@ -5,7 +5,7 @@ pub mod Cases
 pub mod Numbers
 pub mod Same
 pub mod Whole
-pub mod Rewrites
+pub mod Normalizes
 pub mod Places
 pub mod Named
 pub mod Received

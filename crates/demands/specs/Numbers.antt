@@ -26,10 +26,10 @@ pub data OfCheck (n : ℕ) : Type 0 where
   second-key : n ≡ 19 → OfCheck n
   location-fault : n ≡ 20 → OfCheck n
 
--- "Rewriting, and reading the version text, check all first; then 15 or 12"
-pub data OfRewrite (n : ℕ) : Type 0 where
-  rewrite-check : OfCheck n → OfRewrite n
-  no-room : n ≡ 15 → OfRewrite n
+-- "Rewriting, and reading the version text, check all first; then 15 or 12": what normalizing refuses with
+pub data OfNormalize (n : ℕ) : Type 0 where
+  normalize-check : OfCheck n → OfNormalize n
+  no-room : n ≡ 15 → OfNormalize n
 
 pub data OfVersion (n : ℕ) : Type 0 where
   version-check : OfCheck n → OfVersion n

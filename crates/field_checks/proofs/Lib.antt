@@ -1,6 +1,4 @@
 pub mod KindLaws
-pub mod TakeLaws
-pub mod StepLaws
 pub mod WellFormedLaws
 pub mod ZoneIdLaws
 pub mod VersionLaws

@@ -6,7 +6,7 @@ use Prim.Native.Nat.{ℕ, zero, suc, _<_}
 use native.Mathlib.Omega.{arith}
 use lib.ListN.{length, take, drop}
 use lib.Dec.{leb}
-use borrow.Author.Tests.{ne-eqb}
+use borrow.Author.Tests.{eq-eqb, ne-eqb}
 use Rattle.base.specs.Pick.{pick}
 use Rattle.frames.specs.Frame.{zeros, version, frame, Field}
 use Rattle.frames.specs.Machine.{Out, found, refused, cut, ended, walk}
@@ -20,8 +20,14 @@ use Rattle.frames.proofs.PartLaws.{walk-ended}
 use Rattle.field_checks.specs.Check.{TextPlace, nowhere, placed, Memory, start, job, concluded, concludes, conclusion}
 use Rattle.field_checks.specs.Check.{verdictOf, checkOf, WellFormed}
 use Rattle.field_checks.specs.declared.Verdict.the-variants.{Good, Refused}
-use Rattle.field_checks.proofs.StepLaws.{none-seen}
 use Rattle.base.proofs.Tests.{clash}
+use Rattle.field_checks.specs.declared.Conclusion.the-variants.{Refused as Ill}
+
+-- at the end of bytes that are the version alone
+pub none-seen : (t : TextPlace) (p : ℕ) → p ≡ 4 → Ill 6 p ≡ concluded t p
+unfolding concluded
+none-seen nowhere p q = rw (eq-eqb p 4 q)
+none-seen (placed a n) p q = rw (eq-eqb p 4 q)
 
 version-no-end : (r : List ℕ) → version r ≡ End → ⊥
 unfolding version

@@ -1,5 +1,4 @@
 pub mod Check
-pub mod Cursor
 pub mod File
 pub mod Numbers
 pub mod Version

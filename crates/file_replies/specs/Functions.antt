@@ -3,8 +3,6 @@ use Prim.Native.Nat.{ℕ}
 use mathlib.Core.Bool.{Bool, true, false}
 use mathlib.Core.List.{[], _∷_}
 use lib.IntN.{pos}
-use Rattle.field_checks.specs.declared.Verdict.{Verdict}
-use Rattle.field_checks.specs.declared.Verdict.the-variants.{Good, Refused as Ill}
 use Rattle.field_checks.specs.declared.VersionText.{VersionText}
 use Rattle.field_checks.specs.declared.VersionText.the-variants.{Part as TextPart, Refused as NoText}
 use Rattle.answers.specs.declared.Mark.{Mark}
@@ -16,11 +14,6 @@ use Rattle.rewrite.specs.declared.Rewritten.the-variants.{Length, Refused as Un
 use Rattle.wall_times.specs.declared.Mapping.{Mapping}
 use Rattle.wall_times.specs.declared.Mapping.the-variants.{Instants, Refused as Unmapped}
 use Rattle.replies.specs.Reply.{refusal, ofLength, Reply, numbers, refused}
-
--- the whole-file check
-abbrev pub verdictResult : Verdict → ℕ
-verdictResult Good = 0
-verdictResult (Ill n p) = refusal n p
 
 -- "A rewrite gives its length"
 abbrev pub rewrittenResult : Rewritten → ℕ

@@ -1,8 +1,6 @@
 -- What the inner functions ask: that each number fits where it goes. The C functions ask nothing. To be believed by
 -- none: each is proved where it is asked.
 use Prim.Native.Nat.{_≤_, _<_, _^_}
-use Rattle.field_checks.specs.declared.Verdict.{Verdict}
-use Rattle.field_checks.specs.declared.Verdict.the-variants.{Good, Refused as Ill}
 use Rattle.field_checks.specs.declared.VersionText.{VersionText}
 use Rattle.field_checks.specs.declared.VersionText.the-variants.{Part as TextPart, Refused as NoText}
 use Rattle.answers.specs.declared.Answer.{Answer}
@@ -32,13 +30,6 @@ MappingTo (Unmapped n p) = p ≤ 4194304
 
 pub record SmallMapping (m : Mapping) : Type 0 where
   pub to : MappingTo m
-
-abbrev pub VerdictTo : Verdict → Type 0
-VerdictTo Good = Unit {0}
-VerdictTo (Ill n p) = p ≤ 4194304
-
-pub record SmallVerdict (v : Verdict) : Type 0 where
-  pub to : VerdictTo v
 
 abbrev pub RewrittenTo : Rewritten → Type 0
 RewrittenTo (Length n) = n ≤ 4194304

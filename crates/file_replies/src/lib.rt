@@ -1,5 +1,4 @@
-// What the C functions on files share: the result of a check and of a rewrite, and the numbers of an answer, of a mapping and of the
-// version text.
+// What the C functions on files share: the result of normalizing, and the numbers of an answer, of a mapping and of the version text.
 use answers::Answer;
 use answers::Mark;
 use field_checks::Verdict;
@@ -8,10 +7,10 @@ use rewrite::Rewritten;
 use wall_times::Mapping;
 ghost use mathlib.Core.Path.{_≡_};
 ghost use Rattle.replies.specs.Reply.{Gives};
-ghost use Rattle.file_replies.specs.Functions.{verdictResult, rewrittenResult, markOf, answerReply, mappingReply, versionReply};
-ghost use Rattle.file_replies.specs.Small.{SmallVerdict, SmallRewritten, SmallAnswer, SmallMapping, SmallVersion};
+ghost use Rattle.file_replies.specs.Functions.{rewrittenResult, markOf, answerReply, mappingReply, versionReply};
+ghost use Rattle.file_replies.specs.Small.{SmallRewritten, SmallAnswer, SmallMapping, SmallVersion};
 
-// The result of a rewrite.
+// The result of normalizing.
 pub fn rewritten_result(r: Rewritten) -> u64
     requires { ⌜ SmallRewritten r ⌝ }
     ensures { λ q. ⌜ q ≡ rewrittenResult r ⌝ }
@@ -19,17 +18,6 @@ pub fn rewritten_result(r: Rewritten) -> u64
     match r {
         Rewritten::Length(n) => 256 * (n as u64),
         Rewritten::Refused(n, p) => replies::refusal(n, p),
-    }
-}
-
-// The result of a check.
-pub fn verdict_result(v: Verdict) -> u64
-    requires { ⌜ SmallVerdict v ⌝ }
-    ensures { λ r. ⌜ r ≡ verdictResult v ⌝ }
-{
-    match v {
-        Verdict::Good => 0,
-        Verdict::Refused(n, p) => replies::refusal(n, p),
     }
 }
 

@@ -11,7 +11,7 @@ ghost use Rattle.base.specs.Parsed.{many};
 ghost use Rattle.base.specs.Moment.{endOfTime};
 ghost use Rattle.places.specs.Placed.{Stands};
 ghost use Rattle.intervals.specs.Interval.{parseInterval, startOf};
-ghost use Rattle.intervals.specs.Scan.{ofInterval, ofScan, advance as advanceOf, scanOf};
+ghost use Rattle.intervals.specs.Scan.{ofInterval, ofScan, advance as advanceOf, scanOf, FormOf};
 
 // An interval, as read_any_interval has it. One of twelve bytes, with its start in ticks, takes no call; its first byte tells, so that no
 // other loses time on it.
@@ -50,11 +50,13 @@ fn advance(t: u64, c: Scan, i: Interval) -> Scan
     }
 }
 
-// n intervals from the place at on. One of five bytes, the usual one, takes no call.
-pub fn read_intervals(s: &[u8], at: usize, pool: u64, n: u64, t: u64) -> ScanRead
+// n intervals from the place at on, and whether their starts are in the writer's form, which is looked at where `preferred` says so. One of five
+// bytes, the usual one, takes no call, and is.
+pub fn read_intervals(s: &[u8], at: usize, pool: u64, n: u64, t: u64, preferred: bool) -> ScanRead
     requires { ⌜ at ≤ length (now s) ⌝ }
-    ensures { λ r. ⌜ Stands (now (s .entry)) (scanOf t (many (parseInterval pool) startOf n endOfTime (drop at (now (s .entry))))) (ofScan r) ⌝ }
+    ensures { λ r. ⌜ Stands (now (s .entry)) (scanOf t (many (parseInterval pool) startOf n endOfTime (drop at (now (s .entry))))) (ofScan r) × FormOf (now (s .entry)) n at preferred r ⌝ }
 {
+    let mut form = preferred;
     let mut left = n;
     let mut place = at;
     let mut c = Scan {
@@ -81,6 +83,7 @@ pub fn read_intervals(s: &[u8], at: usize, pool: u64, n: u64, t: u64) -> ScanRea
                     return ScanRead::Refused(k);
                 }
                 IntervalRead::Got(i, e) => {
+                    form = pieces::code_preferred(s, place, c.last, form);
                     left -= 1;
                     place = e;
                     c = advance(t, c, i);
@@ -88,5 +91,5 @@ pub fn read_intervals(s: &[u8], at: usize, pool: u64, n: u64, t: u64) -> ScanRea
             }
         }
     }
-    ScanRead::Got(c, place)
+    ScanRead::Got(c, place, form)
 }

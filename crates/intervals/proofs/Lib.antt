@@ -4,3 +4,4 @@ pub mod StandardLaws
 pub mod ShortLaws
 pub mod InOrderLaws
 pub mod Vectors
+pub mod FormLaws

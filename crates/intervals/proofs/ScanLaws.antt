@@ -39,7 +39,7 @@ module _ (t : ℕ) (c : Scan) (i : Interval) where
   unfolding advance
   advance-over h l = rw (le-ltb (c .end) endOfTime h, le-ltb t (i .start) l)
 
-advance-last : (t : ℕ) (c : Scan) (i : Interval) → advance t c i .last ≡ i .start
+pub advance-last : (t : ℕ) (c : Scan) (i : Interval) → advance t c i .last ≡ i .start
 unfolding advance
 advance-last t c i =
     pick-holds (λ (x : Scan). x .last ≡ i .start) (ltb (c .end) endOfTime) (λ _. refl)

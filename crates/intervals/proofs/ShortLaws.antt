@@ -8,9 +8,10 @@ use lib.Dec.{ltb}
 use lib.ListN.{length, drop, getD}
 use borrow.Author.Tests.{lt-ltb, le-ltb, ltb-true, ne-eqb}
 use Rattle.base.specs.Pick.{pick}
-use Rattle.base.specs.Parsed.{bad}
+use Rattle.base.specs.Parsed.{bad, parse}
 use Rattle.base.specs.Moment.{endOfTime}
 use Rattle.base.proofs.Tests.{pick-same, both-left, both-right}
+use Rattle.transitions.specs.Transition.{readMoment}
 use Rattle.places.specs.Placed.{at, Stands}
 use Rattle.places.specs.Name.{judgeName, parseName}
 use Rattle.places.specs.Short.{Short, shortAt}
@@ -48,6 +49,16 @@ module _ (s : List ℕ) (pool place n prev m : ℕ) where
       go : (t : Bool) → shortOk s pool (place + n) ≡ t → m ≡ pick t (shortAt s place n prev) 0
           → Stands s (parseInterval pool prev (drop place s)) (at (shortInterval s (place + n) m) (place + (n + 3)))
       go true q k = interval-at (short-means s place n prev m k z) q
+      go false q k = absurd (z k)
+
+  -- and the code of its start
+  pub start-code : m ≡ shortStart s pool place n prev → (m ≡ 0 → ⊥) → Stands s (parse (readMoment prev) (drop place s)) (at m (place + n))
+  unfolding shortStart
+  start-code e z = go (shortOk s pool (place + n)) refl e
+    where
+      go : (t : Bool) → shortOk s pool (place + n) ≡ t → m ≡ pick t (shortAt s place n prev) 0
+          → Stands s (parse (readMoment prev) (drop place s)) (at m (place + n))
+      go true q k = short-means s place n prev m k z .moment
       go false q k = absurd (z k)
 
   pub short-room : m ≡ shortAt s place n prev → (m ≡ 0 → ⊥) → place + n + 3 ≤ length s

@@ -15,13 +15,13 @@ pub struct Scan {
     pub last: u64,
 }
 
-// Each reader gives a value and the place behind it, or a refusal's number.
+// Each reader gives a value and the place behind it, or a refusal's number; the last also whether every start's code is in the writer's form.
 pub enum IntervalRead {
     Got(Interval, usize),
     Refused(u8),
 }
 
 pub enum ScanRead {
-    Got(Scan, usize),
+    Got(Scan, usize, bool),
     Refused(u8),
 }

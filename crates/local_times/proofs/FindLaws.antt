@@ -51,9 +51,9 @@ module _ (pool l : ℕ) (s : List ℕ) where
     find-fixed t r f g = rw (e .1) (ap Instants (g ∙ ap (counted nothing) f ∙ counted-is (candidate l offset 0 endOfTime) []))
 
   -- a zone with intervals
-  pub intervals-at : (r : ZoneFront) → FrontOf pool s zone r → (id n a : ℕ) → r ≡ Listed id n a → IntervalsAt pool s n a
-  intervals-at r h id n a e =
-      let k = listed-front pool s zone r h id n a e in
+  pub intervals-at : (h : Parsed ℕ) (r : ZoneFront) → FrontOf pool s zone h r → (id n a : ℕ) → r ≡ Listed id n a → IntervalsAt pool s n a
+  intervals-at h r f id n a e =
+      let k = listed-front pool s zone h r f id n a e in
       record { id = id; goes = k .0; inside = k .1; some = k .2; most = k .3 }
 
   module _ (n place : ℕ) (f : IntervalsAt pool s n place) where

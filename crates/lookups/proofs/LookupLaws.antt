@@ -1,5 +1,6 @@
 -- The lookup: what one walk keeps gives the interval that holds the instant, and no other interval of the zone does. Assumes nothing.
 use mathlib.Core.Path.{_≡_, refl, sym, ap, _∙_, subst}
+use mathlib.Core.Bool.{Bool}
 use mathlib.Core.List.{List, [], _∷_}
 use Prim.Native.Nat.{ℕ, _≤_, _<_}
 use native.Mathlib.Omega.{arith}
@@ -66,27 +67,27 @@ abbrev pub tailAnswer : ℕ → Scan → NamedTail → Found
 tailAnswer t c n = pick (ltb t (n .tail .start)) (heldUntil c (n .tail .start)) (inTail t n)
 
 abbrev pub answerRead : ℕ → ZoneRead → Answer
-answerRead t (Fixed id offset n) = In (record { wall = offset; savings = zeroOffset; name = n; start = startOfTime; end = endOfTime })
-answerRead t (Listed id c) = In (heldUntil c endOfTime)
-answerRead t (Tailed id c n) = In (tailAnswer t c n)
+answerRead t (Fixed id offset n form) = In (record { wall = offset; savings = zeroOffset; name = n; start = startOfTime; end = endOfTime })
+answerRead t (Listed id c form) = In (heldUntil c endOfTime)
+answerRead t (Tailed id c n form) = In (tailAnswer t c n)
 answerRead t (Refused k) = Denied k
 
-body-answer : (pool t id : ℕ) (b : Body) → Finite t → BodyOk pool b → answerRead t (bodyRead t id b) ≡ In (inBody t id b)
+body-answer : (pool t : ℕ) (form : Bool) (id : ℕ) (b : Body) → Finite t → BodyOk pool b → answerRead t (bodyRead t form id b) ≡ In (inBody t id b)
 unfolding inBody behindList
-body-answer pool t id (fixed offset n) f h = refl
-body-answer pool t id (listed is end untailed) f h =
+body-answer pool t form id (fixed offset n) f h = refl
+body-answer pool t form id (listed is end untailed) f h =
     rw (h .1, lt-ltb t endOfTime (omega (arith, f .high))) (ap In (held-is pool t endOfTime is (h .0)))
-body-answer pool t id (listed is end (tailed n)) f h =
+body-answer pool t form id (listed is end (tailed n)) f h =
     ap (λ (m : ℕ). In (pick (ltb t m) (heldUntil (scanned t is) m) (inTail t n))) (h .1 .2 .starts)
     ∙ ap (λ (x : Found). In (pick (ltb t end) x (inTail t n))) (held-is pool t end is (h .0))
 
-answer-read : (pool t : ℕ) (s : List ℕ) (p : Parsed Zone) → p ≡ parseZone pool s → Finite t → answerRead t (readOf t p) ≡ answerOf t p
+answer-read : (pool t : ℕ) (form : Bool) (s : List ℕ) (p : Parsed Zone) → p ≡ parseZone pool s → Finite t → answerRead t (readOf t form p) ≡ answerOf t p
 unfolding readOf
-answer-read pool t s (bad k) e f = refl
-answer-read pool t s (got z r) e f = body-answer pool t (z .id) (z .body) f (zone-sound pool s z r (sym e) .0 .body-ok)
+answer-read pool t form s (bad k) e f = refl
+answer-read pool t form s (got z r) e f = body-answer pool t form (z .id) (z .body) f (zone-sound pool s z r (sym e) .0 .body-ok)
 
-pub answer-is : (pool t : ℕ) (s : List ℕ) (r : ZoneRead) → Finite t → r ≡ readOf t (parseZone pool s) → answerRead t r ≡ answerOf t (parseZone pool s)
-answer-is pool t s r f e = ap (answerRead t) e ∙ answer-read pool t s (parseZone pool s) refl f
+pub answer-is : (pool t : ℕ) (form : Bool) (s : List ℕ) (r : ZoneRead) → Finite t → r ≡ readOf t form (parseZone pool s) → answerRead t r ≡ answerOf t (parseZone pool s)
+answer-is pool t form s r f e = ap (answerRead t) e ∙ answer-read pool t form s (parseZone pool s) refl f
 
 -- before the tail's start, and from it on
 pub before-tail : (t : ℕ) (c : Scan) (n : NamedTail) (r : Found) → t < n .tail .start → r ≡ heldUntil c (n .tail .start) → In r ≡ In (tailAnswer t c n)
@@ -96,18 +97,18 @@ pub from-tail : (t : ℕ) (c : Scan) (n : NamedTail) (r : Found) → n .tail .st
 from-tail t c n r h e = rw (le-ltb t (n .tail .start) h) (ap In e)
 
 -- a tail that is read may be asked
-pub tail-ok : (pool t : ℕ) (s : List ℕ) (id : ℕ) (c : Scan) (n : NamedTail) → Tailed id c n ≡ readOf t (parseZone pool s) → TailOk (n .tail)
+pub tail-ok : (pool t : ℕ) (form : Bool) (s : List ℕ) (id : ℕ) (c : Scan) (n : NamedTail) (b : Bool) → Tailed id c n b ≡ readOf t form (parseZone pool s) → TailOk (n .tail)
 unfolding readOf
-tail-ok pool t s id c n e = go (parseZone pool s) refl e
+tail-ok pool t form s id c n b e = go (parseZone pool s) refl e
   where
     no-tail : {A : Type 0} → _≡_ {A = ℕ} 0 1 → A
     no-tail e = absurd (omega arith)
 
-    by-body : (b : Body) (i : ℕ) → BodyOk pool b → Tailed id c n ≡ bodyRead t i b → TailOk (n .tail)
+    by-body : (x : Body) (i : ℕ) → BodyOk pool x → Tailed id c n b ≡ bodyRead t form i x → TailOk (n .tail)
     by-body (fixed offset m) i h k = no-tail cc
     by-body (listed is end untailed) i h k = no-tail cc
     by-body (listed is end (tailed m)) i h k = let x : m ≡ n = cc in subst (λ (y : NamedTail). TailOk (y .tail)) x (h .1 .2 .tail-ok)
 
-    go : (p : Parsed Zone) → p ≡ parseZone pool s → Tailed id c n ≡ readOf t p → TailOk (n .tail)
+    go : (p : Parsed Zone) → p ≡ parseZone pool s → Tailed id c n b ≡ readOf t form p → TailOk (n .tail)
     go (got z r) h k = by-body (z .body) (z .id) (zone-sound pool s z r (sym h) .0 .body-ok) k
     go (bad m) h k = no-tail cc

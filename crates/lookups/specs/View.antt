@@ -1,5 +1,6 @@
 -- What one walk over a zone keeps for an instant. The code's way, tied to the answer by `answer-is` (proofs/LookupLaws.antt).
 use Prim.Native.Nat.{ℕ}
+use mathlib.Core.Bool.{Bool}
 use lib.Dec.{ltb}
 use Rattle.base.specs.Pick.{pick}
 use Rattle.base.specs.Parsed.{Parsed, got, bad}
@@ -11,17 +12,24 @@ use Rattle.zones.specs.Lookup.{until, fixedNameOf}
 use Rattle.zones.specs.declared.Found.{Found}
 use Rattle.lookups.specs.declared.ZoneRead.{ZoneRead}
 use Rattle.lookups.specs.declared.ZoneRead.the-variants.{Fixed, Listed, Tailed, Refused as ZoneRefused}
+use Rattle.lookups.specs.declared.ZoneForm.{ZoneForm}
+use Rattle.lookups.specs.declared.ZoneForm.the-variants.{Good, Refused as FormRefused}
 
 -- the interval that a scan holds, up to the first start after the instant, or else to the end of the list
 unfoldable pub heldUntil : Scan → ℕ → Found
 heldUntil c end = until (c .held) (pick (ltb (c .end) endOfTime) (c .end) end)
 
--- what one walk over a zone keeps for the instant t
-abbrev pub bodyRead : ℕ → ℕ → Body → ZoneRead
-bodyRead t id (fixed offset n) = Fixed id offset (fixedNameOf id n)
-bodyRead t id (listed is end untailed) = Listed id (scanned t is)
-bodyRead t id (listed is end (tailed n)) = Tailed id (scanned t is) n
+-- what one walk over a zone keeps for the instant t; form says whether its transitions are in the writer's form
+abbrev pub bodyRead : ℕ → Bool → ℕ → Body → ZoneRead
+bodyRead t form id (fixed offset n) = Fixed id offset (fixedNameOf id n) form
+bodyRead t form id (listed is end untailed) = Listed id (scanned t is) form
+bodyRead t form id (listed is end (tailed n)) = Tailed id (scanned t is) n form
 
-unfoldable pub readOf : ℕ → Parsed Zone → ZoneRead
-readOf t (got z r) = bodyRead t (z .id) (z .body)
-readOf t (bad n) = ZoneRefused n
+unfoldable pub readOf : ℕ → Bool → Parsed Zone → ZoneRead
+readOf t form (got z r) = bodyRead t form (z .id) (z .body)
+readOf t form (bad n) = ZoneRefused n
+
+-- a zone's check, with its form
+abbrev pub formOf : Bool → Parsed Zone → ZoneForm
+formOf form (got z r) = Good (z .id) form
+formOf form (bad n) = FormRefused n

@@ -1,26 +1,22 @@
 -- The loops over the transitions of a zone: where they stand, and how they go on. Assumes nothing.
-use mathlib.Core.Path.{_≡_, refl, sym, ap, _∙_, subst}
+use mathlib.Core.Path.{_≡_, refl, sym, ap, _∙_}
 use mathlib.Core.List.{List, [], _∷_, _++_, append-nil, append-assoc}
-use mathlib.Core.Logic.{_⊎_, inl, inr}
 use Prim.Native.Nat.{ℕ, zero, suc, _+_, _-_, _≤_, _<_}
 use native.Mathlib.Omega.{arith}
 use lib.ListN.{length, take, drop, length-append, length-drop}
 use lib.Seq.{length-take-le}
-use Rattle.base.specs.Parsed.{Parsed, got, bad, bind, behindCode, parse, prepend}
-use Rattle.base.specs.declared.Read.{Read}
-use Rattle.base.specs.declared.Read.the-variants.{Value, Refused as Unread}
+use Rattle.base.specs.Parsed.{Parsed, got, bad, bind, parse, prepend}
 use Rattle.base.proofs.Parts.{Bytes}
-use Rattle.base.proofs.ByteLaws.{drop-bytes}
 use Rattle.base.specs.Moment.{endOfTime}
 use Rattle.base.proofs.MomentLaws.{Moment}
 use Rattle.base.proofs.ParseLaws.{bad-got, got-value, got-rest, bind-good}
 use Rattle.transitions.specs.Transition.{readMoment, writeMoment}
-use Rattle.transitions.proofs.MomentLaws.{moment-read, Preferred, Longer, renewed}
 use Rattle.places.proofs.ValueLaws.{moment-is}
 use Rattle.places.specs.Placed.{at, no, Stands}
 use Rattle.pieces.specs.Content.{Piece, pieceEnd, pieceOf, afterMoment, parsePiece, parsePieces, printPieces}
 use Rattle.pieces.specs.View.{PieceAt, EndAt, HasPieces, piecesAt}
-use Rattle.pieces.proofs.PieceLaws.{parse-rest, piece-got}
+use Rattle.pieces.proofs.PieceLaws.{piece-got}
+use Rattle.pieces.proofs.CodeLaws.{code-forward, code-short}
 use Rattle.pieces.proofs.PutLaws.{InTwo}
 
 -- the piece whose moment is m, and whose other bytes stand from the place a to e, in its preferred form
@@ -104,35 +100,11 @@ module _ (s : List ℕ) where
     going-moment = moment-is prev (drop place s) m (drop a s) (p .code)
 
     pub going-forward : place ≤ a
-    going-forward =
-        let k : length s - a ≤ length s - place = rw (length-drop, length-drop) at (parse-rest (readMoment prev) (drop place s) m (drop a s) (p .code) .shorter) in
-        let o : a ≤ e = p .first in
-        let w : e ≤ length s = p .last in
-        let h : place ≤ length s = g .within in
-        omega arith
+    going-forward = code-forward prev s place m a (g .within) (omega (arith, p .first, p .last)) (p .code)
 
     -- a code of at most three bytes is preferred
     pub going-short : Bytes s → a - place ≤ 3 → length (writeMoment prev m) ≡ a - place
-    going-short b h = go (readMoment prev (drop place s)) refl (p .code)
-      where
-        size : (k : ℕ) → Preferred prev (drop place s) m k ⊎ Longer prev m k → a - place ≡ k → length (writeMoment prev m) ≡ a - place
-        size k (inl x) i = x .size ∙ sym i
-        size k (inr x) i = absurd (omega (arith, x .long))
-
-        go : (x : Read) → x ≡ readMoment prev (drop place s) → behindCode (drop place s) x ≡ got m (drop a s)
-            → length (writeMoment prev m) ≡ a - place
-        go (Value w k) f c =
-            let i : w ≡ m = cc in
-            let j : drop k (drop place s) ≡ drop a s = cc in
-            let d : length (drop k (drop place s)) ≡ length (drop a s) = ap length j in
-            let t = moment-read prev (drop place s) f in
-            let o : a ≤ e = p .first in
-            let n : e ≤ length s = p .last in
-            let q : length s - place - k ≡ length s - a = rw (length-drop, length-drop, length-drop) at d in
-            let u : k ≤ length s - place = rw length-drop at (t .within) in
-            let v : Value m k ≡ readMoment prev (drop place s) = subst (λ (y : ℕ). Value y k ≡ readMoment prev (drop place s)) i f in
-            size k (renewed prev (drop place s) (drop-bytes place s b) v) (omega (arith, g .within))
-        go (Unread k) f c = bad-got c
+    going-short = code-short prev s place m a (g .within) (omega (arith, p .first, p .last)) (p .code)
 
     -- what is done and the piece that follows, in an output with room for the whole
     pub going-two : (d : List ℕ) → length whole ≤ length d → InTwo (done ++ printed s prev m a e) done (printed s prev m a e) d

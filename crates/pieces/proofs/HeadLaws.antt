@@ -1,6 +1,6 @@
 -- The data of a zone in two parts: what stands before the first transition, and the transitions with what follows them.
 -- Assumes nothing.
-use mathlib.Core.Path.{_≡_, refl, sym, ap, _∙_, subst}
+use mathlib.Core.Path.{_≡_, sym, ap, _∙_, subst}
 use mathlib.Core.List.{List, [], _++_, append-nil}
 use Prim.Native.Nat.{ℕ, suc, _+_, _*_, _-_, _≤_}
 use native.Mathlib.Omega.{arith}
@@ -8,7 +8,7 @@ use lib.ListN.{length, take, drop, length-append, length-drop}
 use mathlib.Core.Bool.{Bool, true, false}
 use lib.Seq.{length-take-le}
 use lib.Dec.{eqb}
-use borrow.Author.Tests.{eq-eqb, ne-eqb, eqb-true, eqb-false}
+use borrow.Author.Tests.{ne-eqb}
 use Rattle.base.specs.Pick.{pick}
 use Rattle.base.specs.Parsed.{got, bad, bind, parse, parseByte}
 use Rattle.base.specs.Moment.{endOfTime}
@@ -23,14 +23,6 @@ use Rattle.pieces.specs.View.{HasContent, HasPieces, piecesAt}
 use Rattle.pieces.proofs.PieceLaws.{count-small}
 use Rattle.pieces.proofs.PutLaws.{InTwo}
 use Rattle.pieces.proofs.SizeLaws.{pieces-between}
-
--- m bytes are all that stand behind the first a of l
-behind-front : (a m l : ℕ) → a ≤ l → eqb m (l - a) ≡ eqb (a + m) l
-behind-front a m l h = go (eqb m (l - a)) refl
-  where
-    go : (t : Bool) → eqb m (l - a) ≡ t → t ≡ eqb (a + m) l
-    go true q = sym (eq-eqb (a + m) l (omega (arith, eqb-true m (l - a) q)))
-    go false q = let z = eqb-false m (l - a) q in sym (ne-eqb (a + m) l (λ y. z (omega arith)))
 
 -- n transitions stand from the place a on
 module _ (d : List ℕ) (h : HasContent d) where
@@ -93,10 +85,6 @@ module _ (d : List ℕ) (h : HasContent d) where
         → InTwo (print (contentOf 1 d)) (take a d) (printPieces endOfTime (piecesAt d n a)) o
     head-two o l = record { all = head-print; room = l }
 
-    -- whether the zone is as long as its preferred form
-    pub head-same : (b : Bool) → b ≡ eqb (length (printPieces endOfTime (piecesAt d n a))) (length d - a) → b ≡ eqb (length (print (contentOf 1 d))) (length d)
-    head-same b e = e ∙ behind-front a _ (length d) (s .within) ∙ ap (λ (m : ℕ). eqb m (length d)) (size-is _ refl)
-
     -- where the longest and the shortest that it can be have sizes of one length, that is its size's
     pub size-sure : Bytes d → (k : ℕ) → k ≡ length (writeCount (length d)) → length (writeCount (length d - 8 * n)) ≡ k
         → k ≡ length (writeCount (length (print (contentOf 1 d))))
@@ -127,21 +115,3 @@ head-few d n a s =
 pub print-other : (i : ℕ) (d : List ℕ) → (i ≡ 1 → ⊥) → print (contentOf i d) ≡ d
 unfolding contentOf print printPieces
 print-other i d h = rw (ne-eqb i 1 h) (append-nil d)
-
--- data as long as their preferred form are preferred, and data that aren't are a zone's
-module _ (i : ℕ) (d : List ℕ) (z : i ≡ 1 → HasContent d) where
-  by-id : {A : Type 0} → (i ≡ 1 → A) → ((i ≡ 1 → ⊥) → A) → A
-  by-id {A} f g = go (eqb i 1) refl
-    where
-      go : (t : Bool) → eqb i 1 ≡ t → A
-      go true e = f (eqb-true i 1 e)
-      go false e = g (eqb-false i 1 e)
-
-  pub print-same : length (print (contentOf i d)) ≡ length d → print (contentOf i d) ≡ d
-  print-same e =
-      by-id
-      (λ o. let h = z o in let c : contentOf i d ≡ h .content = ap (λ (j : ℕ). contentOf j d) o ∙ content-is d h in ap print c ∙ h .exact (ap (λ (x : Content). length (print x)) (sym c) ∙ e))
-      (λ o. print-other i d o)
-
-  pub print-zone : (length (print (contentOf i d)) ≡ length d → ⊥) → i ≡ 1
-  print-zone n = by-id (λ o. o) (λ o. absurd (n (ap length (print-other i d o))))

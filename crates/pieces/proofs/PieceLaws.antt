@@ -12,15 +12,14 @@ use Rattle.base.proofs.Parts.{Bytes}
 use Rattle.base.proofs.ByteLaws.{no-bytes, drop-bytes}
 use Rattle.base.proofs.ParseLaws.{bad-got, bind-good}
 use Rattle.places.specs.Placed.{Placed, at, no, Stands}
-use Rattle.places.specs.Short.{ShortDetails, shortAt}
+use Rattle.places.specs.Short.{ShortDetails}
 use Rattle.places.proofs.PlaceLaws.{code-holds, on, off, here}
-use Rattle.places.proofs.ShortLaws.{short-means}
 use Rattle.counts.specs.Count.{readCount}
 use Rattle.counts.proofs.CountLaws.{counted}
 use Rattle.transitions.specs.Transition.{readMoment}
 use Rattle.offsets.specs.Offset.{readSum}
 use Rattle.pieces.specs.Content.{bytesUpTo, parseWall, pieceEnd, afterMoment, parsePiece, afterFlag, afterCount}
-use Rattle.pieces.specs.View.{PieceAt, EndAt, ShortPiece}
+use Rattle.pieces.specs.View.{PieceAt, EndAt}
 
 -- behind the end transition stands all the rest
 pub end-all : (s : List ℕ) (place n : ℕ) → n ≡ 0 → Stands s (pieceEnd n (drop place s)) (at 0 (length s))
@@ -91,20 +90,6 @@ pub short-end : (s : List ℕ) (n place : ℕ) → (n ≡ 0 → ⊥) → ShortDe
 unfolding pieceEnd parseWall
 short-end s n place h d =
     end-details s place n _ h (on (d .name) parseWall _ _ _ refl (on (d .wall) (λ w q. parse readSum q) _ _ _ refl (d .savings)))
-
-module _ (s : List ℕ) (prev place m : ℕ) where
-  pub short-some : (n : ℕ) → (n ≡ 0 → ⊥) → m ≡ shortAt s place 2 prev → ShortPiece s n prev place m
-  short-some n h x =
-      let five : place + 2 + 3 ≡ place + 5 = omega arith in
-      record {
-        means = λ z.
-            let y = short-means s place 2 prev m x z in
-            let d = short-end s n (place + 2) h (y .details) in
-            rw five at (piece-got s n prev place m (place + 2) _ (place + 2 + 3) (y .moment) (d .means) (d .within));
-      }
-
-  pub short-none : (n : ℕ) → m ≡ 0 → ShortPiece s n prev place m
-  short-none n e = record { means = λ z. absurd (z e) }
 
 -- how many transitions a zone has, by its flag
 module _ (s : List ℕ) (place flag : ℕ) where

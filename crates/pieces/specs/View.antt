@@ -20,10 +20,6 @@ pub record EndAt (s : List ℕ) (n place e : ℕ) : Type 0 where
   pub within : e ≤ length s
   pub means : (v : ℕ) (q : List ℕ) → pieceEnd n (drop place s) ≡ got v q → q ≡ drop e s
 
--- m, where it is not 0, is the moment of the piece in five bytes at a place of s, with n more behind it
-pub record ShortPiece (s : List ℕ) (n prev place m : ℕ) : Type 0 where
-  pub means : (m ≡ 0 → ⊥) → PieceAt s n prev place m (place + 2) (place + 5)
-
 -- d are the data of a zone; their preferred form is no longer, and where it is as long it is d
 pub record HasContent (d : List ℕ) : Type 0 where
   pub content : Content

@@ -3,10 +3,12 @@ use base::Read;
 ghost use mathlib.Core.Path.{_≡_};
 ghost use Prim.Native.Nat.{_*_, _-_, _≤_};
 ghost use lib.ListN.{length, drop};
+ghost use Rattle.base.specs.Pick.{both};
 ghost use Rattle.transitions.specs.Transition.{writeMoment};
 ghost use Rattle.places.specs.Placed.{Stands, ofRead};
 ghost use Rattle.pieces.specs.Content.{pieceEnd, afterFlag, parseHead};
-ghost use Rattle.pieces.specs.View.{EndAt, ShortPiece};
+ghost use Rattle.pieces.specs.Form.{codePreferred};
+ghost use Rattle.pieces.specs.View.{EndAt};
 
 // The place behind an interval's name, wall offset and savings.
 fn behind_details(s: &[u8], at: usize) -> Read
@@ -41,17 +43,6 @@ pub fn piece_end(s: &[u8], at: usize, n: u64) -> usize
     }
 }
 
-// The moment of a piece in five bytes, the usual one, with n more pieces behind it; 0 where other codes stand there.
-pub fn short_piece(s: &[u8], at: usize, prev: u64, n: u64) -> u64
-    requires { ⌜ at ≤ length (now s) ⌝ }
-    ensures { λ r. ⌜ ShortPiece (now (s .entry)) n prev at r ⌝ }
-{
-    if 0 < n {
-        return short_places::short_at(s, at, 2, prev);
-    }
-    0
-}
-
 // The length of a transition's preferred form, where its code took k bytes: one of at most three is preferred.
 pub fn code_size(prev: u64, m: u64, k: usize) -> usize
     requires { ⌜ (k ≤ 3 → length (writeMoment prev m) ≡ k) ⌝ }
@@ -61,6 +52,25 @@ pub fn code_size(prev: u64, m: u64, k: usize) -> usize
         return k;
     }
     transitions::moment_size(prev, m)
+}
+
+// Whether the transition at a place, after prev, is in the writer's form, where all before it are.
+pub fn code_preferred(s: &[u8], at: usize, prev: u64, before: bool) -> bool
+    requires { ⌜ at ≤ length (now s) ⌝ }
+    ensures { λ r. ⌜ r ≡ both before (codePreferred prev (drop at (now (s .entry)))) ⌝ }
+{
+    if before {
+        match places::moment_at(s, at, prev) {
+            Read::Refused(_) => {
+                return false;
+            }
+            Read::Value(m, a) => {
+                let k = a - at;
+                return code_size(prev, m, k) == k;
+            }
+        }
+    }
+    false
 }
 
 // How many transitions a zone with a flag has, and the place of the first.

@@ -1,20 +1,51 @@
 // A field in its preferred form: how long it is, and the writing of it.
+use base::Read;
 use base::Wrote;
 ghost use mathlib.Core.Path.{_≡_};
 ghost use mathlib.Core.List.{_∷_, _++_};
-ghost use Prim.Native.Nat.{_≤_};
+ghost use Prim.Native.Nat.{_+_, _≤_};
 ghost use lib.ListN.{length};
 ghost use Rattle.counts.specs.Count.{writeCount};
 ghost use Rattle.pieces.specs.View.{HasContent, Put};
 ghost use Rattle.preferred_fields.specs.Field.{printField, fieldWith};
+ghost use Rattle.preferred_fields.specs.View.{Told, Copied};
+
+// Whether a field is copied: where it is no zone, and where its flag, which stands at the number of its ID, is 0.
+fn is_copied(i: u8, d: &[u8], flags: &[u8]) -> bool
+    requires { ⌜ (i ≡ 1 → Told (now flags) (now d)) ⌝ }
+    ensures { λ r. ⌜ Copied i (now (d .entry)) r ⌝ }
+{
+    if i != 1 {
+        return true;
+    }
+    match places::count_at(d, 0) {
+        Read::Refused(_) => false,
+        Read::Value(id, _) => {
+            if flags.len() <= id as usize {
+                return false;
+            }
+            flags[id as usize] == 0
+        }
+    }
+}
+
+// The length of a field, by that of its data.
+fn whole_size(n: usize) -> usize
+    requires { ⌜ 1 + length (writeCount n) + n ≤ 4194304 ⌝ }
+    ensures { λ r. ⌜ r ≡ 1 + length (writeCount n) + n ⌝ }
+{
+    1 + counts::count_size(n as u64) + n
+}
 
 // The length of a field in its preferred form.
-pub fn field_size(i: u8, d: &[u8]) -> usize
-    requires { ⌜ (i ≡ 1 → HasContent (now d)) × (length (printField (fieldWith i (now d))) ≤ 4194304) ⌝ }
+pub fn field_size(i: u8, d: &[u8], flags: &[u8]) -> usize
+    requires { ⌜ (i ≡ 1 → Told (now flags) (now d)) × (length (printField (fieldWith i (now d))) ≤ 4194304) ⌝ }
     ensures { λ r. ⌜ r ≡ length (printField (fieldWith i (now (d .entry)))) ⌝ }
 {
-    let n = contents::size(i, d);
-    1 + counts::count_size(n as u64) + n
+    if is_copied(i, d, flags) {
+        return whole_size(d.len());
+    }
+    whole_size(contents::zone_size(d))
 }
 
 // Writes a field's ID and size.
@@ -50,11 +81,11 @@ fn write_zone(d: &[u8], out: &mut [u8]) -> usize
 }
 
 // Writes a field in its preferred form.
-pub fn write_field(i: u8, d: &[u8], out: &mut [u8]) -> usize
-    requires { ⌜ (i ≡ 1 → HasContent (now d)) × (length (printField (fieldWith i (now d))) ≤ 4194304) × (length (printField (fieldWith i (now d))) ≤ length (now out)) ⌝ }
+pub fn write_field(i: u8, d: &[u8], flags: &[u8], out: &mut [u8]) -> usize
+    requires { ⌜ (i ≡ 1 → Told (now flags) (now d)) × (length (printField (fieldWith i (now d))) ≤ 4194304) × (length (printField (fieldWith i (now d))) ≤ length (now out)) ⌝ }
     ensures { λ r. ⌜ Put (printField (fieldWith i (now (d .entry)))) (now (out .entry)) r (now (out .exit)) ⌝ }
 {
-    if contents::is_preferred(i, d) {
+    if is_copied(i, d, flags) {
         return copy_field(i, d, out);
     }
     write_zone(d, out)

@@ -6,6 +6,7 @@ use Prim.Native.Nat.{ℕ, _+_, _-_, _≤_, _<_}
 use native.Mathlib.Omega.{arith}
 use lib.ListN.{length, length-append}
 use lib.Dec.{leb}
+use borrow.Author.Tests.{lt-leb}
 use Rattle.base.proofs.Parts.{Bytes}
 use Rattle.frames.specs.Frame.{Field}
 use Rattle.frames.specs.Fields.{FieldOf, fields}
@@ -17,14 +18,18 @@ use Rattle.field_checks.specs.Check.{start, job, WellFormed, filePool, checkOf}
 use Rattle.field_checks.specs.declared.Verdict.{Verdict}
 use Rattle.field_checks.specs.declared.Verdict.the-variants.{Good, Refused as Ill}
 use Rattle.pieces.specs.Content.{contentOf}
-use Rattle.pieces.specs.View.{HasContent, Put}
+use Rattle.pieces.specs.View.{Put}
 use Rattle.pieces.proofs.PutLaws.{InTwo}
 use Rattle.rewrite.specs.Preferred.{contents, content, printFields, printFile, preferred, rewriteOf, outputOf}
 use Rattle.preferred_fields.specs.Field.{printField, fieldWith}
+use Rattle.preferred_fields.specs.View.{Told}
+use Rattle.rewrite.specs.declared.Rewritten.{Rewritten}
 use Rattle.rewrite.specs.declared.Rewritten.the-variants.{Length, Refused as Unwritten}
 use Rattle.frames.specs.Covers.{Covers}
 use Rattle.frames.proofs.CoverLaws.{listing-covers}
 use Rattle.field_checks.specs.File.{AsZone}
+use Rattle.check_steps.specs.Flags.{ZoneFlagged, AllFlagged, FlagsChecked}
+use Rattle.field_checks.proofs.WellFormedLaws.{good-well-formed}
 use Rattle.field_checks.proofs.ZoneIdLaws.{zones-read}
 use Rattle.rewrite.specs.View.{Readable, Rewritable, IsField, partOf}
 use Rattle.rewrite.specs.declared.Extent.{Extent}
@@ -33,60 +38,71 @@ use Rattle.rewrite.proofs.KeptLaws.{field-bytes}
 use Rattle.rewrite.proofs.Rewriting.{never-longer, preferred-limit}
 
 -- every zone of a well-formed file has a content that can be printed
-zones-readable : (f : List ℕ) (gs : List Field) → Bytes f → All (AsZone (filePool (fields f))) gs → All (FieldOf f) gs → All Readable gs
-zones-readable f [] b r o = all-none
-zones-readable f (g ∷ gs) b r o = all-also first (zones-readable f gs b (all-tail r) (all-tail o))
+zones-readable : (f flags : List ℕ) (gs : List Field) → Bytes f → All (AsZone (filePool (fields f))) gs → All (FieldOf f) gs → All (ZoneFlagged flags) gs
+    → All (Readable flags) gs
+zones-readable f flags [] b r o h = all-none
+zones-readable f flags (g ∷ gs) b r o h = all-also first (zones-readable f flags gs b (all-tail r) (all-tail o) (all-tail h))
   where
-    first : Readable g
+    first : Readable flags g
     first i =
         let z = all-head r i in
         let k = zone-kept (length (filePool (fields f))) (g .body) (z .zone) [] (field-bytes f g b (all-head o)) (z .parsed) in
-        record { content = contentOf 1 (g .body); is = k .read; shorter = k .shorter; exact = k .exact }
+        record { content = record { content = contentOf 1 (g .body); is = k .read; shorter = k .shorter; exact = k .exact }; flagged = all-head h i }
+
+-- the fields of a well-formed file cover it
+pub file-covers : (f : List ℕ) → WellFormed f → Covers f 4 (fields f)
+file-covers f w = listing-covers f (walk-ended job start (w .memory) f (length f) (w .ends) .whole) (w .some-field)
 
 -- A WELL-FORMED FILE IS READY to be rewritten
-pub file-ready : (f : List ℕ) → WellFormed f → Bytes f → Rewritable f
-file-ready f w b =
+pub file-ready : (f flags : List ℕ) → WellFormed f → Bytes f → AllFlagged f flags → Rewritable f flags
+file-ready f flags w b h =
     record {
-      covers = listing-covers f (walk-ended job start (w .memory) f (length f) (w .ends) .whole) (w .some-field);
-      readable = zones-readable f (fields f) b (zones-read f w) (chain-fields f false 0 4 (fields f) (listing-chain f 255));
+      covers = file-covers f w;
+      readable = zones-readable f flags (fields f) b (zones-read f w) (chain-fields f false 0 4 (fields f) (listing-chain f 255)) h;
       shorter = never-longer f w b;
       limit = preferred-limit f w b;
     }
 
+-- and so is a file that the check found good, with the flags that it left
+pub checked-ready : (f flags : List ℕ) (v : Verdict) → v ≡ checkOf f → FlagsChecked f flags v → v ≡ Good → Bytes f → Rewritable f flags
+checked-ready f flags v e h g b = file-ready f flags (good-well-formed f (sym e ∙ g)) b (h .means g)
+
 -- the walk over f stands at a place: the fields before it make `done` of the preferred ones
-pub record Walking (f : List ℕ) (at : ℕ) (done : List ℕ) : Type 0 where
+pub record Walking (f flags : List ℕ) (at : ℕ) (done : List ℕ) : Type 0 where
   pub rest : List Field
   pub covers : Covers f at rest
-  pub readable : All Readable rest
+  pub readable : All (Readable flags) rest
   pub all : printFields (content f) ≡ done ++ printFields (contents rest)
 
-pub walking-start : (f : List ℕ) → Rewritable f → Walking f 4 []
-walking-start f r = record { rest = fields f; covers = r .covers; readable = r .readable; all = refl }
+pub walking-start : (f flags : List ℕ) → Rewritable f flags → Walking f flags 4 []
+walking-start f flags r = record { rest = fields f; covers = r .covers; readable = r .readable; all = refl }
 
-pub walking-done : (f : List ℕ) (at : ℕ) (done : List ℕ) → Walking f at done → length f ≤ at → printFields (content f) ≡ done
+pub walking-done : (f flags : List ℕ) (at : ℕ) (done : List ℕ) → Walking f flags at done → length f ≤ at → printFields (content f) ≡ done
 unfolding contents printFields
-walking-done f at done w l = go (w .rest) (w .covers) (w .all)
+walking-done f flags at done w l = go (w .rest) (w .covers) (w .all)
   where
     go : (gs : List Field) → Covers f at gs → printFields (content f) ≡ done ++ printFields (contents gs) → printFields (content f) ≡ done
     go [] c e = e ∙ append-nil done
     go (g ∷ gs) c e = absurd (omega (arith, c .0, c .1 .starts, c .1 .ends, c .1 .within))
 
-pub walking-sum : (f : List ℕ) (at : ℕ) (done : List ℕ) → Walking f at done → length done ≤ length (printFields (content f))
-walking-sum f at done w = rw (w .all, length-append) (omega arith)
+pub walking-sum : (f flags : List ℕ) (at : ℕ) (done : List ℕ) → Walking f flags at done → length done ≤ length (printFields (content f))
+walking-sum f flags at done w = rw (w .all, length-append) (omega arith)
 
 -- the field r that was read at the place, and the walk behind it
-pub record Turn (f : List ℕ) (at : ℕ) (done : List ℕ) (r : Extent) : Type 0 where
+pub record Turn (f flags : List ℕ) (at : ℕ) (done : List ℕ) (r : Extent) : Type 0 where
   pub ordered : r .start ≤ r .end
   pub farther : at < r .end
   pub within : r .end ≤ length f
-  pub readable : r .id ≡ 1 → HasContent (partOf f r)
-  pub next : Walking f (r .end) (done ++ printField (fieldWith (r .id) (partOf f r)))
+  pub readable : r .id ≡ 1 → Told flags (partOf f r)
+  pub next : Walking f flags (r .end) (done ++ printField (fieldWith (r .id) (partOf f r)))
 
-pub walking-turn : (f : List ℕ) (at : ℕ) (done : List ℕ) (r : Extent) → Walking f at done → at < length f → IsField f at r → Turn f at done r
+pub walking-turn : (f flags : List ℕ) (at : ℕ) (done : List ℕ) (r : Extent) → Walking f flags at done → at < length f → IsField f at r
+    → Turn f flags at done r
 unfolding contents printFields
-walking-turn f at done r w l i = go (w .rest) (w .covers) (w .readable) (w .all)
+walking-turn f flags at done r w l i = go (w .rest) (w .covers) (w .readable) (w .all)
   where
-    go : (gs : List Field) → Covers f at gs → All Readable gs → printFields (content f) ≡ done ++ printFields (contents gs) → Turn f at done r
+    go : (gs : List Field) → Covers f at gs → All (Readable flags) gs → printFields (content f) ≡ done ++ printFields (contents gs)
+        → Turn f flags at done r
     go [] c a e = absurd (omega arith)
     go (g ∷ gs) c a e =
         let o : FieldOf f g = c .1 in
@@ -97,7 +113,7 @@ walking-turn f at done r w l i = go (w .rest) (w .covers) (w .readable) (w .all)
           ordered = omega (arith, m .1, m .2, o .ends);
           farther = omega (arith, m .2, o .ends, o .starts, c .0);
           within = omega (arith, m .2, o .within);
-          readable = λ z. subst⁻¹ HasContent p (all-head a (sym (m .0) ∙ z));
+          readable = λ z. subst⁻¹ (Told flags) p (all-head a (sym (m .0) ∙ z));
           next = record {
             rest = gs;
             covers = subst⁻¹ (λ (q : ℕ). Covers f q gs) (m .2) (c .2);
@@ -111,15 +127,15 @@ walking-turn f at done r w l i = go (w .rest) (w .covers) (w .readable) (w .all)
         }
 
 -- what is done and the field that follows, in an output with room for the file
-pub turn-two : {f : List ℕ} {at : ℕ} {done : List ℕ} {r : Extent} → Turn f at done r → (d : List ℕ) → length (printFields (content f)) ≤ length d
+pub turn-two : {f flags : List ℕ} {at : ℕ} {done : List ℕ} {r : Extent} → Turn f flags at done r → (d : List ℕ) → length (printFields (content f)) ≤ length d
     → InTwo (done ++ printField (fieldWith (r .id) (partOf f r))) done (printField (fieldWith (r .id) (partOf f r))) d
-turn-two {f} {at} {done} {r} t d h =
-    let n = walking-sum f (r .end) _ (t .next) in
+turn-two {f} {flags} {at} {done} {r} t d h =
+    let n = walking-sum f flags (r .end) _ (t .next) in
     record { all = refl; room = omega arith }
 
-pub turn-sum : {f : List ℕ} {at : ℕ} {done : List ℕ} {r : Extent} → Turn f at done r
+pub turn-sum : {f flags : List ℕ} {at : ℕ} {done : List ℕ} {r : Extent} → Turn f flags at done r
     → length done + length (printField (fieldWith (r .id) (partOf f r))) ≤ length (printFields (content f))
-turn-sum {f} {at} {done} {r} t = let n = walking-sum f (r .end) _ (t .next) in rw length-append at n
+turn-sum {f} {flags} {at} {done} {r} t = let n = walking-sum f flags (r .end) _ (t .next) in rw length-append at n
 
 -- the version, then the fields
 pub file-length : (f : List ℕ) → length (preferred f) ≡ 4 + length (printFields (content f))
@@ -144,3 +160,18 @@ module _ (f d : List ℕ) (v : Verdict) (e : v ≡ checkOf f) where
     pub rewrite-put : (n : ℕ) (o : List ℕ) → b ≡ true → Put (preferred f) d n o → (Length n ≡ rewriteOf f d) × (o ≡ outputOf f d)
     unfolding rewriteOf outputOf
     rewrite-put n o h p = (rw (sym e ∙ g, sym r ∙ h) (ap Length (p .size)), rw (sym e ∙ g, sym r ∙ h) (p .left))
+
+-- an output without room for the version
+pub rewrite-little : (f d : List ℕ) → length d < 4 → checkOf f ≡ Good → (Unwritten 15 0 ≡ rewriteOf f d) × (d ≡ outputOf f d)
+rewrite-little f d l g = rewrite-short f d (checkOf f) refl g (leb (length (preferred f)) (length d)) refl (lt-leb (length (preferred f)) (length d) (omega (arith, file-length f)))
+
+pub only-checked : (f d : List ℕ) → length d < 4 → (r : Rewritten) → r ≡ rewriteOf f [] → (r ≡ rewriteOf f d) × (d ≡ outputOf f d)
+only-checked f d l r e = go (checkOf f) refl
+  where
+    go : (v : Verdict) → checkOf f ≡ v → (r ≡ rewriteOf f d) × (d ≡ outputOf f d)
+    go (Ill n p) h =
+        let x = rewrite-refused f d (checkOf f) refl n p h in
+        (e ∙ sym (rewrite-refused f [] (checkOf f) refl n p h .0) ∙ x .0, x .1)
+    go Good h =
+        let x = rewrite-little f d l h in
+        (e ∙ sym (rewrite-little f [] (omega arith) h .0) ∙ x .0, x .1)

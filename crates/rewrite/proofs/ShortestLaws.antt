@@ -25,7 +25,7 @@ use Rattle.frames.specs.Covers.{Covers}
 use Rattle.rewrite.proofs.KeptLaws.{preferredData, FieldKept}
 use Rattle.rewrite.proofs.MovedLaws.{headFor, printed-size, printed-within}
 use Rattle.rewrite.proofs.PassMovedLaws.{fields-kept}
-use Rattle.rewrite.proofs.ReadyLaws.{file-ready}
+use Rattle.rewrite.proofs.ReadyLaws.{file-covers}
 use Rattle.rewrite.proofs.Rewriting.{same-preferred, version-there}
 
 -- the bytes of a field: its ID, its size's code, its data
@@ -75,7 +75,7 @@ unfolding printFile
 is-preferred f w b l =
     let s : 4 ≤ length f = version-there f (fields f) (listing-chain f 255) (w .some-field) in
     sym (take-append-drop 4 f) ∙ ap (λ (xs : List ℕ). xs ++ drop 4 f) (starts-zero f (w .some-field))
-    ∙ ap (λ (xs : List ℕ). 0 ∷ 0 ∷ 0 ∷ 0 ∷ xs) (same-bytes f b false 0 4 (fields f) (listing-chain f 255) (file-ready f w b .covers) (fields-kept f w b) s (omega arith) (omega arith))
+    ∙ ap (λ (xs : List ℕ). 0 ∷ 0 ∷ 0 ∷ 0 ∷ xs) (same-bytes f b false 0 4 (fields f) (listing-chain f 255) (file-covers f w) (fields-kept f w b) s (omega arith) (omega arith))
 
 -- THE ONE SHORTEST: of all well-formed files of the content of f, the preferred file alone has its length or less
 pub only-shortest : (f h : List ℕ) → WellFormed h → Bytes h → content h ≡ content f → length h ≤ length (preferred f) → h ≡ preferred f

@@ -7,18 +7,18 @@ use Rattle.frames.specs.Frame.{Field}
 use Rattle.frames.specs.Fields.{FieldOf, fields}
 use Rattle.frames.specs.Covers.{Covers}
 use Rattle.base.specs.All.{All}
-use Rattle.pieces.specs.View.{HasContent}
+use Rattle.preferred_fields.specs.View.{Told}
 use Rattle.rewrite.specs.Preferred.{preferred}
 use Rattle.rewrite.specs.declared.Extent.{Extent}
 
--- the data of every zone have a content
-abbrev pub Readable : Field → Type 0
-Readable g = g .id ≡ 1 → HasContent (g .body)
+-- the data of every zone have a content, and its flag says whether they are in their preferred form
+abbrev pub Readable : List ℕ → Field → Type 0
+Readable flags g = g .id ≡ 1 → Told flags (g .body)
 
--- what the check of f has shown
-pub record Rewritable (f : List ℕ) : Type 0 where
+-- what the check of f has shown, and the flags that it left
+pub record Rewritable (f flags : List ℕ) : Type 0 where
   pub covers : Covers f 4 (fields f)
-  pub readable : All Readable (fields f)
+  pub readable : All (Readable flags) (fields f)
   pub shorter : length (preferred f) ≤ length f
   pub limit : length (preferred f) ≤ 4194304
 

@@ -1,5 +1,5 @@
-// The preferred form of a whole file. The file is checked, then its fields are written one behind the other, each by a callee that is
-// lent the output from the present place on.
+// The preferred form of a whole file. The file is checked, which also tells of each zone whether it is in its preferred form; then the fields are
+// written one behind the other, each by a callee that is lent the output from the present place on. A zone that is preferred is not read again.
 use base::Read;
 use field_checks::Verdict;
 ghost use mathlib.Core.Path.{_≡_};
@@ -11,7 +11,7 @@ ghost use Rattle.pieces.specs.View.{Put};
 ghost use Rattle.rewrite.specs.Preferred.{content, printFields, preferred, rewriteOf, outputOf};
 ghost use Rattle.rewrite.specs.View.{Rewritable, IsField};
 
-// What a rewrite gives.
+// What normalizing gives.
 pub enum Rewritten {
     // The length of the preferred file.
     Length(usize),
@@ -50,8 +50,8 @@ fn read_field(s: &[u8], at: usize) -> Extent
 }
 
 // The length of the preferred file.
-fn total(s: &[u8]) -> usize
-    requires { ⌜ Rewritable (now s) ⌝ }
+fn total(s: &[u8], flags: &[u8]) -> usize
+    requires { ⌜ Rewritable (now s) (now flags) ⌝ }
     ensures { λ r. ⌜ r ≡ length (preferred (now (s .entry))) ⌝ }
 {
     let mut n = 0;
@@ -60,21 +60,21 @@ fn total(s: &[u8]) -> usize
         let f = read_field(s, at);
         let a = f.start;
         let e = f.end;
-        n += preferred_fields::field_size(f.id, &s[a..e]);
+        n += preferred_fields::field_size(f.id, &s[a..e], flags);
         at = e;
     }
     4 + n
 }
 
 // Whether an output has room for the preferred file, which is never longer than its source.
-fn has_room(s: &[u8], room: usize) -> bool
-    requires { ⌜ Rewritable (now s) ⌝ }
+fn has_room(s: &[u8], flags: &[u8], room: usize) -> bool
+    requires { ⌜ Rewritable (now s) (now flags) ⌝ }
     ensures { λ r. ⌜ r ≡ leb (length (preferred (now (s .entry)))) room ⌝ }
 {
     if s.len() <= room {
         return true;
     }
-    total(s) <= room
+    total(s, flags) <= room
 }
 
 // Writes the version.
@@ -90,8 +90,8 @@ fn write_version(out: &mut [u8]) -> usize
 }
 
 // Writes the fields of the preferred file.
-fn write_fields(s: &[u8], out: &mut [u8]) -> usize
-    requires { ⌜ Rewritable (now s) × (length (printFields (content (now s))) ≤ length (now out)) ⌝ }
+fn write_fields(s: &[u8], flags: &[u8], out: &mut [u8]) -> usize
+    requires { ⌜ Rewritable (now s) (now flags) × (length (printFields (content (now s))) ≤ length (now out)) ⌝ }
     ensures { λ r. ⌜ Put (printFields (content (now (s .entry)))) (now (out .entry)) r (now (out .exit)) ⌝ }
 {
     let mut w = 0;
@@ -100,30 +100,44 @@ fn write_fields(s: &[u8], out: &mut [u8]) -> usize
         let f = read_field(s, at);
         let a = f.start;
         let e = f.end;
-        w += preferred_fields::write_field(f.id, &s[a..e], &mut out[w..]);
+        w += preferred_fields::write_field(f.id, &s[a..e], flags, &mut out[w..]);
         at = e;
     }
     w
 }
 
 // Writes the preferred file.
-fn write_file(s: &[u8], out: &mut [u8]) -> usize
-    requires { ⌜ Rewritable (now s) × (length (preferred (now s)) ≤ length (now out)) ⌝ }
+fn write_file(s: &[u8], flags: &[u8], out: &mut [u8]) -> usize
+    requires { ⌜ Rewritable (now s) (now flags) × (length (preferred (now s)) ≤ length (now out)) ⌝ }
     ensures { λ r. ⌜ Put (preferred (now (s .entry))) (now (out .entry)) r (now (out .exit)) ⌝ }
 {
     let w = write_version(out);
-    w + write_fields(s, &mut out[w..])
+    w + write_fields(s, flags, &mut out[w..])
 }
 
-// Writes the preferred form of a whole file to the front of the output, all checked first.
-pub fn rewrite(s: &[u8], out: &mut [u8]) -> Rewritten
-    ensures { λ r. ⌜ (r ≡ rewriteOf (now (s .entry)) (now (out .entry))) × (now (out .exit) ≡ outputOf (now (s .entry)) (now (out .entry))) ⌝ }
+// Checks a whole file for an output without room for any file: 15 where it is well formed.
+fn check_only(s: &[u8]) -> Rewritten
+    ensures { λ r. ⌜ r ≡ rewriteOf (now (s .entry)) [] ⌝ }
 {
     match checks::check(s) {
         Verdict::Refused(n, p) => Rewritten::Refused(n, p),
+        Verdict::Good => Rewritten::Refused(15, 0),
+    }
+}
+
+// Checks a whole file, then writes its preferred form to the front of the output. Where there is no room for the version, no flags are asked for.
+pub fn normalize(s: &[u8], out: &mut [u8]) -> Rewritten
+    ensures { λ r. ⌜ (r ≡ rewriteOf (now (s .entry)) (now (out .entry))) × (now (out .exit) ≡ outputOf (now (s .entry)) (now (out .entry))) ⌝ }
+{
+    if out.len() < 4 {
+        return check_only(s);
+    }
+    let mut flags = [0u8; 8192];
+    match checks::check_flags(s, &mut flags) {
+        Verdict::Refused(n, p) => Rewritten::Refused(n, p),
         Verdict::Good => {
-            if has_room(s, out.len()) {
-                return Rewritten::Length(write_file(s, out));
+            if has_room(s, &flags, out.len()) {
+                return Rewritten::Length(write_file(s, &flags, out));
             }
             Rewritten::Refused(15, 0)
         }

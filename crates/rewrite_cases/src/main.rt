@@ -1,4 +1,4 @@
-// Rewrites the whole files that the lines of its input spell. A line is `ROOM FILE` or `ROOM FRONT UNIT TIMES END`, where the file is
+// Normalizes the whole files that the lines of its input spell. A line is `ROOM FILE` or `ROOM FRONT UNIT TIMES END`, where the file is
 // the front, the unit so many times, and the end. All is in hexadecimal, `-` for no bytes; the room and the times have three bytes.
 // The output has so many bytes as the room says, all AA before. For each line it writes `0` and the preferred file's length, or the
 // number and the place of a refusal; then the whole output as it is found after. An output of more than 512 bytes is written as its first
@@ -42,7 +42,7 @@ fn show_output(out: &[u8]) {
 }
 
 fn run_file(s: &[u8], out: &mut [u8]) {
-    show_result(rewrite::rewrite(s, out));
+    show_result(rewrite::normalize(s, out));
     cases::say(b" ");
     show_output(out);
     cases::say(b"\n");

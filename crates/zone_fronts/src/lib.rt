@@ -2,14 +2,18 @@
 use base::Read;
 use zones::ZoneFront;
 ghost use Prim.Native.Nat.{_≤_};
+ghost use mathlib.Core.List.{[]};
 ghost use lib.ListN.{length, drop};
+ghost use Rattle.base.specs.Parsed.{got, bind, parse};
+ghost use Rattle.counts.specs.Count.{readCount};
+ghost use Rattle.pieces.specs.Content.{parseHead, afterCount as headCount};
 ghost use Rattle.zones.specs.Parse.{parseFixed, parseListed, parseZone};
 ghost use Rattle.zones.specs.View.{FrontOf};
 
 // A fixed zone whose data end behind its offset has its ID for its name.
 fn read_fixed(s: &[u8], at: usize, pool: u64, id: u64) -> ZoneFront
     requires { ⌜ at ≤ length (now s) ⌝ }
-    ensures { λ r. ⌜ FrontOf pool (now (s .entry)) (parseFixed pool id (drop at (now (s .entry)))) r ⌝ }
+    ensures { λ r. ⌜ FrontOf pool (now (s .entry)) (parseFixed pool id (drop at (now (s .entry)))) (got 0 []) r ⌝ }
 {
     match places::sum_at(s, at) {
         Read::Refused(k) => ZoneFront::Refused(k),
@@ -33,7 +37,7 @@ fn read_fixed(s: &[u8], at: usize, pool: u64, id: u64) -> ZoneFront
 // The interval count.
 fn read_interval_count(s: &[u8], at: usize, pool: u64, id: u64) -> ZoneFront
     requires { ⌜ at ≤ length (now s) ⌝ }
-    ensures { λ r. ⌜ FrontOf pool (now (s .entry)) (parseListed pool id (drop at (now (s .entry)))) r ⌝ }
+    ensures { λ r. ⌜ FrontOf pool (now (s .entry)) (parseListed pool id (drop at (now (s .entry)))) (bind (parse readCount (drop at (now (s .entry)))) headCount) r ⌝ }
 {
     match places::count_at(s, at) {
         Read::Refused(k) => ZoneFront::Refused(k),
@@ -51,7 +55,7 @@ fn read_interval_count(s: &[u8], at: usize, pool: u64, id: u64) -> ZoneFront
 
 // A zone up to its intervals; pool is the pool's count. Every reader of a zone starts here.
 pub fn read_front(s: &[u8], pool: u64) -> ZoneFront
-    ensures { λ r. ⌜ FrontOf pool (now (s .entry)) (parseZone pool (now (s .entry))) r ⌝ }
+    ensures { λ r. ⌜ FrontOf pool (now (s .entry)) (parseZone pool (now (s .entry))) (parseHead (now (s .entry))) r ⌝ }
 {
     match places::name_at(s, 0, pool) {
         Read::Refused(k) => ZoneFront::Refused(k),

@@ -2,21 +2,24 @@
 use mathlib.Core.Path.{_≡_, refl, sym, ap, subst}
 use mathlib.Core.Bool.{Bool, true, false}
 use mathlib.Core.List.{List, []}
-use Prim.Native.Nat.{ℕ, _≤_, _<_}
+use Prim.Native.Nat.{ℕ, suc, _≤_, _<_}
 use native.Mathlib.Omega.{arith}
 use lib.ListN.{length, drop, drop-of-length-le}
 use lib.Seq.{drop-cons}
 use lib.Dec.{ltb}
 use borrow.Author.Tests.{lt-ltb, le-ltb, eq-eqb, ne-eqb}
 use Rattle.base.specs.Pick.{pick, both}
-use Rattle.base.specs.Parsed.{Parsed, got, bad, bind, parse, ended, behind}
+use Rattle.base.specs.Parsed.{Parsed, got, bad, bind, parse, parseByte, ended, behind}
 use Rattle.base.specs.Moment.{endOfTime}
+use Rattle.counts.specs.Count.{readCount}
 use Rattle.transitions.specs.Transition.{readMoment}
 use Rattle.places.specs.Name.{parseName}
 use Rattle.places.specs.Placed.{at}
 use Rattle.places.proofs.PlaceLaws.{ended-here, ended-over}
+use Rattle.pieces.specs.Content.{parseHead, afterId as headId, afterFlag as headFlag, afterCount as headCount}
 use Rattle.intervals.specs.declared.Interval.{Interval}
 use Rattle.intervals.specs.Interval.{startOf}
+use Rattle.intervals.proofs.FormLaws.{name-count}
 use Rattle.tails.specs.declared.NamedTail.{NamedTail}
 use Rattle.zones.specs.Content.{untailed, tailed, FixedName, absent, present, Body, fixed, listed, Zone}
 use Rattle.zones.specs.Parse.{zoneOf, afterTailByte, parseTailed, afterEnd, afterIntervals, parseIntervals, afterCount, fixedOf, afterFixedOffset, parseFixed, parseListed, afterFlag}
@@ -50,40 +53,57 @@ unfolding afterFixedOffset
 name-present pool id offset s e h n = rw (drop-cons s e 0 (omega (arith, n)))
 
 -- the front
-module _ (pool : ℕ) (s : List ℕ) (p : Parsed Zone) where
-  pub front-bad : (k : ℕ) → p ≡ bad k → FrontOf pool s p (FrontRefused k)
+module _ (pool : ℕ) (s : List ℕ) (p : Parsed Zone) (h : Parsed ℕ) where
+  pub front-bad : (k : ℕ) → p ≡ bad k → FrontOf pool s p h (FrontRefused k)
   front-bad k e = record { means = e }
 
-  pub front-absent : (id offset : ℕ) → p ≡ got (record { id = id; body = fixed offset absent }) [] → FrontOf pool s p (AllFixed id offset id)
+  pub front-absent : (id offset : ℕ) → h ≡ got 0 [] → p ≡ got (record { id = id; body = fixed offset absent }) [] → FrontOf pool s p h (AllFixed id offset id)
   unfolding fixedNameOf
-  front-absent id offset e = record { means = (absent, e, refl) }
+  front-absent id offset f e = record { means = ((absent, e, refl), f) }
 
-  pub front-present : (id offset n : ℕ) → p ≡ got (record { id = id; body = fixed offset (present n) }) [] → FrontOf pool s p (AllFixed id offset n)
+  pub front-present : (id offset n : ℕ) → h ≡ got 0 [] → p ≡ got (record { id = id; body = fixed offset (present n) }) []
+      → FrontOf pool s p h (AllFixed id offset n)
   unfolding fixedNameOf
-  front-present id offset n e = record { means = (present n, e, refl) }
+  front-present id offset n f e = record { means = ((present n, e, refl), f) }
 
-  pub front-listed : (id n a : ℕ) → p ≡ parseIntervals pool id n (drop a s) → a ≤ length s → (n ≡ 0 → ⊥) → n ≤ 4096
-      → FrontOf pool s p (Several id n a)
-  front-listed id n a e w z h = record { means = (e, w, omega (arith, z), h) }
+  pub front-listed : (id n a : ℕ) → h ≡ got (suc n) (drop a s) → p ≡ parseIntervals pool id n (drop a s) → a ≤ length s → (n ≡ 0 → ⊥) → n ≤ 4096
+      → FrontOf pool s p h (Several id n a)
+  front-listed id n a f e w z k = record { means = ((e, w, omega (arith, z), k), f) }
 
-  pub front-on : (q : Parsed Zone) (r : ZoneFront) → p ≡ q → FrontOf pool s q r → FrontOf pool s p r
-  front-on q r e h = subst (λ (x : Parsed Zone). FrontOf pool s x r) (sym e) h
+  pub front-on : (q : Parsed Zone) (g : Parsed ℕ) (r : ZoneFront) → p ≡ q → h ≡ g → FrontOf pool s q g r → FrontOf pool s p h r
+  front-on q g r e f k = subst (λ (x : Parsed Zone). FrontOf pool s x h r) (sym e) (subst (λ (x : Parsed ℕ). FrontOf pool s q x r) (sym f) k)
 
   -- by what was given
-  module _ (r : ZoneFront) (h : FrontOf pool s p r) where
-    front-is : (x : ZoneFront) → r ≡ x → FrontTo pool s p x
-    front-is x e = subst (FrontOf pool s p) e h .means
+  module _ (r : ZoneFront) (k : FrontOf pool s p h r) where
+    front-is : (x : ZoneFront) → r ≡ x → FrontTo pool s p h x
+    front-is x e = subst (FrontOf pool s p h) e k .means
 
-    pub refused-front : (k : ℕ) → r ≡ FrontRefused k → p ≡ bad k
-    refused-front k e = front-is (FrontRefused k) e
+    pub refused-front : (n : ℕ) → r ≡ FrontRefused n → p ≡ bad n
+    refused-front n e = front-is (FrontRefused n) e
 
     pub fixed-front : (id offset n : ℕ) → r ≡ AllFixed id offset n
         → (m : FixedName) × (p ≡ got (record { id = id; body = fixed offset m }) []) × (n ≡ fixedNameOf id m)
-    fixed-front id offset n e = front-is (AllFixed id offset n) e
+    fixed-front id offset n e = front-is (AllFixed id offset n) e .0
+
+    pub fixed-head : (id offset n : ℕ) → r ≡ AllFixed id offset n → h ≡ got 0 []
+    fixed-head id offset n e = front-is (AllFixed id offset n) e .1
 
     pub listed-front : (id n a : ℕ) → r ≡ Several id n a
         → (p ≡ parseIntervals pool id n (drop a s)) × (a ≤ length s) × (0 < n) × (n ≤ 4096)
-    listed-front id n a e = front-is (Several id n a) e
+    listed-front id n a e = front-is (Several id n a) e .0
+
+    pub listed-head : (id n a : ℕ) → r ≡ Several id n a → h ≡ got (suc n) (drop a s)
+    listed-head id n a e = front-is (Several id n a) e .1
+
+-- how many transitions a zone has, behind its ID and its flag
+module _ (pool : ℕ) (s : List ℕ) (id a flag e : ℕ) (n : parseName pool s ≡ got id (drop a s)) (b : parseByte (drop a s) ≡ got flag (drop e s)) where
+  pub head-fixed : flag ≡ 1 → parseHead s ≡ got 0 []
+  unfolding parseHead headId headFlag
+  head-fixed f = rw (name-count pool s id (drop a s) n, b, ne-eqb flag 2 (omega arith))
+
+  pub head-listed : flag ≡ 2 → parseHead s ≡ bind (parse readCount (drop e s)) headCount
+  unfolding parseHead headId headFlag
+  head-listed f = rw (name-count pool s id (drop a s) n, b, eq-eqb flag 2 f)
 
 -- what stands behind the intervals
 module _ (f : ℕ → List Interval → Parsed Zone) (last : ℕ) where

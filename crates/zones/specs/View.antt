@@ -1,6 +1,6 @@
 -- What the readers of a zone give: its front and its end, which readers of every kind share. The code's way: what a whole zone gives is said by
 -- Parse.antt and Lookup.antt.
-use Prim.Native.Nat.{ℕ, _≤_, _<_}
+use Prim.Native.Nat.{ℕ, suc, _≤_, _<_}
 use mathlib.Core.Path.{_≡_}
 use mathlib.Core.List.{List, []}
 use lib.ListN.{length, drop}
@@ -16,14 +16,17 @@ use Rattle.zones.specs.declared.ZoneFront.the-variants.{Fixed as AllFixe
 use Rattle.zones.specs.declared.ZoneEnd.{ZoneEnd}
 use Rattle.zones.specs.declared.ZoneEnd.the-variants.{Untailed, Tailed as WithTail, Refused as EndRefused}
 
--- r is what p is up to its intervals, where p reads some bytes s to their end; no more than 4,096 intervals are read
-abbrev pub FrontTo : ℕ → List ℕ → Parsed Zone → ZoneFront → Type 0
-FrontTo pool s p (AllFixed id offset n) = (m : FixedName) × (p ≡ got (record { id = id; body = fixed offset m }) []) × (n ≡ fixedNameOf id m)
-FrontTo pool s p (Several id n at) = (p ≡ parseIntervals pool id n (drop at s)) × (at ≤ length s) × (0 < n) × (n ≤ 4096)
-FrontTo pool s p (FrontRefused k) = p ≡ bad k
+-- r is what p is up to its intervals, where p reads some bytes s to their end; no more than 4,096 intervals are read. h reads how many transitions
+-- there are, and stops at the first
+abbrev pub FrontTo : ℕ → List ℕ → Parsed Zone → Parsed ℕ → ZoneFront → Type 0
+FrontTo pool s p h (AllFixed id offset n) =
+    ((m : FixedName) × (p ≡ got (record { id = id; body = fixed offset m }) []) × (n ≡ fixedNameOf id m)) × (h ≡ got 0 [])
+FrontTo pool s p h (Several id n at) =
+    ((p ≡ parseIntervals pool id n (drop at s)) × (at ≤ length s) × (0 < n) × (n ≤ 4096)) × (h ≡ got (suc n) (drop at s))
+FrontTo pool s p h (FrontRefused k) = p ≡ bad k
 
-pub record FrontOf (pool : ℕ) (s : List ℕ) (p : Parsed Zone) (r : ZoneFront) : Type 0 where
-  pub means : FrontTo pool s p r
+pub record FrontOf (pool : ℕ) (s : List ℕ) (p : Parsed Zone) (h : Parsed ℕ) (r : ZoneFront) : Type 0 where
+  pub means : FrontTo pool s p h r
 
 -- r is what stands behind intervals of which the last starts at the moment `last`, where f reads it behind any such intervals
 abbrev pub EndTo : ℕ → List Interval → Parsed Zone → ZoneEnd → Type 0

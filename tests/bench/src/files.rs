@@ -29,7 +29,7 @@ fn preferred(content: &FileContent) -> Vec<u8> {
     plan(content, &mut Forms::Preferred).bytes()
 }
 
-/// The file of a content with every instant in the ticks form, the longest one, so that a rewriter has much to change.
+/// The file of a content with every instant in the ticks form, the longest one, so that normalizing has much to change.
 pub fn in_ticks(content: &FileContent) -> Vec<u8> {
     let mut file = plan(content, &mut Forms::Preferred);
     for code in file.fields.iter_mut().flat_map(|field| &mut field.codes) {
@@ -74,7 +74,7 @@ pub struct Grown {
 pub struct Growing {
     pub name: &'static str,
     pub make: fn(usize) -> Grown,
-    /// Whether the file is well formed, so that check and rewrite are measured too.
+    /// Whether the file is well formed, so that more is measured.
     pub well_formed: bool,
 }
 

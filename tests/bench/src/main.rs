@@ -19,6 +19,9 @@ const LISTED: i64 = -631_152_000 * 10_000_000;
 /// 2100-07-01T00:00Z, and as a local time.
 const IN_TAIL: i64 = 4_118_083_200 * 10_000_000;
 
+/// Normalizing with an output of length 0.
+const CHECK: &str = "normalize without room";
+
 /// How many bytes a piece of a file has: one, a radio frame's, a packet's.
 const PIECES: [usize; 3] = [1, 64, 1460];
 
@@ -63,18 +66,18 @@ fn realistic() -> Result<(), String> {
         let content = content(&file).map_err(|refusal| format!("{path}: {refusal}"))?;
         let long = in_ticks(&content);
         let wide = padded(&file).map_err(|refusal| format!("{path}: {refusal}"))?;
-        let mut rows = vec![(&file, "check".to_string(), Work::Check)];
+        let mut rows = vec![(&file, CHECK.to_string(), Work::Normalize { room: false })];
         rows.extend(questions(&content).into_iter().map(|(what, work)| (&file, what, work)));
         for field in [6, 7] {
             rows.push((&file, format!("location 0 of field {field}"), Work::Location { field, number: 0 }));
             rows.push((&file, format!("all countries of field {field}"), Work::Countries { field }));
         }
-        rows.push((&file, "rewrite, preferred already".to_string(), Work::Rewrite));
-        rows.push((&long, "rewrite, every instant in ticks".to_string(), Work::Rewrite));
-        rows.push((&wide, "check, every size in five bytes".to_string(), Work::Check));
+        rows.push((&file, "normalize, preferred already".to_string(), Work::Normalize { room: true }));
+        rows.push((&long, "normalize, every instant in ticks".to_string(), Work::Normalize { room: true }));
+        rows.push((&wide, format!("{CHECK}, every size in five bytes"), Work::Normalize { room: false }));
         let absent = Work::Ask { id: b"No/Such_Zone".to_vec(), ticks: LISTED };
         rows.push((&wide, "question, absent zone, every size in five bytes".to_string(), absent));
-        rows.push((&wide, "rewrite, every size in five bytes".to_string(), Work::Rewrite));
+        rows.push((&wide, "normalize, every size in five bytes".to_string(), Work::Normalize { room: true }));
         for (file, what, work) in rows {
             agree(file, name, &what, &work)?;
             let times = measure(&mut work.pieces(file));
@@ -192,12 +195,12 @@ fn growing() -> Result<(), String> {
                 let location = |grown: &Grown| Work::Location { field: 7, number: grown.located.unwrap_or(0) };
                 rows.push(("location, last of field 7", sizes.each_ref().map(location)));
             }
-            rows.push(("check", [(); 4].map(|()| Work::Check)));
-            rows.push(("rewrite", [(); 4].map(|()| Work::Rewrite)));
+            rows.push((CHECK, [(); 4].map(|()| Work::Normalize { room: false })));
+            rows.push(("normalize", [(); 4].map(|()| Work::Normalize { room: true })));
         }
         rows.push(("pieces of 64 bytes", [(); 4].map(|()| Work::Receive { size: 64 })));
         if !kind.well_formed {
-            rows.push(("check", [(); 4].map(|()| Work::Check)));
+            rows.push(("normalize", [(); 4].map(|()| Work::Normalize { room: true })));
         }
         for (what, works) in rows {
             let mut pieces = Vec::new();

@@ -1,5 +1,5 @@
-//! What is measured: a check, a question by ID or by name, a local time, a location, all countries of a field, a rewrite or a file in pieces, by the
-//! library and by the peer.
+//! What is measured: normalizing, with room and without, a question by ID or by name, a local time, a location, all countries of a field, or a file
+//! in pieces, by the library and by the peer.
 
 use crate::measure::Piece;
 use nzd::{Bound, LocationField, Mark};
@@ -7,7 +7,10 @@ use std::hint::black_box;
 
 /// One kind of work on a file.
 pub enum Work {
-    Check,
+    /// With an output as long as the file, or of length 0, which is the check alone.
+    Normalize {
+        room: bool,
+    },
     Ask {
         id: Vec<u8>,
         ticks: i64,
@@ -29,7 +32,6 @@ pub enum Work {
     Countries {
         field: u8,
     },
-    Rewrite,
     /// The whole file, in pieces of so many bytes.
     Receive {
         size: usize,
@@ -71,7 +73,6 @@ impl Work {
     /// Whether both give the same on a file.
     pub fn agrees(&self, file: &[u8]) -> bool {
         match self {
-            Work::Check => nzd::check(file).map_err(pair) == peer::check(file).map_err(peer_pair),
             Work::Ask { id, ticks } => {
                 said(nzd::ask(file, id, *ticks, Mark::ThisIsAll)) == peer_said(peer::ask(file, id, *ticks, false))
             }
@@ -92,10 +93,10 @@ impl Work {
             }
             Work::Location { field, number } => ours_at(file, *field, *number) == theirs_at(file, *field, *number),
             Work::Countries { field } => countries(file, *field) == peer_countries(file, *field),
-            Work::Rewrite => {
-                let (mut ours, mut theirs) = (vec![0; file.len()], vec![0; file.len()]);
-                let given = nzd::rewrite(file, &mut ours).map_err(pair);
-                given == peer::rewrite(file, &mut theirs).map_err(peer_pair) && ours == theirs
+            Work::Normalize { room } => {
+                let (mut ours, mut theirs) = (output(file, *room), output(file, *room));
+                let given = nzd::normalize(file, &mut ours).map_err(pair);
+                given == peer::normalize(file, &mut theirs).map_err(peer_pair) && ours == theirs
             }
             Work::Receive { size } => {
                 let (mut ours, mut theirs) = (vec![0; file.len()], vec![0; file.len()]);
@@ -107,7 +108,6 @@ impl Work {
     /// The work done by the library, and by the peer.
     pub fn pieces<'a>(&'a self, file: &'a [u8]) -> [Piece<'a>; 2] {
         match self {
-            Work::Check => [piece(move || nzd::check(black_box(file))), piece(move || peer::check(black_box(file)))],
             Work::Ask { id, ticks } => [
                 piece(move || nzd::ask(black_box(file), black_box(id), *ticks, Mark::ThisIsAll)),
                 piece(move || peer::ask(black_box(file), black_box(id), *ticks, false)),
@@ -128,11 +128,11 @@ impl Work {
                 piece(move || countries(black_box(file), *field)),
                 piece(move || peer_countries(black_box(file), *field)),
             ],
-            Work::Rewrite => {
-                let (mut ours, mut theirs) = (vec![0; file.len()], vec![0; file.len()]);
+            Work::Normalize { room } => {
+                let (mut ours, mut theirs) = (output(file, *room), output(file, *room));
                 [
-                    piece(move || nzd::rewrite(black_box(file), black_box(&mut ours))),
-                    piece(move || peer::rewrite(black_box(file), black_box(&mut theirs))),
+                    piece(move || nzd::normalize(black_box(file), black_box(&mut ours))),
+                    piece(move || peer::normalize(black_box(file), black_box(&mut theirs))),
                 ]
             }
             Work::Receive { size } => {
@@ -144,6 +144,11 @@ impl Work {
             }
         }
     }
+}
+
+/// An output as long as the file, or none.
+fn output(file: &[u8], room: bool) -> Vec<u8> {
+    vec![0; if room { file.len() } else { 0 }]
 }
 
 /// The place at the end of a file in pieces that the buffer has room for.

@@ -139,12 +139,11 @@ impl<'a> Receivers<'a> {
         self.whole(tally, held)
     }
 
-    /// Check, version text and rewriting of what is held.
+    /// Version text, locations, and normalizing of what is held, without room too.
     fn whole(&self, tally: &mut Tally, held: &[u8]) -> Result<(), Difference> {
         let (r, lent, buffer, theirs) = (self.ours, self.lent(), &self.buffer, &self.theirs);
         let what = |job: &str| format!("a receiver of{}: {job}", self.calls);
         let said = theirs.ask(buffer, |held| second_reader::file::read_file(held).map(|_| ())).map_err(pair);
-        tally.same(&what("check"), held, lent::nothing(held, ffi::receiver_check(r, lent))?, said)?;
         tally.same(&what("check"), held, self.wrapped.check().map_err(error_pair), said)?;
         let said = theirs.ask(buffer, second_reader::version_text).map_err(pair);
         let numbers = said.clone().map(|part| [part.start as i64, part.len() as i64]);
@@ -160,17 +159,17 @@ impl<'a> Receivers<'a> {
             |field, pin, out| ffi::receiver_location(r, lent, field, 0, pin, out),
             &self.wrapped,
         )?;
-        for room in [held.len(), held.len() / 2] {
-            let rewritten = |held: &[u8]| -> Result<Vec<u8>, Refusal> {
+        for room in [held.len(), held.len() / 2, 0] {
+            let normalized = |held: &[u8]| -> Result<Vec<u8>, Refusal> {
                 let mut out = vec![0; room];
-                second_reader::rewrite(held, &mut out).map(|length| out[..length].to_vec())
+                second_reader::normalize(held, &mut out).map(|length| out[..length].to_vec())
             };
-            let said = theirs.ask(buffer, rewritten).map_err(pair);
-            let ours = lent::written(room, held, |out| ffi::receiver_rewrite(r, lent, out))?;
-            tally.same(&what("rewrite"), held, ours, said.clone())?;
+            let said = theirs.ask(buffer, normalized).map_err(pair);
+            let ours = lent::written(room, held, |out| ffi::receiver_normalize(r, lent, out))?;
+            tally.same(&what("normalize"), held, ours, said.clone())?;
             let mut out = vec![0; room];
-            let wrapped = self.wrapped.rewrite(&mut out).map_err(error_pair).map(|length| out[..length].to_vec());
-            tally.same(&what("rewrite"), held, wrapped, said)?;
+            let wrapped = self.wrapped.normalize(&mut out).map_err(error_pair).map(|length| out[..length].to_vec());
+            tally.same(&what("normalize"), held, wrapped, said)?;
         }
         Ok(())
     }

@@ -1,8 +1,8 @@
 //! A quick reader of `.nzd` files in safe Rust: the peer that the proved reader's speed is measured against.
 //!
 //! It makes the same checks in the same order, over slices and in one pass, and has every shortcut that the proved
-//! reader has. It allocates the index of the pool's strings, for a whole-file check the table of zone IDs, and for a rewrite
-//! the list of the zones that change.
+//! reader has. It allocates the index of the pool's strings, for a whole-file check the table of zone IDs, and for
+//! normalizing the list of the fields that change.
 //!
 //! Instants are ticks; start of time is the lowest `i64` and end of time the highest.
 
@@ -12,9 +12,9 @@ mod fields;
 mod ids;
 mod local;
 mod locations;
+mod normalize;
 mod pool;
 mod receiver;
-mod rewrite;
 mod tail;
 mod whole;
 mod zone;
@@ -22,9 +22,9 @@ mod zone;
 pub use aliases::ask_named;
 pub use local::LocalInstants;
 pub use locations::{location, Countries, Location};
+pub use normalize::normalize;
 pub use receiver::{unfinished, Receiver};
-pub use rewrite::rewrite;
-pub use whole::{check, version_text};
+pub use whole::version_text;
 
 use fields::Fields;
 use pool::Pool;

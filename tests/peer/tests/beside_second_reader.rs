@@ -1,4 +1,4 @@
-//! The peer beside the second reader: equal numbers, places, answers and rewritten files.
+//! The peer beside the second reader: equal numbers, places, answers and preferred files.
 
 use second_reader::generate::{
     damaged, instants, local_times, names, plan, random_content, Damage, FileContent, Forms, Prng, Size,
@@ -102,23 +102,17 @@ fn locals(content: &FileContent, prng: &mut Prng, most: usize) -> Vec<(Vec<u8>, 
 }
 
 fn same_whole(file: &[u8], seen: &mut Seen) {
-    let expected = match second_reader::check(file) {
-        (0, _) => Ok(()),
-        (number, place) => Err((number, place as usize)),
-    };
     let shown = &file[..file.len().min(2000)];
-    assert_eq!(peer::check(file).map_err(peer_pair), expected, "check of {shown:02x?}");
-    seen.whole.insert(expected.map_or_else(|refusal| refusal.0, |_| 0));
     let text = second_reader::version_text(file).map(|part| &file[part]).map_err(pair);
     assert_eq!(peer::version_text(file).map_err(peer_pair), text, "version text of {shown:02x?}");
     seen.whole.insert(text.map_or_else(|refusal| refusal.0, |_| 0));
     let preferred = second_reader::rewrite::preferred(file).map(|file| file.len());
     let length = preferred.unwrap_or(file.len());
-    for room in [length, length.saturating_sub(1), 0, file.len() + 3] {
+    for room in [length, length.saturating_sub(1), 0, 4, file.len() + 3] {
         let (mut wanted, mut out) = (vec![0xaa; room], vec![0xaa; room]);
-        let expected = second_reader::rewrite(file, &mut wanted).map_err(pair);
-        assert_eq!(peer::rewrite(file, &mut out).map_err(peer_pair), expected, "rewrite of {shown:02x?}");
-        assert!(out == wanted, "rewrite of {shown:02x?} with room for {room}");
+        let expected = second_reader::normalize(file, &mut wanted).map_err(pair);
+        assert_eq!(peer::normalize(file, &mut out).map_err(peer_pair), expected, "normalized {shown:02x?}");
+        assert!(out == wanted, "normalized {shown:02x?} with room for {room}");
         seen.whole.insert(expected.map_or_else(|refusal| refusal.0, |_| 0));
     }
 }

@@ -3,7 +3,7 @@
 use crate::cases;
 use crate::Done;
 use second_reader::generate;
-use second_reader::{ask, ask_named, file, lines, location, map_local, rewrite, version_text};
+use second_reader::{ask, ask_named, file, lines, location, map_local, normalize, rewrite, version_text};
 use second_reader::{Answer, LocationField, Mark, Pin, Refusal};
 use std::ffi::{OsStr, OsString};
 use std::fs;
@@ -57,6 +57,11 @@ pub(crate) fn run(arguments: &[OsString]) -> Result<Done, Misuse> {
             Ok(done(version_text(&bytes).map(|part| bytes[part].to_vec())))
         }
         (Some("rewrite"), [file, out]) => rewrite_file(file, out),
+        (Some("normalize"), [file, out, room]) => {
+            let bytes = read(file)?;
+            let mut output = vec![0; number::<u32>(room)? as usize];
+            write_file(normalize(&bytes, &mut output), &output, out)
+        }
         (Some("lines"), [file]) => answer_lines(file),
         (Some("generate"), [seed, count, dir]) => generate_files(number(seed)?, number(count)?, Path::new(dir)),
         (Some("receive"), words) => cases::receive(words),
@@ -129,7 +134,11 @@ fn rewrite_file(file: &OsStr, out: &OsStr) -> Result<Done, Misuse> {
     let bytes = read(file)?;
     // "It is never longer than its source."
     let mut output = vec![0; bytes.len()];
-    let length = rewrite(&bytes, &mut output);
+    write_file(rewrite(&bytes, &mut output), &output, out)
+}
+
+/// Writes what was put into the output to a file, and gives its length.
+fn write_file(length: Result<usize, Refusal>, output: &[u8], out: &OsStr) -> Result<Done, Misuse> {
     if let Ok(length) = length {
         write(Path::new(out), &output[..length])?;
     }

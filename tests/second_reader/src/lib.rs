@@ -32,5 +32,5 @@ pub use locations::{location, LocationField, Pin};
 pub use named::ask_named;
 pub use number::{Number, Refusal};
 pub use receiver::Receiver;
-pub use rewrite::rewrite;
+pub use rewrite::{normalize, rewrite};
 pub use transition::Transition;

@@ -17,6 +17,7 @@ usage: second_reader COMMAND ...
   location FILE 6|7 NUMBER             `0 LATITUDE LONGITUDE ZONE COMMENT COUNTRIES [NAME CODE]...`, texts as HEX@PLACE
   version FILE                         `0 TEXT`, or number and place
   rewrite FILE OUT                     write the preferred file to OUT: `0 LENGTH`, or number and place
+  normalize FILE OUT ROOM              check and rewrite in one, into ROOM bytes: `0 LENGTH`, or number and place
   lines FILE                           question lines on standard input, the program's output
   receive LENGTH PIECE...              for each piece (hex, `-` or reset) `0 HELD PLACE`, or number and place
   generate SEED COUNT DIR              write files with question lines and expected output into DIR

@@ -31,3 +31,10 @@ pub fn rewrite(bytes: &[u8], out: &mut [u8]) -> Result<usize, Refusal> {
     out.get_mut(..file.len()).ok_or(Number::OutputShort.at(0))?.copy_from_slice(&file);
     Ok(file.len())
 }
+
+/// 02, Ask 10: "one operation that gives the check's refusal, or rewrites; on any bytes and room its result and output are
+/// those of the two in turn. An output of length 0 gets 15 once the file is good: that is the bare check."
+pub fn normalize(bytes: &[u8], out: &mut [u8]) -> Result<usize, Refusal> {
+    read_file(bytes)?;
+    rewrite(bytes, out)
+}

@@ -1,30 +1,43 @@
 use Prim.Native.Nat.{_-_}
+use mathlib.Core.Path.{_≡_, refl, _∙_}
 use lib.ListN.{length}
 use borrow.Author.Needs.{needs}
-use Rattle.field_checks.proofs.StepLaws.{Walking, walking-start, walking-done, walking-next, walking-less}
+use Rattle.check_steps.specs.Flags.{SoFar}
+use Rattle.check_steps.proofs.StepLaws.{Walking, walking-start, walking-done, walking-next, walking-less}
+use Rattle.check_steps.proofs.FlagLaws.{so-far, flags-behind, flags-next}
 use Rattle.checks.proofs.walk.Statement.{statement}
 use Rattle.checks.proofs.walk.Tie as tie
 
 abbrev Inv-loop : tie.InvT-loop
-Inv-loop s index₀ order₀ c₀ index order c = Walking s c index order
+Inv-loop s flags₀ index₀ order₀ c₀ flags index order c = Walking s c index order × SoFar s c flags × (length flags ≡ length flags₀)
 
 abbrev μ-loop : tie.MeasureT-loop
-μ-loop s index₀ order₀ c₀ index order c = length s - c .at
+μ-loop s flags₀ index₀ order₀ c₀ flags index order c = length s - c .at
 
 loop-holds : tie.Need-loop-holds Inv-loop μ-loop
-loop-holds c = walking-start _
+loop-holds c = (walking-start _, so-far _ _ _, refl)
 
 step-requires : tie.Need-step-requires Inv-loop μ-loop
-step-requires c κs = (c .before .before .loop .inv .holds .inside, c .before .before .loop .inv .holds .indexed, c .before .before .loop .inv .holds .stands .ids .sorted)
+step-requires c κs = (c .before .before .before .loop .inv .0 .holds .inside, c .before .before .before .loop .inv .0 .holds .indexed, c .before .before .before .loop .inv .0 .holds .stands .ids .sorted)
+
+same-length : tie.Need-same-length Inv-loop μ-loop
+same-length c = c .before .before .before .before .flags .given ∙ c .before .before .before .before .before .before .before .before .before .loop .inv .2
 
 returns : tie.Need-returns Inv-loop μ-loop
-returns c = walking-done _ _ _ _ _ _ _ (c .before .before .before .before .before .before .loop .inv) (c .before .before .before .step .ensures) _ (c .before .t .given .1)
+returns c = (
+  walking-done _ _ _ _ _ _ _ (c .before .before .before .before .before .before .before .before .before .loop .inv .0) (c .before .before .before .before .before .step .ensures .0) _ (c .before .t .given .1),
+  flags-behind _ _ _ _ _ (c .before .before .before .before .before .before .before .before .before .loop .inv .1) (c .before .before .before .before .before .step .ensures .1) _ (c .before .t .given .1),
+)
 
 loop-less : tie.Need-loop-less Inv-loop μ-loop
-loop-less c = walking-less _ _ _ _ _ _ _ (c .before .before .before .before .before .before .loop .inv) (c .before .before .before .step .ensures) _ (c .before .t2 .given .1)
+loop-less c = walking-less _ _ _ _ _ _ _ (c .before .before .before .before .before .before .before .before .before .loop .inv .0) (c .before .before .before .before .before .step .ensures .0) _ (c .before .t2 .given .1)
 
 loop-again : tie.Need-loop-again Inv-loop μ-loop
-loop-again c = walking-next _ _ _ _ _ _ _ (c .before .before .before .before .before .before .loop .inv) (c .before .before .before .step .ensures) _ (c .before .t2 .given .1)
+loop-again c = (
+  walking-next _ _ _ _ _ _ _ (c .before .before .before .before .before .before .before .before .before .loop .inv .0) (c .before .before .before .before .before .step .ensures .0) _ (c .before .t2 .given .1),
+  flags-next _ _ _ _ _ (c .before .before .before .before .before .before .before .before .before .loop .inv .1) (c .before .before .before .before .before .step .ensures .1) _ (c .before .t2 .given .1),
+  c .before .before .before .before .flags .given ∙ c .before .before .before .before .before .before .before .before .before .loop .inv .2,
+)
 
 pub walk-spec : {M : Type 1} → statement M
 walk-spec =
@@ -35,6 +48,7 @@ walk-spec =
     loop-holds
     step-requires
     (λ c. search needs)
+    same-length
     returns
     (λ c. search needs)
     loop-less

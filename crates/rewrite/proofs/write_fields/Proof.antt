@@ -12,20 +12,20 @@ use Rattle.rewrite.proofs.write_fields.Statement.{statement}
 use Rattle.rewrite.proofs.write_fields.Tie as tie
 
 abbrev Inv-loop : tie.InvT-loop
-Inv-loop s out₀ w₀ at₀ out w at = (done : List ℕ) × Walking s at done × Put done out₀ w out
+Inv-loop s flags out₀ w₀ at₀ out w at = (done : List ℕ) × Walking s flags at done × Put done out₀ w out
 
 abbrev μ-loop : tie.MeasureT-loop
-μ-loop s out₀ w₀ at₀ out w at = length s - at
+μ-loop s flags out₀ w₀ at₀ out w at = length s - at
 
 -- the field that was read
-turn : (c : tie.After-read-field Inv-loop μ-loop) → Turn (now (c .before .before .before .before .before .args .s)) (c .before .before .loop .at) (c .before .before .loop .inv .0) (c .read-field .result)
-turn c = walking-turn _ _ _ _ (c .before .before .loop .inv .1) (omega arith) (c .read-field .ensures)
+turn : (c : tie.After-read-field Inv-loop μ-loop) → Turn (now (c .before .before .before .before .before .before .args .s)) (now (c .before .before .before .before .before .before .args .flags)) (c .before .before .loop .at) (c .before .before .loop .inv .0) (c .read-field .result)
+turn c = walking-turn _ _ _ _ _ (c .before .before .loop .inv .1) (omega arith) (c .read-field .ensures)
 
-two : (c : tie.After-read-field Inv-loop μ-loop) → InTwo (c .before .before .loop .inv .0 ++ printField (fieldWith (c .read-field .result .id) (partOf (now (c .before .before .before .before .before .args .s)) (c .read-field .result)))) (c .before .before .loop .inv .0) (printField (fieldWith (c .read-field .result .id) (partOf (now (c .before .before .before .before .before .args .s)) (c .read-field .result)))) (now (c .before .before .before .before .before .args .out))
-two c = turn-two (turn c) _ (c .before .before .before .before .before .pre .1)
+two : (c : tie.After-read-field Inv-loop μ-loop) → InTwo (c .before .before .loop .inv .0 ++ printField (fieldWith (c .read-field .result .id) (partOf (now (c .before .before .before .before .before .before .args .s)) (c .read-field .result)))) (c .before .before .loop .inv .0) (printField (fieldWith (c .read-field .result .id) (partOf (now (c .before .before .before .before .before .before .args .s)) (c .read-field .result)))) (now (c .before .before .before .before .before .before .args .out))
+two c = turn-two (turn c) _ (c .before .before .before .before .before .before .pre .1)
 
 loop-holds : tie.Need-loop-holds Inv-loop μ-loop
-loop-holds c = ([], walking-start _ (c .before .before .pre .0), put-none _)
+loop-holds c = ([], walking-start _ _ (c .before .before .before .pre .0), put-none _)
 
 read-field-requires : tie.Need-read-field-requires Inv-loop μ-loop
 read-field-requires c κs = omega arith
@@ -49,10 +49,10 @@ part-write-field-end-2 : tie.Need-part-write-field-end-2 Inv-loop μ-loop
 part-write-field-end-2 c = omega arith
 
 write-field-requires : tie.Need-write-field-requires Inv-loop μ-loop
-write-field-requires c κs = (turn (c .before .before) .readable, omega (arith, turn-sum (turn (c .before .before)), file-length (now (c .before .before .before .before .before .before .before .args .s)), c .before .before .before .before .before .before .before .pre .0 .limit), rest-room (two (c .before .before)) (c .before .before .before .before .loop .inv .2))
+write-field-requires c κs = (turn (c .before .before) .readable, omega (arith, turn-sum (turn (c .before .before)), file-length (now (c .before .before .before .before .before .before .before .before .args .s)), c .before .before .before .before .before .before .before .before .pre .0 .limit), rest-room (two (c .before .before)) (c .before .before .before .before .loop .inv .2))
 
 add-w : tie.Need-add-w Inv-loop μ-loop
-add-w c = omega (arith, both-sum (two (c .before .before .before .before .before)) (c .before .before .before .before .before .before .before .loop .inv .2) (c .before .before .write-field .ensures), c .before .before .before .before .before .before .before .before .before .before .good)
+add-w c = omega (arith, both-sum (two (c .before .before .before .before .before)) (c .before .before .before .before .before .before .before .loop .inv .2) (c .before .before .write-field .ensures), c .before .before .before .before .before .before .before .before .before .before .before .good)
 
 loop-less : tie.Need-loop-less Inv-loop μ-loop
 loop-less c = omega (arith, turn (c .before .before .before .before .before) .farther, turn (c .before .before .before .before .before) .within)
@@ -61,10 +61,10 @@ loop-again : tie.Need-loop-again Inv-loop μ-loop
 loop-again c = (_, turn (c .before .before .before .before .before) .next, both-put (two (c .before .before .before .before .before)) (c .before .before .before .before .before .before .before .loop .inv .2) (c .before .before .write-field .ensures))
 
 same-length : tie.Need-same-length Inv-loop μ-loop
-same-length c = put-length (c .before .loop .inv .2) (omega (arith, walking-sum _ _ _ (c .before .loop .inv .1), c .before .before .before .before .pre .1))
+same-length c = put-length (c .before .loop .inv .2) (omega (arith, walking-sum _ _ _ _ (c .before .loop .inv .1), c .before .before .before .before .before .pre .1))
 
 returns : tie.Need-returns Inv-loop μ-loop
-returns c = put-is _ _ _ _ _ (c .before .loop .inv .2) (walking-done _ _ _ (c .before .loop .inv .1) (omega arith))
+returns c = put-is _ _ _ _ _ (c .before .loop .inv .2) (walking-done _ _ _ _ (c .before .loop .inv .1) (omega arith))
 
 pub write-fields-spec : {M : Type 1} → statement M
 write-fields-spec =

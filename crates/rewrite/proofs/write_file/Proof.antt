@@ -12,22 +12,22 @@ two : (c : tie.Start) → InTwo (preferred (now (c .args .s))) (0 ∷ 0 ∷ 0 �
 two c = file-two _ _ (c .pre .1)
 
 write-version-requires : tie.Need-write-version-requires
-write-version-requires c κs = front-room (two (c .before .before .before))
+write-version-requires c κs = front-room (two (c .before .before .before .before))
 
 sub-write-fields : tie.Need-sub-write-fields
-sub-write-fields c = front-within (two (c .before .before .before .before .before .before)) (c .before .before .write-version .ensures)
+sub-write-fields c = front-within (two (c .before .before .before .before .before .before .before)) (c .before .before .write-version .ensures)
 
 part-write-fields-start : tie.Need-part-write-fields-start
-part-write-fields-start c = front-within (two (c .before .before .before .before .before .before)) (c .before .before .write-version .ensures)
+part-write-fields-start c = front-within (two (c .before .before .before .before .before .before .before)) (c .before .before .write-version .ensures)
 
 write-fields-requires : tie.Need-write-fields-requires
-write-fields-requires c κs = (c .before .before .before .before .before .before .before .pre .0, rest-room (two (c .before .before .before .before .before .before .before)) (c .before .before .before .write-version .ensures))
+write-fields-requires c κs = (c .before .before .before .before .before .before .before .before .pre .0, rest-room (two (c .before .before .before .before .before .before .before .before)) (c .before .before .before .write-version .ensures))
 
 add-result : tie.Need-add-result
-add-result c = omega (arith, both-sum (two (c .before .before .before .before .before .before .before .before .before .before)) (c .before .before .before .before .before .before .write-version .ensures) (c .before .before .write-fields .ensures), c .before .before .before .before .before .before .before .before .before .before .good)
+add-result c = omega (arith, both-sum (two (c .before .before .before .before .before .before .before .before .before .before .before)) (c .before .before .before .before .before .before .write-version .ensures) (c .before .before .write-fields .ensures), c .before .before .before .before .before .before .before .before .before .before .before .good)
 
 returns : tie.Need-returns
-returns c = both-put (two (c .before .before .before .before .before .before .before .before .before .before)) (c .before .before .before .before .before .before .write-version .ensures) (c .before .before .write-fields .ensures)
+returns c = both-put (two (c .before .before .before .before .before .before .before .before .before .before .before)) (c .before .before .before .before .before .before .write-version .ensures) (c .before .before .write-fields .ensures)
 
 pub write-file-spec : {M : Type 1} → statement M
 write-file-spec =

@@ -75,12 +75,16 @@ fn commands_on_files() {
     prints(&["rewrite", EUROPE, &path("out")], "", "0 23990\n", 0);
     assert!(fs::read(dir.join("out")).ok() == fs::read(EUROPE).ok());
     prints(&["lines", EUROPE], "Europe/Oslo 0\nEurope/Oslo\n", "0 3600000 0 3600000 CET\n16 0\n", 0);
+    prints(&["normalize", EUROPE, &path("out"), "23990"], "", "0 23990\n", 0);
+    prints(&["normalize", EUROPE, &path("never"), "23989"], "", "15 0\n", 1);
+    prints(&["normalize", EUROPE, &path("never"), "0"], "", "15 0\n", 1);
     // A missing file counts as no bytes for the program only.
     prints(&["lines", &path("missing")], "UTC 0\nUTC 0 all", "1 0\n2 0\n", 0);
     prints(&["check", &path("missing")], "", "", 2);
     fs::write(dir.join("bad"), [0, 0, 0, 1]).expect("a file");
     prints(&["check", &path("bad")], "", "3 0\n", 1);
     prints(&["rewrite", &path("bad"), &path("never")], "", "3 0\n", 1);
+    prints(&["normalize", &path("bad"), &path("never"), "0"], "", "3 0\n", 1);
     assert!(!dir.join("never").exists());
 }
 
@@ -170,6 +174,8 @@ fn misuse_is_said_in_words() {
         &["local", EUROPE, "Europe/Oslo", "x"],
         &["location", EUROPE, "5", "0"],
         &["location", EUROPE, "6", "-1"],
+        &["normalize", EUROPE, "x"],
+        &["normalize", EUROPE, "x", "-1"],
         &["receive"],
         &["receive", "4", "0"],
         &["receive", "99999999"],

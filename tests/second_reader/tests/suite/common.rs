@@ -2,7 +2,7 @@
 
 use second_reader::generate::{plan, random_content, FileContent, FilePlan, Forms, Prng, Size};
 use second_reader::transition::{FIRST, LAST};
-use second_reader::{ask, ask_named, ask_plain, check, lines, location, map_local, rewrite, version_text};
+use second_reader::{ask, ask_named, ask_plain, check, lines, location, map_local, normalize, version_text};
 use second_reader::{Answer, LocationField, Mark, Pin, Refusal};
 
 /// Bytes from hex digits; spaces are skipped.
@@ -111,7 +111,7 @@ fn called(call: &str, file: &[u8]) -> String {
         ["version"] => shown(version_text(file), |part| format!("{part:?}")),
         ["normalize", room] => {
             let mut out = vec![0xaa; room.parse().expect("a room")];
-            shown(rewrite(file, &mut out), |length| to_hex(&out[..length]))
+            shown(normalize(file, &mut out), |length| to_hex(&out[..length]))
         }
         ["ask", id, ticks, mark] => {
             let (id, ticks) = (named_bytes(id), ticks_of(ticks));

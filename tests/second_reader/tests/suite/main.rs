@@ -10,6 +10,7 @@ mod generator;
 mod intervals;
 mod locations;
 mod nameless;
+mod normalizing;
 mod numbers;
 mod padded_sizes;
 mod plain_question;

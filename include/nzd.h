@@ -124,7 +124,8 @@ struct nzd_answer {
     int64_t wall_ms;     /* what to add to UTC for the time on the wall */
     int64_t savings_ms;  /* how much of that is daylight saving */
     int64_t standard_ms; /* the standard offset: wall_ms minus savings_ms, inside 24 hours either way */
-    int64_t name_place;  /* the name in force, as "CEST", or a fixed zone's ID where it has no name: its place in file, */
+    int64_t name_place;  /* the name in force, as "CEST", or a fixed zone's ID where it has no name, and under edition 1
+                            always: its place in file, */
     int64_t name_length; /* and how many bytes it has */
     int64_t start;       /* ticks, or NZD_START_OF_TIME */
     int64_t end;         /* ticks, or NZD_END_OF_TIME */
@@ -133,14 +134,15 @@ struct nzd_answer {
 /*
  * Asks for the interval of a zone that holds an instant. id is the zone's ID, any bytes. more says that more bytes of
  * the file may come: what is then given, save 1, stays as it is whatever bytes follow. Without more the bytes are all
- * there is.
+ * there is. first_edition says that the name is given as Noda Time 1.x shows it, which ignores a fixed zone's name and
+ * shows its ID; without it, as 2.x does. All else is the same under both, refusals included.
  */
 uint64_t nzd_ask(const uint8_t *file, size_t n, const uint8_t *id, size_t id_n, int64_t ticks, bool more,
-                 struct nzd_answer *out);
+                 bool first_edition, struct nzd_answer *out);
 
 /* The same with more: the plain question expects more. Of a file that is all there, call nzd_ask without more. */
 uint64_t nzd_ask_plain(const uint8_t *file, size_t n, const uint8_t *id, size_t id_n, int64_t ticks,
-                       struct nzd_answer *out);
+                       bool first_edition, struct nzd_answer *out);
 
 /*
  * Asks by name: the zone with the ID name or, where no zone has it, the zone that the alias name leads to in the alias
@@ -151,7 +153,7 @@ uint64_t nzd_ask_plain(const uint8_t *file, size_t n, const uint8_t *id, size_t 
  * the place of 18, 19 and of a 12 found in field 3 is that field's ID byte.
  */
 uint64_t nzd_ask_named(const uint8_t *file, size_t n, const uint8_t *name, size_t name_n, int64_t ticks, bool more,
-                       struct nzd_answer *out);
+                       bool first_edition, struct nzd_answer *out);
 
 /* The instants at which clocks of a zone show a local time. */
 struct nzd_local {
@@ -258,11 +260,12 @@ uint64_t nzd_receiver_add(struct nzd_receiver *r, uint8_t *buffer, size_t buffer
  * nzd_receiver_add filled over this buffer never does.
  */
 uint64_t nzd_receiver_ask(struct nzd_receiver r, const uint8_t *buffer, size_t buffer_n, const uint8_t *id, size_t id_n,
-                          int64_t ticks, bool more, struct nzd_answer *out);
+                          int64_t ticks, bool more, bool first_edition, struct nzd_answer *out);
 uint64_t nzd_receiver_ask_plain(struct nzd_receiver r, const uint8_t *buffer, size_t buffer_n, const uint8_t *id,
-                                size_t id_n, int64_t ticks, struct nzd_answer *out);
+                                size_t id_n, int64_t ticks, bool first_edition, struct nzd_answer *out);
 uint64_t nzd_receiver_ask_named(struct nzd_receiver r, const uint8_t *buffer, size_t buffer_n, const uint8_t *name,
-                                size_t name_n, int64_t ticks, bool more, struct nzd_answer *out);
+                                size_t name_n, int64_t ticks, bool more, bool first_edition,
+                                struct nzd_answer *out);
 uint64_t nzd_receiver_map_local(struct nzd_receiver r, const uint8_t *buffer, size_t buffer_n, const uint8_t *id,
                                 size_t id_n, int64_t local, struct nzd_local *out);
 /* nzd_next_country steps the view, over the buffer's first held bytes. */

@@ -23,7 +23,7 @@ fn run() -> Result<(), Box<dyn Error>> {
         _ => return Err("takes FILE ZONE [SECONDS]".into()),
     };
     let file = std::fs::read(file)?;
-    let answer = nzd::ask(&file, zone, ticks, nzd::Mark::ThisIsAll)?;
+    let answer = nzd::ask(&file, zone, ticks, nzd::Mark::ThisIsAll, nzd::Edition::Two)?;
     println!("{} ms, {}", answer.wall_offset_ms, answer.name_str());
     Ok(())
 }

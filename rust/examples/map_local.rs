@@ -4,7 +4,7 @@
 //! refusal's number and place. Then come the earliest and the latest, each with its offset and name. Exit code: 0 where there
 //! is an instant, 1 where there is none (17) or the question is refused, 2 for anything else.
 
-use nzd::{Error, LocalInstants, Mark, Number};
+use nzd::{Edition, Error, LocalInstants, Mark, Number};
 use std::io::Write;
 use std::process::ExitCode;
 
@@ -58,7 +58,7 @@ fn answer(file: &[u8], zone: &str, local: i64) -> Result<String, Error> {
 
 /// A line with an instant, its offset and its name.
 fn reading(file: &[u8], zone: &str, which: &str, ticks: i64) -> Result<String, Error> {
-    let answer = nzd::ask(file, zone, ticks, Mark::ThisIsAll)?;
+    let answer = nzd::ask(file, zone, ticks, Mark::ThisIsAll, Edition::Two)?;
     let name: String = answer.name.iter().map(|&byte| shown(byte)).collect();
     Ok(format!("  {which}{}, offset {}, \"{name}\"\n", instant(ticks), offset(answer.wall_offset_ms)))
 }

@@ -1,7 +1,7 @@
 //! Reads a zone file in pieces from standard input and answers as soon as the bytes that came allow it:
 //! `cargo run --example receive -- ZONE [SECONDS] < FILE`, where SECONDS is a Unix time; without it the instant is now.
 
-use nzd::{Mark, Number, Receiver};
+use nzd::{Edition, Mark, Number, Receiver};
 use std::error::Error;
 use std::io::Read;
 use std::process::ExitCode;
@@ -36,7 +36,7 @@ fn run() -> Result<(), Box<dyn Error>> {
         let count = input.read(&mut piece)?;
         let mark = if count > 0 { Mark::MoreMayCome } else { Mark::ThisIsAll };
         receiver.add(&piece[..count])?;
-        match receiver.ask(zone, ticks, mark) {
+        match receiver.ask(zone, ticks, mark, Edition::Two) {
             Err(error) if error.number == Number::NotYet => {}
             Err(error) => return Err(format!("{error}, after {} bytes", receiver.held().len()).into()),
             Ok(answer) => {

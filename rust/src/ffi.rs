@@ -30,6 +30,7 @@ mod c {
             id_n: usize,
             ticks: i64,
             more: bool,
+            first_edition: bool,
             out: *mut [i64; 7],
         ) -> u64;
         pub fn nzd_ask_named(
@@ -39,6 +40,7 @@ mod c {
             name_n: usize,
             ticks: i64,
             more: bool,
+            first_edition: bool,
             out: *mut [i64; 7],
         ) -> u64;
         pub fn nzd_ask_plain(
@@ -47,6 +49,7 @@ mod c {
             id: *const u8,
             id_n: usize,
             ticks: i64,
+            first_edition: bool,
             out: *mut [i64; 7],
         ) -> u64;
         pub fn nzd_map_local(
@@ -84,6 +87,7 @@ mod c {
             id_n: usize,
             ticks: i64,
             more: bool,
+            first_edition: bool,
             out: *mut [i64; 7],
         ) -> u64;
         pub fn nzd_receiver_ask_plain(
@@ -93,6 +97,7 @@ mod c {
             id: *const u8,
             id_n: usize,
             ticks: i64,
+            first_edition: bool,
             out: *mut [i64; 7],
         ) -> u64;
         pub fn nzd_receiver_ask_named(
@@ -103,6 +108,7 @@ mod c {
             name_n: usize,
             ticks: i64,
             more: bool,
+            first_edition: bool,
             out: *mut [i64; 7],
         ) -> u64;
         pub fn nzd_receiver_map_local(
@@ -152,18 +158,18 @@ mod c {
 }
 
 /// `nzd_ask`.
-pub fn ask(file: &[u8], id: &[u8], ticks: i64, more: bool, out: &mut [i64; 7]) -> u64 {
-    unsafe { c::nzd_ask(file.as_ptr(), file.len(), id.as_ptr(), id.len(), ticks, more, out) }
+pub fn ask(file: &[u8], id: &[u8], ticks: i64, more: bool, first_edition: bool, out: &mut [i64; 7]) -> u64 {
+    unsafe { c::nzd_ask(file.as_ptr(), file.len(), id.as_ptr(), id.len(), ticks, more, first_edition, out) }
 }
 
 /// `nzd_ask_named`.
-pub fn ask_named(file: &[u8], name: &[u8], ticks: i64, more: bool, out: &mut [i64; 7]) -> u64 {
-    unsafe { c::nzd_ask_named(file.as_ptr(), file.len(), name.as_ptr(), name.len(), ticks, more, out) }
+pub fn ask_named(file: &[u8], name: &[u8], ticks: i64, more: bool, first_edition: bool, out: &mut [i64; 7]) -> u64 {
+    unsafe { c::nzd_ask_named(file.as_ptr(), file.len(), name.as_ptr(), name.len(), ticks, more, first_edition, out) }
 }
 
 /// `nzd_ask_plain`.
-pub fn ask_plain(file: &[u8], id: &[u8], ticks: i64, out: &mut [i64; 7]) -> u64 {
-    unsafe { c::nzd_ask_plain(file.as_ptr(), file.len(), id.as_ptr(), id.len(), ticks, out) }
+pub fn ask_plain(file: &[u8], id: &[u8], ticks: i64, first_edition: bool, out: &mut [i64; 7]) -> u64 {
+    unsafe { c::nzd_ask_plain(file.as_ptr(), file.len(), id.as_ptr(), id.len(), ticks, first_edition, out) }
 }
 
 /// `nzd_map_local`.
@@ -202,18 +208,57 @@ pub fn receiver_add(r: &mut Receiver, buffer: &mut [u8], piece: &[u8]) -> u64 {
 }
 
 /// `nzd_receiver_ask`.
-pub fn receiver_ask(r: Receiver, buffer: &[u8], id: &[u8], ticks: i64, more: bool, out: &mut [i64; 7]) -> u64 {
-    unsafe { c::nzd_receiver_ask(r, buffer.as_ptr(), buffer.len(), id.as_ptr(), id.len(), ticks, more, out) }
+pub fn receiver_ask(
+    r: Receiver,
+    buffer: &[u8],
+    id: &[u8],
+    ticks: i64,
+    more: bool,
+    first_edition: bool,
+    out: &mut [i64; 7],
+) -> u64 {
+    unsafe {
+        c::nzd_receiver_ask(r, buffer.as_ptr(), buffer.len(), id.as_ptr(), id.len(), ticks, more, first_edition, out)
+    }
 }
 
 /// `nzd_receiver_ask_plain`.
-pub fn receiver_ask_plain(r: Receiver, buffer: &[u8], id: &[u8], ticks: i64, out: &mut [i64; 7]) -> u64 {
-    unsafe { c::nzd_receiver_ask_plain(r, buffer.as_ptr(), buffer.len(), id.as_ptr(), id.len(), ticks, out) }
+pub fn receiver_ask_plain(
+    r: Receiver,
+    buffer: &[u8],
+    id: &[u8],
+    ticks: i64,
+    first_edition: bool,
+    out: &mut [i64; 7],
+) -> u64 {
+    unsafe {
+        c::nzd_receiver_ask_plain(r, buffer.as_ptr(), buffer.len(), id.as_ptr(), id.len(), ticks, first_edition, out)
+    }
 }
 
 /// `nzd_receiver_ask_named`.
-pub fn receiver_ask_named(r: Receiver, buffer: &[u8], name: &[u8], ticks: i64, more: bool, out: &mut [i64; 7]) -> u64 {
-    unsafe { c::nzd_receiver_ask_named(r, buffer.as_ptr(), buffer.len(), name.as_ptr(), name.len(), ticks, more, out) }
+pub fn receiver_ask_named(
+    r: Receiver,
+    buffer: &[u8],
+    name: &[u8],
+    ticks: i64,
+    more: bool,
+    first_edition: bool,
+    out: &mut [i64; 7],
+) -> u64 {
+    unsafe {
+        c::nzd_receiver_ask_named(
+            r,
+            buffer.as_ptr(),
+            buffer.len(),
+            name.as_ptr(),
+            name.len(),
+            ticks,
+            more,
+            first_edition,
+            out,
+        )
+    }
 }
 
 /// `nzd_receiver_map_local`.

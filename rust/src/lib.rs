@@ -11,7 +11,7 @@
 //! ```
 //! // A file with one fixed zone, "UTC".
 //! let file = b"\0\0\0\0\x00\x05\x01\x03UTC\x01\x04\x00\x01\x30\x00";
-//! let answer = nzd::ask(file, "UTC", nzd::ticks_of_unix_seconds(1_711_846_800), nzd::Mark::ThisIsAll)?;
+//! let answer = nzd::ask(file, "UTC", nzd::ticks_of_unix_seconds(1_711_846_800), nzd::Mark::ThisIsAll, nzd::Edition::Two)?;
 //! assert_eq!(answer.wall_offset_ms, 0);
 //! assert_eq!(answer.name_str(), "UTC");
 //! # Ok::<(), nzd::Error>(())
@@ -65,6 +65,15 @@ pub enum Mark {
     ThisIsAll,
 }
 
+/// The edition of Noda Time whose name an answer has. All else is the same under both, refusals included.
+#[derive(Clone, Copy, Debug, PartialEq, Eq, Hash)]
+pub enum Edition {
+    /// 1.x, which ignores a fixed zone's name and shows its ID.
+    One,
+    /// 2.x.
+    Two,
+}
+
 /// The interval of a zone that holds the asked instant.
 #[derive(Clone, Copy, Debug, PartialEq, Eq, Hash)]
 pub struct Answer<'a> {
@@ -74,7 +83,8 @@ pub struct Answer<'a> {
     pub savings_ms: i64,
     /// The standard offset, in milliseconds: the wall offset minus the savings, inside 24 hours either way.
     pub standard_offset_ms: i64,
-    /// The name in force, as "CEST", or the ID of a fixed zone that has no name: a part of the file's bytes, in UTF-8.
+    /// The name in force, as "CEST", or the ID of a fixed zone that has no name, and of every fixed zone under
+    /// [`Edition::One`]: a part of the file's bytes, in UTF-8.
     /// [`name_str`](Answer::name_str) has it as text.
     pub name: &'a [u8],
     /// The interval's start, which it holds.
@@ -118,21 +128,27 @@ fn checked(normalized: Result<usize, Error>) -> Result<(), Error> {
 /// Asks for the interval of the zone `id` that holds the instant `ticks`.
 ///
 /// ```
-/// use nzd::{Bound, Mark, Number};
+/// use nzd::{Bound, Edition, Mark, Number};
 ///
 /// let file = b"\0\0\0\0\x00\x05\x01\x03UTC\x01\x04\x00\x01\x30\x00";
-/// let answer = nzd::ask(file, "UTC", 0, Mark::MoreMayCome)?;
+/// let answer = nzd::ask(file, "UTC", 0, Mark::MoreMayCome, Edition::Two)?;
 /// assert_eq!((answer.start, answer.end), (Bound::StartOfTime, Bound::EndOfTime));
 /// assert_eq!(answer.standard_offset_ms, answer.wall_offset_ms - answer.savings_ms);
 ///
 /// // Of the first 16 bytes nothing can be said yet: wait for more.
-/// let error = nzd::ask(&file[..16], "UTC", 0, Mark::MoreMayCome).unwrap_err();
+/// let error = nzd::ask(&file[..16], "UTC", 0, Mark::MoreMayCome, Edition::Two).unwrap_err();
 /// assert_eq!(error.number, Number::NotYet);
+///
+/// // A fixed zone "A" with the name "B".
+/// let file = b"\0\0\0\0\x00\x05\x02\x01A\x01B\x01\x04\x00\x01\x30\x01";
+/// assert_eq!(nzd::ask(file, "A", 0, Mark::ThisIsAll, Edition::One)?.name_str(), "A");
+/// assert_eq!(nzd::ask(file, "A", 0, Mark::ThisIsAll, Edition::Two)?.name_str(), "B");
 /// # Ok::<(), nzd::Error>(())
 /// ```
-pub fn ask(file: &[u8], id: impl AsRef<[u8]>, ticks: i64, mark: Mark) -> Result<Answer<'_>, Error> {
+pub fn ask(file: &[u8], id: impl AsRef<[u8]>, ticks: i64, mark: Mark, edition: Edition) -> Result<Answer<'_>, Error> {
     let mut out = [0; 7];
-    decode(ffi::ask(file, id.as_ref(), ticks, mark == Mark::MoreMayCome, &mut out))?;
+    let (more, first) = (mark == Mark::MoreMayCome, edition == Edition::One);
+    decode(ffi::ask(file, id.as_ref(), ticks, more, first, &mut out))?;
     Ok(answer(file, out))
 }
 
@@ -140,18 +156,18 @@ pub fn ask(file: &[u8], id: impl AsRef<[u8]>, ticks: i64, mark: Mark) -> Result<
 /// [`Mark::MoreMayCome`]. Of a file that is all there use [`ask`] with [`Mark::ThisIsAll`].
 ///
 /// ```
-/// use nzd::{Mark, Number};
+/// use nzd::{Edition, Mark, Number};
 ///
 /// let file = b"\0\0\0\0\x00\x05\x01\x03UTC\x01\x04\x00\x01\x30\x00";
-/// assert_eq!(nzd::ask_plain(file, "UTC", 0)?.savings_ms, 0);
+/// assert_eq!(nzd::ask_plain(file, "UTC", 0, Edition::Two)?.savings_ms, 0);
 /// // The zone may still come.
-/// assert_eq!(nzd::ask_plain(file, "GMT", 0).unwrap_err().number, Number::NotYet);
-/// assert_eq!(nzd::ask(file, "GMT", 0, Mark::ThisIsAll).unwrap_err().number, Number::NotFound);
+/// assert_eq!(nzd::ask_plain(file, "GMT", 0, Edition::Two).unwrap_err().number, Number::NotYet);
+/// assert_eq!(nzd::ask(file, "GMT", 0, Mark::ThisIsAll, Edition::Two).unwrap_err().number, Number::NotFound);
 /// # Ok::<(), nzd::Error>(())
 /// ```
-pub fn ask_plain(file: &[u8], id: impl AsRef<[u8]>, ticks: i64) -> Result<Answer<'_>, Error> {
+pub fn ask_plain(file: &[u8], id: impl AsRef<[u8]>, ticks: i64, edition: Edition) -> Result<Answer<'_>, Error> {
     let mut out = [0; 7];
-    decode(ffi::ask_plain(file, id.as_ref(), ticks, &mut out))?;
+    decode(ffi::ask_plain(file, id.as_ref(), ticks, edition == Edition::One, &mut out))?;
     Ok(answer(file, out))
 }
 
@@ -159,21 +175,28 @@ pub fn ask_plain(file: &[u8], id: impl AsRef<[u8]>, ticks: i64) -> Result<Answer
 /// of the zone that the alias `name` leads to. The answer is the zone's own, its name included.
 ///
 /// ```
-/// use nzd::{Mark, Number};
+/// use nzd::{Edition, Mark, Number};
 ///
 /// // A zone "A" and an alias "B" of it.
 /// let file = b"\0\0\0\0\x00\x05\x02\x01A\x01B\x01\x03\x00\x01\x30\x03\x03\x01\x01\x00";
-/// assert_eq!(nzd::ask_named(file, "B", 0, Mark::MoreMayCome)?, nzd::ask(file, "A", 0, Mark::ThisIsAll)?);
+/// assert_eq!(nzd::ask_named(file, "B", 0, Mark::MoreMayCome, Edition::Two)?, nzd::ask(file, "A", 0, Mark::ThisIsAll, Edition::Two)?);
 /// // [`ask`] takes zone IDs only.
-/// assert_eq!(nzd::ask(file, "B", 0, Mark::ThisIsAll).unwrap_err().number, Number::NotFound);
+/// assert_eq!(nzd::ask(file, "B", 0, Mark::ThisIsAll, Edition::Two).unwrap_err().number, Number::NotFound);
 /// // The aliases have not all arrived; a zone's ID needs none of them.
-/// assert_eq!(nzd::ask_named(&file[..20], "B", 0, Mark::MoreMayCome).unwrap_err().number, Number::NotYet);
-/// assert_eq!(nzd::ask_named(&file[..16], "A", 0, Mark::MoreMayCome)?.name_str(), "A");
+/// assert_eq!(nzd::ask_named(&file[..20], "B", 0, Mark::MoreMayCome, Edition::Two).unwrap_err().number, Number::NotYet);
+/// assert_eq!(nzd::ask_named(&file[..16], "A", 0, Mark::MoreMayCome, Edition::Two)?.name_str(), "A");
 /// # Ok::<(), nzd::Error>(())
 /// ```
-pub fn ask_named(file: &[u8], name: impl AsRef<[u8]>, ticks: i64, mark: Mark) -> Result<Answer<'_>, Error> {
+pub fn ask_named(
+    file: &[u8],
+    name: impl AsRef<[u8]>,
+    ticks: i64,
+    mark: Mark,
+    edition: Edition,
+) -> Result<Answer<'_>, Error> {
     let mut out = [0; 7];
-    decode(ffi::ask_named(file, name.as_ref(), ticks, mark == Mark::MoreMayCome, &mut out))?;
+    let (more, first) = (mark == Mark::MoreMayCome, edition == Edition::One);
+    decode(ffi::ask_named(file, name.as_ref(), ticks, more, first, &mut out))?;
     Ok(answer(file, out))
 }
 

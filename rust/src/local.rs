@@ -67,7 +67,7 @@ impl LocalInstants {
 /// [`Mark::ThisIsAll`](crate::Mark::ThisIsAll), save [`Number::InstantOutOfRange`]: any number is taken for a local time.
 ///
 /// ```
-/// use nzd::{LocalInstants, Mark};
+/// use nzd::{Edition, LocalInstants, Mark};
 ///
 /// // A zone that goes from +01:00 to +00:00 at 00:00Z, 100,000,000 minutes after 1800.
 /// let file = b"\0\0\0\0\x00\x03\x01\x01A\x01\x10\0\x02\x02\0\0\x32\x32\x80\xc2\xd7\x2f\0\x30\x30\x01\0";
@@ -77,8 +77,8 @@ impl LocalInstants {
 /// // Clocks that went back show the hour from then on twice.
 /// let LocalInstants::Two { earlier, later } = nzd::map_local(file, "A", change)? else { panic!("one reading only") };
 /// assert_eq!((earlier, later), (change - hour, change));
-/// assert_eq!(nzd::ask(file, "A", earlier, Mark::ThisIsAll)?.wall_offset_ms, 3_600_000);
-/// assert_eq!(nzd::ask(file, "A", later, Mark::ThisIsAll)?.wall_offset_ms, 0);
+/// assert_eq!(nzd::ask(file, "A", earlier, Mark::ThisIsAll, Edition::Two)?.wall_offset_ms, 3_600_000);
+/// assert_eq!(nzd::ask(file, "A", later, Mark::ThisIsAll, Edition::Two)?.wall_offset_ms, 0);
 ///
 /// assert_eq!(nzd::map_local(file, "A", change + hour)?, LocalInstants::One(change + hour));
 /// assert_eq!(nzd::map_local(file, "A", i64::MAX)?, LocalInstants::None);

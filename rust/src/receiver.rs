@@ -3,7 +3,7 @@
 use crate::error::decode;
 use crate::local::instants;
 use crate::locations::located;
-use crate::{answer, checked, ffi, part, text, Answer, Error, LocalInstants, Location, LocationField, Mark};
+use crate::{answer, checked, ffi, part, text, Answer, Edition, Error, LocalInstants, Location, LocationField, Mark};
 
 /// A receiver of a file's bytes in pieces, over a lent buffer.
 ///
@@ -12,17 +12,17 @@ use crate::{answer, checked, ffi, part, text, Answer, Error, LocalInstants, Loca
 /// is until a reset.
 ///
 /// ```
-/// use nzd::{Mark, Number, Receiver};
+/// use nzd::{Edition, Mark, Number, Receiver};
 ///
 /// let mut buffer = [0; 64];
 /// let mut receiver = Receiver::new(&mut buffer);
 /// receiver.add(b"\0\0\0\0\x00\x05\x01\x03UT")?;
 /// // The string pool, at place 4, isn't whole yet.
 /// assert_eq!(receiver.place(), 4);
-/// assert_eq!(receiver.ask("UTC", 0, Mark::MoreMayCome).unwrap_err().number, Number::NotYet);
+/// assert_eq!(receiver.ask("UTC", 0, Mark::MoreMayCome, Edition::Two).unwrap_err().number, Number::NotYet);
 ///
 /// receiver.add(b"C\x01\x04\x00\x01\x30\x00")?;
-/// assert_eq!(receiver.ask("UTC", 0, Mark::MoreMayCome)?.name_str(), "UTC");
+/// assert_eq!(receiver.ask("UTC", 0, Mark::MoreMayCome, Edition::Two)?.name_str(), "UTC");
 /// assert_eq!((receiver.held().len(), receiver.place()), (17, 17));
 /// # Ok::<(), nzd::Error>(())
 /// ```
@@ -70,23 +70,29 @@ impl<'buf> Receiver<'buf> {
     }
 
     /// [`ask`](crate::ask) of the held bytes.
-    pub fn ask(&self, id: impl AsRef<[u8]>, ticks: i64, mark: Mark) -> Result<Answer<'_>, Error> {
-        let (more, mut out) = (mark == Mark::MoreMayCome, [0; 7]);
-        decode(ffi::receiver_ask(self.state, self.buffer, id.as_ref(), ticks, more, &mut out))?;
+    pub fn ask(&self, id: impl AsRef<[u8]>, ticks: i64, mark: Mark, edition: Edition) -> Result<Answer<'_>, Error> {
+        let (more, first, mut out) = (mark == Mark::MoreMayCome, edition == Edition::One, [0; 7]);
+        decode(ffi::receiver_ask(self.state, self.buffer, id.as_ref(), ticks, more, first, &mut out))?;
         Ok(answer(self.buffer, out))
     }
 
     /// [`ask_plain`](crate::ask_plain) of the held bytes.
-    pub fn ask_plain(&self, id: impl AsRef<[u8]>, ticks: i64) -> Result<Answer<'_>, Error> {
-        let mut out = [0; 7];
-        decode(ffi::receiver_ask_plain(self.state, self.buffer, id.as_ref(), ticks, &mut out))?;
+    pub fn ask_plain(&self, id: impl AsRef<[u8]>, ticks: i64, edition: Edition) -> Result<Answer<'_>, Error> {
+        let (first, mut out) = (edition == Edition::One, [0; 7]);
+        decode(ffi::receiver_ask_plain(self.state, self.buffer, id.as_ref(), ticks, first, &mut out))?;
         Ok(answer(self.buffer, out))
     }
 
     /// [`ask_named`](crate::ask_named) of the held bytes.
-    pub fn ask_named(&self, name: impl AsRef<[u8]>, ticks: i64, mark: Mark) -> Result<Answer<'_>, Error> {
-        let (more, mut out) = (mark == Mark::MoreMayCome, [0; 7]);
-        decode(ffi::receiver_ask_named(self.state, self.buffer, name.as_ref(), ticks, more, &mut out))?;
+    pub fn ask_named(
+        &self,
+        name: impl AsRef<[u8]>,
+        ticks: i64,
+        mark: Mark,
+        edition: Edition,
+    ) -> Result<Answer<'_>, Error> {
+        let (more, first, mut out) = (mark == Mark::MoreMayCome, edition == Edition::One, [0; 7]);
+        decode(ffi::receiver_ask_named(self.state, self.buffer, name.as_ref(), ticks, more, first, &mut out))?;
         Ok(answer(self.buffer, out))
     }
 

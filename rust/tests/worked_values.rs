@@ -1,7 +1,7 @@
 //! The worked values of the scope paper and some of the realistic files', by the wrapper.
 
 use nzd::{ask, ask_plain, check, codes, location, locations, map_local, normalize, version_text, LocationField, Pin};
-use nzd::{Answer, Bound, Error, LocalInstants, Mark, Number, Receiver};
+use nzd::{Answer, Bound, Edition, Error, LocalInstants, Mark, Number, Receiver};
 
 /// "00 00 00 00, 00 05 01 03 55 54 43, 01 04 00 01 30 00: 17 bytes, one fixed zone \"UTC\""
 const UTC: &[u8] = b"\0\0\0\0\x00\x05\x01\x03UTC\x01\x04\x00\x01\x30\x00";
@@ -22,7 +22,7 @@ fn refused(result: Result<Answer, Error>) -> (Number, usize) {
 #[test]
 fn the_worked_file() {
     let start_and_end = (Bound::StartOfTime, Bound::EndOfTime);
-    for answer in [ask_plain(UTC, "UTC", 0), ask(UTC, b"UTC", 0, Mark::MoreMayCome)] {
+    for answer in [ask_plain(UTC, "UTC", 0, Edition::Two), ask(UTC, b"UTC", 0, Mark::MoreMayCome, Edition::Two)] {
         let answer = answer.expect("an answer");
         assert_eq!((answer.wall_offset_ms, answer.savings_ms, answer.name), (0, 0, &b"UTC"[..]));
         assert_eq!(answer.standard_offset_ms, 0);
@@ -30,24 +30,24 @@ fn the_worked_file() {
     }
     assert_eq!(check(UTC), Ok(()));
     // "unmarked lines .. write `1 17` for GMT, `1 11` on 16 bytes and `1 0` on none"
-    assert_eq!(refused(ask_plain(UTC, "GMT", 0)), (Number::NotYet, 17));
-    assert_eq!(refused(ask_plain(&UTC[..16], "UTC", 0)), (Number::NotYet, 11));
-    assert_eq!(refused(ask_plain(&[], "UTC", 0)), (Number::NotYet, 0));
-    assert_eq!(refused(ask(UTC, "GMT", 0, Mark::ThisIsAll)), (Number::NotFound, 17));
-    assert_eq!(refused(ask(UTC, "GMT", 0, Mark::MoreMayCome)), (Number::NotYet, 17));
-    assert_eq!(refused(ask(&UTC[..16], "UTC", 0, Mark::MoreMayCome)), (Number::NotYet, 11));
-    assert_eq!(refused(ask(&UTC[..16], "UTC", 0, Mark::ThisIsAll)), (Number::CutShort, 11));
+    assert_eq!(refused(ask_plain(UTC, "GMT", 0, Edition::Two)), (Number::NotYet, 17));
+    assert_eq!(refused(ask_plain(&UTC[..16], "UTC", 0, Edition::Two)), (Number::NotYet, 11));
+    assert_eq!(refused(ask_plain(&[], "UTC", 0, Edition::Two)), (Number::NotYet, 0));
+    assert_eq!(refused(ask(UTC, "GMT", 0, Mark::ThisIsAll, Edition::Two)), (Number::NotFound, 17));
+    assert_eq!(refused(ask(UTC, "GMT", 0, Mark::MoreMayCome, Edition::Two)), (Number::NotYet, 17));
+    assert_eq!(refused(ask(&UTC[..16], "UTC", 0, Mark::MoreMayCome, Edition::Two)), (Number::NotYet, 11));
+    assert_eq!(refused(ask(&UTC[..16], "UTC", 0, Mark::ThisIsAll, Edition::Two)), (Number::CutShort, 11));
     let longer = [UTC, &[2]].concat();
-    assert_eq!(refused(ask(&longer, "GMT", 0, Mark::MoreMayCome)), (Number::NotFound, 17));
-    assert_eq!(refused(ask(&[], "UTC", 0, Mark::MoreMayCome)), (Number::NotYet, 0));
-    assert_eq!(refused(ask(&[], "UTC", 0, Mark::ThisIsAll)), (Number::CutShort, 0));
-    assert_eq!(refused(ask_plain(UTC, "UTC", i64::MAX)), (Number::InstantOutOfRange, 0));
+    assert_eq!(refused(ask(&longer, "GMT", 0, Mark::MoreMayCome, Edition::Two)), (Number::NotFound, 17));
+    assert_eq!(refused(ask(&[], "UTC", 0, Mark::MoreMayCome, Edition::Two)), (Number::NotYet, 0));
+    assert_eq!(refused(ask(&[], "UTC", 0, Mark::ThisIsAll, Edition::Two)), (Number::CutShort, 0));
+    assert_eq!(refused(ask_plain(UTC, "UTC", i64::MAX, Edition::Two)), (Number::InstantOutOfRange, 0));
 }
 
 #[test]
 fn the_name_is_a_part_of_the_file() {
     let file = UTC.to_vec();
-    let answer = ask_plain(&file, String::from("UTC"), 0).expect("an answer");
+    let answer = ask_plain(&file, String::from("UTC"), 0, Edition::Two).expect("an answer");
     assert_eq!(answer.name.as_ptr(), file[8..].as_ptr());
 }
 
@@ -56,11 +56,11 @@ fn summer_and_winter() {
     let file = europe();
     // 2024-03-31T01:00Z and 2024-10-27T01:00Z.
     let (spring, autumn) = (1_711_846_800 * TICKS_PER_SECOND, 1_729_990_800 * TICKS_PER_SECOND);
-    let summer = ask(&file, "Europe/Oslo", spring, Mark::ThisIsAll).expect("an answer");
+    let summer = ask(&file, "Europe/Oslo", spring, Mark::ThisIsAll, Edition::Two).expect("an answer");
     assert_eq!((summer.wall_offset_ms, summer.savings_ms, summer.name), (2 * HOUR, HOUR, &b"CEST"[..]));
     assert_eq!(summer.standard_offset_ms, HOUR);
     assert_eq!((summer.start, summer.end), (Bound::At(spring), Bound::At(autumn)));
-    let winter = ask(&file, "Europe/Oslo", spring - 1, Mark::ThisIsAll).expect("an answer");
+    let winter = ask(&file, "Europe/Oslo", spring - 1, Mark::ThisIsAll, Edition::Two).expect("an answer");
     assert_eq!((winter.wall_offset_ms, winter.savings_ms, winter.name), (HOUR, 0, &b"CET"[..]));
     assert_eq!(winter.standard_offset_ms, HOUR);
     assert!(winter.start < winter.end && winter.end == Bound::At(spring));
@@ -77,11 +77,34 @@ fn standard_offsets() {
         [&[0, 0, 0, 0, 0, 5, 2, 1, b'A', 1, b'B'], &zone[..], &[1, 3, 1, 1, 0x30]].concat()
     };
     for id in ["A", "B", "C"] {
-        assert_eq!(refused(ask(&file(before), id, 0, Mark::MoreMayCome)), (Number::BadInterval, 11));
+        assert_eq!(refused(ask(&file(before), id, 0, Mark::MoreMayCome, Edition::Two)), (Number::BadInterval, 11));
     }
     let file = file(behind);
-    let answer = ask(&file, "A", 0, Mark::ThisIsAll).expect("an answer");
+    let answer = ask(&file, "A", 0, Mark::ThisIsAll, Edition::Two).expect("an answer");
     assert_eq!((answer.wall_offset_ms, answer.savings_ms, answer.standard_offset_ms), (84_600_000, 0, 84_600_000));
+}
+
+#[test]
+fn editions() {
+    // Strings "A", "B" and "C", a fixed zone "A" with the name "C", and "B" for "A".
+    let file = b"\0\0\0\0\x00\x07\x03\x01A\x01B\x01C\x01\x04\x00\x01\x30\x02\x03\x03\x01\x01\x00";
+    for (edition, name, place) in [(Edition::One, "A", 8), (Edition::Two, "C", 12)] {
+        for answer in [
+            ask(file, "A", 0, Mark::ThisIsAll, edition),
+            ask_plain(file, "A", 0, edition),
+            nzd::ask_named(file, "B", 0, Mark::ThisIsAll, edition),
+        ] {
+            let answer = answer.expect("an answer");
+            assert_eq!((answer.name_str(), answer.name.as_ptr()), (name, file[place..].as_ptr()));
+        }
+        // A name past the pool, and a byte behind the name.
+        for (zone, number) in
+            [(&[1, 4, 0, 1, 0x30, 5][..], Number::BadText), (&[1, 5, 0, 1, 0x30, 0, 0], Number::BadData)]
+        {
+            let file = [&[0, 0, 0, 0, 0, 3, 1, 1, b'A'][..], zone].concat();
+            assert_eq!(refused(ask(&file, "A", 0, Mark::ThisIsAll, edition)), (number, 9));
+        }
+    }
 }
 
 #[test]
@@ -91,7 +114,8 @@ fn local_times() {
     // 2024-10-27T02:30, an autumn night: 00:30Z and 01:30Z.
     let (earlier, later) = (1_729_989_000 * TICKS_PER_SECOND, 1_729_992_600 * TICKS_PER_SECOND);
     assert_eq!(oslo(1_729_996_200), LocalInstants::Two { earlier, later });
-    let offset = |ticks| ask(&file, "Europe/Oslo", ticks, Mark::ThisIsAll).expect("an answer").wall_offset_ms;
+    let offset =
+        |ticks| ask(&file, "Europe/Oslo", ticks, Mark::ThisIsAll, Edition::Two).expect("an answer").wall_offset_ms;
     assert_eq!((offset(earlier), offset(later)), (2 * HOUR, HOUR));
     // 2024-03-31T02:30, a spring gap, and 2024-07-01T12:00.
     assert_eq!(oslo(1_711_852_200), LocalInstants::None);
@@ -229,10 +253,10 @@ fn bytes_in_pieces() {
             _ => count,
         };
         assert_eq!((receiver.held(), receiver.place()), (&UTC[..count], place));
-        let said = receiver.ask("UTC", 0, Mark::MoreMayCome).map(|answer| answer.wall_offset_ms);
+        let said = receiver.ask("UTC", 0, Mark::MoreMayCome, Edition::Two).map(|answer| answer.wall_offset_ms);
         assert_eq!(said, if count < 17 { denied(Number::NotYet, place) } else { Ok(0) });
     }
-    assert_eq!(receiver.ask_plain("GMT", 0), denied(Number::NotYet, 17));
+    assert_eq!(receiver.ask_plain("GMT", 0, Edition::Two), denied(Number::NotYet, 17));
     assert_eq!(receiver.check(), Ok(()));
     assert_eq!(receiver.version_text(), denied(Number::NotFound, 17));
     assert_eq!(receiver.map_local("UTC", 5), Ok(LocalInstants::One(5)));
@@ -249,6 +273,6 @@ fn bytes_in_pieces() {
     // A reset empties the receiver, not the buffer.
     receiver.reset();
     assert_eq!((receiver.held(), receiver.place()), (&[][..], 0));
-    assert_eq!(receiver.ask("UTC", 0, Mark::ThisIsAll), denied(Number::CutShort, 0));
+    assert_eq!(receiver.ask("UTC", 0, Mark::ThisIsAll, Edition::Two), denied(Number::CutShort, 0));
     assert_eq!(buffer[..17], UTC[..]);
 }

@@ -32,22 +32,22 @@ static void no_bytes(void) {
     struct nzd_value value;
     struct nzd_transition transition;
     struct nzd_receiver none = {0, 0, 0};
-    EXPECT(nzd_ask(NULL, 0, NULL, 0, 0, true, &answer) == NZD_NOT_YET);
-    EXPECT(nzd_ask(NULL, 0, NULL, 0, 0, false, &answer) == NZD_CUT_SHORT);
-    EXPECT(nzd_ask_plain(NULL, 0, NULL, 0, 0, &answer) == NZD_NOT_YET);
-    EXPECT(nzd_ask(file, sizeof file, NULL, 0, 0, false, &answer) == NZD_NOT_FOUND + 256 * 17);
-    EXPECT(nzd_ask_plain(file, sizeof file, NULL, 0, 0, &answer) == NZD_NOT_YET + 256 * 17);
-    EXPECT(nzd_ask_named(NULL, 0, NULL, 0, 0, true, &answer) == NZD_NOT_YET);
-    EXPECT(nzd_ask_named(NULL, 0, NULL, 0, 0, false, &answer) == NZD_CUT_SHORT);
-    EXPECT(nzd_ask_named(file, sizeof file, NULL, 0, 0, false, &answer) == NZD_NOT_FOUND + 256 * 17);
+    EXPECT(nzd_ask(NULL, 0, NULL, 0, 0, true, false, &answer) == NZD_NOT_YET);
+    EXPECT(nzd_ask(NULL, 0, NULL, 0, 0, false, false, &answer) == NZD_CUT_SHORT);
+    EXPECT(nzd_ask_plain(NULL, 0, NULL, 0, 0, false, &answer) == NZD_NOT_YET);
+    EXPECT(nzd_ask(file, sizeof file, NULL, 0, 0, false, false, &answer) == NZD_NOT_FOUND + 256 * 17);
+    EXPECT(nzd_ask_plain(file, sizeof file, NULL, 0, 0, false, &answer) == NZD_NOT_YET + 256 * 17);
+    EXPECT(nzd_ask_named(NULL, 0, NULL, 0, 0, true, false, &answer) == NZD_NOT_YET);
+    EXPECT(nzd_ask_named(NULL, 0, NULL, 0, 0, false, false, &answer) == NZD_CUT_SHORT);
+    EXPECT(nzd_ask_named(file, sizeof file, NULL, 0, 0, false, false, &answer) == NZD_NOT_FOUND + 256 * 17);
     EXPECT(nzd_map_local(NULL, 0, NULL, 0, 0, &local) == NZD_CUT_SHORT);
     EXPECT(nzd_map_local(file, sizeof file, NULL, 0, 0, &local) == NZD_NOT_FOUND + 256 * 17);
     EXPECT(nzd_version_text(NULL, 0, &text) == NZD_CUT_SHORT);
     EXPECT(nzd_normalize(NULL, 0, NULL, 0) == NZD_CUT_SHORT);
     EXPECT(nzd_normalize(file, sizeof file, NULL, 0) == NZD_OUTPUT_TOO_SHORT);
     EXPECT(nzd_receiver_add(&none, NULL, 0, NULL, 0) == NZD_ANSWERED);
-    EXPECT(nzd_receiver_ask(none, NULL, 0, NULL, 0, 0, true, &answer) == NZD_NOT_YET);
-    EXPECT(nzd_receiver_ask_plain(none, NULL, 0, NULL, 0, 0, &answer) == NZD_NOT_YET);
+    EXPECT(nzd_receiver_ask(none, NULL, 0, NULL, 0, 0, true, false, &answer) == NZD_NOT_YET);
+    EXPECT(nzd_receiver_ask_plain(none, NULL, 0, NULL, 0, 0, false, &answer) == NZD_NOT_YET);
     EXPECT(nzd_receiver_map_local(none, NULL, 0, NULL, 0, 0, &local) == NZD_CUT_SHORT);
     EXPECT(nzd_receiver_version_text(none, NULL, 0, &text) == NZD_CUT_SHORT);
     EXPECT(nzd_receiver_normalize(none, NULL, 0, NULL, 0) == NZD_CUT_SHORT);
@@ -70,7 +70,7 @@ static void members(void) {
     struct nzd_value value;
     struct nzd_text text;
     struct nzd_transition transition;
-    EXPECT(nzd_ask_plain(file, sizeof file, (const uint8_t *)"UTC", 3, 0, &answer) == NZD_ANSWERED);
+    EXPECT(nzd_ask_plain(file, sizeof file, (const uint8_t *)"UTC", 3, 0, false, &answer) == NZD_ANSWERED);
     EXPECT(answer.start == NZD_START_OF_TIME && answer.end == NZD_END_OF_TIME);
     /* "+05:45 is 86 F9" */
     EXPECT(nzd_read_offset(offset, 2, &value) == NZD_ANSWERED && value.value == 20700000 && value.length == 2);
@@ -79,19 +79,37 @@ static void members(void) {
     EXPECT(nzd_read_transition(hours, 2, 0, true, &transition) == NZD_ANSWERED);
     EXPECT(transition.kind == NZD_KIND_INSTANT && transition.ticks == 5040 * 3600 * NZD_TICKS_PER_SECOND);
     EXPECT(transition.length == 2);
-    EXPECT(nzd_ask(file, sizeof file, NULL, 0, NZD_LAST_INSTANT, false, &answer) == NZD_NOT_FOUND + 256 * 17);
-    EXPECT(nzd_ask_plain(file, sizeof file, NULL, 0, NZD_LAST_INSTANT + 1, &answer) == NZD_INSTANT_OUT_OF_RANGE);
-    EXPECT(nzd_ask(file, sizeof file, NULL, 0, NZD_FIRST_INSTANT, false, &answer) == NZD_NOT_FOUND + 256 * 17);
-    EXPECT(nzd_ask_plain(file, sizeof file, NULL, 0, NZD_FIRST_INSTANT - 1, &answer) == NZD_INSTANT_OUT_OF_RANGE);
+    EXPECT(nzd_ask(file, sizeof file, NULL, 0, NZD_LAST_INSTANT, false, false, &answer) == NZD_NOT_FOUND + 256 * 17);
+    EXPECT(nzd_ask_plain(file, sizeof file, NULL, 0, NZD_LAST_INSTANT + 1, false, &answer) == NZD_INSTANT_OUT_OF_RANGE);
+    EXPECT(nzd_ask(file, sizeof file, NULL, 0, NZD_FIRST_INSTANT, false, false, &answer) == NZD_NOT_FOUND + 256 * 17);
+    EXPECT(nzd_ask_plain(file, sizeof file, NULL, 0, NZD_FIRST_INSTANT - 1, false, &answer) == NZD_INSTANT_OUT_OF_RANGE);
 }
 
 /* The number and place of a named question, which leaves out as found where it is refused. */
 static uint64_t named(const uint8_t *s, size_t n, const char *name, bool more) {
     struct nzd_answer out = {-1, -2, -3, -4, -5, -6, -7};
-    uint64_t r = nzd_ask_named(s, n, (const uint8_t *)name, strlen(name), 0, more, &out);
+    uint64_t r = nzd_ask_named(s, n, (const uint8_t *)name, strlen(name), 0, more, false, &out);
     if (r == NZD_ANSWERED) EXPECT(out.wall_ms == 0 && out.name_place == 8 && out.name_length == 1);
     else EXPECT(out.wall_ms == -1 && out.name_length == -5 && out.end == -7);
     return r;
+}
+
+/* The name of a fixed zone "A" with the name "B": its ID under edition 1, by each function. */
+static void editions(void) {
+    static const uint8_t s[] = {0, 0, 0, 0, 0, 5, 2, 1, 'A', 1, 'B', 1, 4, 0, 1, 0x30, 1}, a[] = {'A'};
+    struct nzd_receiver r = {sizeof s, 0, 0};
+    int first;
+    for (first = 0; first < 2; first++) {
+        struct nzd_answer out[6];
+        size_t i;
+        EXPECT(nzd_ask(s, sizeof s, a, 1, 0, false, first, &out[0]) == NZD_ANSWERED);
+        EXPECT(nzd_ask_plain(s, sizeof s, a, 1, 0, first, &out[1]) == NZD_ANSWERED);
+        EXPECT(nzd_ask_named(s, sizeof s, a, 1, 0, false, first, &out[2]) == NZD_ANSWERED);
+        EXPECT(nzd_receiver_ask(r, s, sizeof s, a, 1, 0, false, first, &out[3]) == NZD_ANSWERED);
+        EXPECT(nzd_receiver_ask_plain(r, s, sizeof s, a, 1, 0, first, &out[4]) == NZD_ANSWERED);
+        EXPECT(nzd_receiver_ask_named(r, s, sizeof s, a, 1, 0, false, first, &out[5]) == NZD_ANSWERED);
+        for (i = 0; i < 6; i++) EXPECT(out[i].name_place == (first ? 8 : 10) && out[i].name_length == 1 && out[i].wall_ms == 0);
+    }
 }
 
 /* Names, in files with strings "A" and "B" and a zone "A": "B" leads to "A", to itself, stands twice, and has not come. */
@@ -184,15 +202,15 @@ static void receiver(void) {
     nzd_receiver_reset(&r);
     EXPECT(stands(r, 0, 0));
     for (i = 0; i < sizeof file; i++) {
-        EXPECT(nzd_receiver_ask(r, buffer, sizeof buffer, utc, 3, 0, true, &answer) % 256 == NZD_NOT_YET);
+        EXPECT(nzd_receiver_ask(r, buffer, sizeof buffer, utc, 3, 0, true, false, &answer) % 256 == NZD_NOT_YET);
         EXPECT(nzd_receiver_add(&r, buffer, sizeof buffer, file + i, 1) == NZD_ANSWERED);
         EXPECT(stands(r, i + 1, i + 1 < 4 ? 0 : i + 1 < 11 && i + 1 > 4 ? 4 : i + 1 > 11 && i + 1 < 17 ? 11 : i + 1));
     }
     EXPECT(nzd_receiver_add(&r, buffer, sizeof buffer, zeros, 3) == NZD_OUTPUT_TOO_SHORT);
     EXPECT(stands(r, 17, 17) && memcmp(buffer, file, sizeof file) == 0 && buffer[17] == 0xaa && buffer[18] == 0xaa);
-    EXPECT(nzd_receiver_ask(r, buffer, sizeof buffer, utc, 3, 0, false, &answer) == NZD_ANSWERED);
+    EXPECT(nzd_receiver_ask(r, buffer, sizeof buffer, utc, 3, 0, false, false, &answer) == NZD_ANSWERED);
     EXPECT(answer.wall_ms == 0 && memcmp(buffer + answer.name_place, utc, 3) == 0 && answer.name_length == 3);
-    EXPECT(nzd_receiver_ask_plain(r, buffer, sizeof buffer, utc, 3, 0, &answer) == NZD_ANSWERED);
+    EXPECT(nzd_receiver_ask_plain(r, buffer, sizeof buffer, utc, 3, 0, false, &answer) == NZD_ANSWERED);
     EXPECT(nzd_receiver_map_local(r, buffer, sizeof buffer, utc, 3, 5, &local) == NZD_ANSWERED && local.earliest == 5);
     EXPECT(nzd_receiver_normalize(r, buffer, sizeof buffer, NULL, 0) == NZD_OUTPUT_TOO_SHORT);
     EXPECT(nzd_receiver_version_text(r, buffer, sizeof buffer, &text) == NZD_NOT_FOUND + 256 * 17);
@@ -204,8 +222,8 @@ static void receiver(void) {
     for (i = 0; i < sizeof fall; i++) EXPECT(nzd_receiver_add(&r, buffer, sizeof buffer, fall + i, 1) == NZD_ANSWERED);
     EXPECT(stands(r, 13, 9));
     /* 15 comes before 14. */
-    EXPECT(nzd_receiver_ask(over, buffer, 3, utc, 3, NZD_LAST_INSTANT + 1, true, &answer) == NZD_OUTPUT_TOO_SHORT);
-    EXPECT(nzd_receiver_ask_plain(over, buffer, 3, utc, 3, NZD_LAST_INSTANT + 1, &answer) == NZD_OUTPUT_TOO_SHORT);
+    EXPECT(nzd_receiver_ask(over, buffer, 3, utc, 3, NZD_LAST_INSTANT + 1, true, false, &answer) == NZD_OUTPUT_TOO_SHORT);
+    EXPECT(nzd_receiver_ask_plain(over, buffer, 3, utc, 3, NZD_LAST_INSTANT + 1, false, &answer) == NZD_OUTPUT_TOO_SHORT);
     EXPECT(nzd_receiver_map_local(over, buffer, 3, utc, 3, 0, &local) == NZD_OUTPUT_TOO_SHORT);
     EXPECT(nzd_receiver_version_text(over, buffer, 3, &text) == NZD_OUTPUT_TOO_SHORT);
     EXPECT(nzd_receiver_normalize(over, buffer, 3, out, sizeof out) == NZD_OUTPUT_TOO_SHORT);
@@ -223,7 +241,7 @@ static void words(void) {
 
 int main(void) {
     struct nzd_answer out;
-    uint64_t r = nzd_ask(file, sizeof file, (const uint8_t *)"UTC", 3, 0, false, &out);
+    uint64_t r = nzd_ask(file, sizeof file, (const uint8_t *)"UTC", 3, 0, false, false, &out);
     if (nzd_number_of(r) != NZD_ANSWERED) {
         printf("%s: number %u, place %zu\n", nzd_words(nzd_number_of(r)), nzd_number_of(r), nzd_place_of(r));
         return 1;
@@ -232,6 +250,7 @@ int main(void) {
     members();
     names();
     normalizes();
+    editions();
     local_times();
     receiver();
     words();

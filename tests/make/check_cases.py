@@ -1,12 +1,12 @@
 #!/usr/bin/env python3
 """Writes the input and the expected output of the program check_cases: run it in any folder.
 
-The second reader (tests/second_reader) checks each file, reads its version text and answers the question; only the place of a version text, which
+The second reader (tests/second_reader) checks each file, reads its version text and answers the question under both editions; only the place of a version text, which
 it doesn't give, is found here, by the field sizes, and the bytes there must be those that it gives.
 Where a case below has numbers with places beside it, 01-scope.md gives them, and the second reader must give the same.
 The first word of the command line, if there is one, is the second reader's program; else it is built.
 """
-from stored import Second, count, field, hex_, offset, padded, parts, text, write_cases
+from stored import Second, but_name, count, field, hex_, offset, padded, parts, text, write_cases
 
 SECOND = Second()
 FILE = SECOND.file
@@ -66,22 +66,24 @@ def version(s):
     return "0 %d %d" % (at, length)
 
 
-def ask(id_, ticks):
-    said = second("ask", FILE, id_, str(ticks), "all")
+def ask(id_, ticks, edition):
+    said = second("ask", FILE, id_, str(ticks), "all", edition)
     if not said.startswith(b"0 "):
         return said.decode()
     values, name = said.split(b" ", 6)[:6], said.split(b" ", 6)[6]
     return b" ".join(values).decode() + " " + (name.hex() or "-")
 
 
-def case(s, id_=b"UTC", ticks=0, checked=None, asked=None, text_=None, spelled=None):
-    """One line. checked, text_ and asked are what the check, the version text and the question give by 01-scope.md, where they are said."""
+def case(s, id_=b"UTC", ticks=0, checked=None, asked=None, text_=None, spelled=None, first=None):
+    """One line. checked, text_ and asked are what the check, the version text and the question give by 01-scope.md, where they are said; first is what
+    the question gives under edition 1, where 02 or a reading of it says so. Nothing but a name differs under it."""
     line = "%d %s %s" % (ticks, id_.hex() or "-", spelled or s.hex() or "-")
     if line not in cases:
         with open(FILE, "wb") as f:
             f.write(s)
-        cases[line] = (second("check", FILE).decode(), version(s), ask(id_, ticks))
-    for said, wanted in zip(cases[line], (checked, text_, asked)):
+        cases[line] = (second("check", FILE).decode(), version(s), ask(id_, ticks, "2"), ask(id_, ticks, "1"))
+        assert but_name(cases[line][2]) == but_name(cases[line][3]), line[:200]
+    for said, wanted in zip(cases[line], (checked, text_, asked, first)):
         assert wanted is None or said == wanted, (line[:200], said, wanted)
 
 
@@ -410,6 +412,22 @@ case(PA + hex_("010300015f"), b"A", 0, "0 0", "0 84600000 0 84600000 start end 4
 AB = V + hex_("0005" "0201410142")
 case(AB + hex_("01090002010000" "5f2f" "0100" "0103010130"), b"B", 0, "10 11", "10 11")
 case(AB + hex_("0103010130" "01090002010000" "5f2f" "0100"), b"B", 0, "10 16", "0 0 0 0 start end 42")
+
+# ---- 02, Ask 11: "Under 1 a fixed zone's name is its ID whatever follows; under 2 it is as today."
+
+ZERO = "0 0 0 0 start end "
+case(PA + hex_("010400013005"), b"A", 0, "8 9", "8 9", first="8 9")
+case(PA + hex_("01050001300000"), b"A", 0, "9 9", "9 9", first="9 9")
+case(PA + hex_("01050001308000"), b"A", 0, "7 9", "7 9", first="7 9")
+# a listed zone with one offset keeps its interval's name
+case(AB + hex_("0109" "00020100013030" "0100"), b"A", 0, "0 0", ZERO + "42", first=ZERO + "42")
+case(AB + hex_("010400013001"), b"A", 0, "0 0", ZERO + "42", first=ZERO + "41")
+case(AB + hex_("010400013001"), b"B", 0, "0 0", "12 17", first="12 17")
+case(AB + hex_("0103000130"), b"A", 0, "0 0", ZERO + "41", first=ZERO + "41")
+case(V + hex_("0005" "0201410141" "010400013001"), b"A", 0, "0 0", ZERO + "41", first=ZERO + "41")
+for ticks in (FIRST, LAST):
+    case(IDS, b"UT", ticks, "0 0", "0 -1800000 0 -1800000 start end -", first="0 -1800000 0 -1800000 start end 5554")
+case(IDS, b"", LAST + 1, "0 0", "14 0", first="14 0")
 
 # ---- the largest sizes, at them and one past
 

@@ -1,11 +1,11 @@
 #!/usr/bin/env python3
 """Writes the input and the expected output of the program name_cases: run it in any folder.
 
-The second reader (tests/second_reader) answers each named question, with more to come and as all there is, and checks the file. Where a case below
+The second reader (tests/second_reader) answers each named question, with more to come and as all there is, the latter under both editions, and checks the file. Where a case below
 has results beside it, 02-change-requests.md or a reading of it in docs/DECISIONS.md gives them, and the second reader must give the same.
 The first word of the command line, if there is one, is the second reader's program; else it is built.
 """
-from stored import Second, count, field, hex_, parts, text, write_cases
+from stored import Second, but_name, count, field, hex_, parts, text, write_cases
 
 SECOND = Second()
 FILE = SECOND.file
@@ -34,22 +34,24 @@ def aliases(*pairs):
 cases = {}
 
 
-def named(name, ticks, mark):
-    said = SECOND.says("named", FILE, name, str(ticks), mark)
+def named(name, ticks, mark, edition="2"):
+    said = SECOND.says("named", FILE, name, str(ticks), mark, edition)
     if not said.startswith(b"0 "):
         return said.decode()
     values, shown = said.split(b" ", 6)[:6], said.split(b" ", 6)[6]
     return b" ".join(values).decode() + " " + (shown.hex() or "-")
 
 
-def case(s, name, more=None, all_=None, checked=None, ticks=0, spelled=None):
-    """One line. more, all_ and checked are what the question under both marks and the check give, where they are said."""
+def case(s, name, more=None, all_=None, checked=None, ticks=0, spelled=None, first=None):
+    """One line. more, all_ and checked are what the question under both marks and the check give, and first what the question gives under edition 1,
+    where they are said. Nothing but a name differs under it."""
     line = "%d %s %s" % (ticks, name.hex() or "-", spelled or s.hex() or "-")
     if line not in cases:
         with open(FILE, "wb") as f:
             f.write(s)
-        cases[line] = (named(name, ticks, "part"), named(name, ticks, "all"), SECOND.says("check", FILE).decode())
-    for said, wanted in zip(cases[line], (more, all_, checked)):
+        cases[line] = (named(name, ticks, "part"), named(name, ticks, "all"), named(name, ticks, "all", "1"), SECOND.says("check", FILE).decode())
+        assert but_name(cases[line][1]) == but_name(cases[line][2]), line[:200]
+    for said, wanted in zip(cases[line], (more, all_, first, checked)):
         assert wanted is None or said == wanted, (line[:200], said, wanted)
 
 
@@ -151,6 +153,15 @@ both(TWO + field(3, aliases((1, 0))), b"B", A, "0 0")
 both(V + pool(b"A", b"B") + zone(0, b"\x32") + zone(0, b"\x34") + field(3, aliases((1, 0))), b"B", "0 3600000 0 3600000 start end 41", "13 16")
 both(V + pool(b"A", b"B") + zone(0, b"\x32") + field(1, b"\x01\x03") + field(3, aliases((1, 0))), b"B", "9 16", "9 16")
 both(V + pool(b"A", b"B", b"C") + zone(2) + field(1, b"\x00\x01\x30\x02") + field(3, aliases((1, 0))), b"B", "0 0 0 0 start end 43", "0 0")
+
+# ---- Ask 11: under edition 1 a fixed zone's name is its ID, through an alias the target's; faults of the name stay
+
+SHOWN = hex_("00000000" "0007" "03014101420143" "0104" "00013002" "0303" "010100")
+both(SHOWN, b"B", "0 0 0 0 start end 43", "0 0", first=A)
+both(SHOWN, b"A", "0 0 0 0 start end 43", "0 0", first=A)
+both(SHOWN, b"C", "12 19", first="12 19")
+both(V + pool(b"A", b"B", b"C") + field(1, b"\x00\x01\x30\x03") + field(3, aliases((1, 0))), b"B", "8 13", first="8 13")
+both(V + pool(b"A", b"B", b"C") + field(1, hex_("00020100023030" "0100")) + field(3, aliases((1, 0))), b"B", "0 0 0 0 start end 43", first="0 0 0 0 start end 43")
 
 # ---- "an alias is 'not yet' until field 3 is whole"
 

@@ -72,6 +72,11 @@ def parts(front, unit, times, end):
     return "%s %s %06x %s" % (front.hex(), unit.hex(), times, end.hex() or "-")
 
 
+def but_name(said):
+    """An answer without its name, which stands last; a refusal whole."""
+    return said.rsplit(" ", 1)[0] if said.startswith("0 ") else said
+
+
 class Second:
     """The second reader: the program that the command line names, or else the one that is built."""
 

@@ -27,6 +27,7 @@ use Rattle.texts.specs.Text.{readText}
 use Rattle.texts.specs.declared.Text.{Text}
 use Rattle.texts.specs.declared.Text.the-variants.{Part, Refused as Untext}
 use Rattle.texts.proofs.TextLaws.{held}
+use Rattle.zones.specs.declared.Edition.{Edition}
 use Rattle.frames.specs.Machine.{Out, found, refused, cut, ended, walk}
 use Rattle.field_checks.specs.Check.{versionOf}
 use Rattle.field_checks.specs.declared.VersionText.{VersionText}
@@ -79,38 +80,38 @@ pub version-small : (f : List ℕ) → length f < 2 ^ 63 → (t : VersionText) �
 version-small f l (TextPart a n) e = let x = text-of-field f a n (sym e) in record { to = (omega (arith, x .within), omega (arith, x .within)) }
 version-small f l (NoText n p) e = record { to = version-near f n p (sym e) }
 
-module _ (bs id : List ℕ) (z : ℤ) (mark : Mark) (l : length bs < 2 ^ 63) where
-  finish-small : (instantOf z ≡ 0 → ⊥) → (o : Out Pool Found) → walk (question id (instantOf z)) noPool bs ≡ o → Near o → SmallAnswer (finish mark o)
+module _ (bs id : List ℕ) (z : ℤ) (mark : Mark) (ed : Edition) (l : length bs < 2 ^ 63) where
+  finish-small : (instantOf z ≡ 0 → ⊥) → (o : Out Pool Found) → walk (question ed id (instantOf z)) noPool bs ≡ o → Near o → SmallAnswer (finish mark o)
   finish-small h (found x p) e k =
-      let i = name-inside bs id (instantOf z) (instant-finite (instantOf z) z refl h) x p e in
+      let i = name-inside bs id ed (instantOf z) (instant-finite (instantOf z) z refl h) x p e in
       record { to = (omega arith, omega arith) }
   finish-small h (refused n p) e k = record { to = k .to }
   finish-small h (cut p) e k = record { to = k .to }
   finish-small h (ended m p) e k = record { to = k .to }
 
-  pub ask-small : SmallAnswer (ask bs id z mark)
+  pub ask-small : SmallAnswer (ask bs id z mark ed)
   unfolding ask
   ask-small =
       pick-holds SmallAnswer (eqb (instantOf z) 0)
       (λ e. record { to = omega arith })
-      (λ e. finish-small (eqb-false (instantOf z) 0 e) (walk (question id (instantOf z)) noPool bs) refl
-      (walk-near (question id (instantOf z)) noPool bs))
+      (λ e. finish-small (eqb-false (instantOf z) 0 e) (walk (question ed id (instantOf z)) noPool bs) refl
+      (walk-near (question ed id (instantOf z)) noPool bs))
 
-  named-finish-small : (instantOf z ≡ 0 → ⊥) → (o : Out Known Found) → walk (naming (answerAt (instantOf z)) id) nothing bs ≡ o → Near o → SmallAnswer (finish mark o)
+  named-finish-small : (instantOf z ≡ 0 → ⊥) → (o : Out Known Found) → walk (naming (answerAt ed (instantOf z)) id) nothing bs ≡ o → Near o → SmallAnswer (finish mark o)
   named-finish-small h (found x p) e k =
-      let i = named-inside bs id (instantOf z) (instant-finite (instantOf z) z refl h) x p e in
+      let i = named-inside bs id ed (instantOf z) (instant-finite (instantOf z) z refl h) x p e in
       record { to = (omega arith, omega arith) }
   named-finish-small h (refused n p) e k = record { to = k .to }
   named-finish-small h (cut p) e k = record { to = k .to }
   named-finish-small h (ended m p) e k = record { to = k .to }
 
-  pub named-small : SmallAnswer (askNamed bs id z mark)
+  pub named-small : SmallAnswer (askNamed bs id z mark ed)
   unfolding askNamed
   named-small =
       pick-holds SmallAnswer (eqb (instantOf z) 0)
       (λ e. record { to = omega arith })
-      (λ e. named-finish-small (eqb-false (instantOf z) 0 e) (walk (naming (answerAt (instantOf z)) id) nothing bs) refl
-      (walk-near (naming (answerAt (instantOf z)) id) nothing bs))
+      (λ e. named-finish-small (eqb-false (instantOf z) 0 e) (walk (naming (answerAt ed (instantOf z)) id) nothing bs) refl
+      (walk-near (naming (answerAt ed (instantOf z)) id) nothing bs))
 
 bounded-small : (m : Mapping) → Bounded m → SmallMapping m
 bounded-small (Instants n a b) h = record { to = omega (arith, h .to) }

@@ -12,7 +12,7 @@ ghost use Rattle.named_fields.specs.Named.{askNamed};
 ghost use Rattle.receivers.specs.Receive.{fresh, Adds};
 ghost use Rattle.replies.specs.Reply.{Gives, Puts};
 ghost use Rattle.replies.specs.Functions.{readReply, numberReply, textReply, momentReply, previousOf, integerForm};
-ghost use Rattle.file_replies.specs.Functions.{markOf, answerReply, versionReply};
+ghost use Rattle.file_replies.specs.Functions.{markOf, answerReply, versionReply, editionOf};
 ghost use Rattle.capi_contracts.specs.Functions.{MapsLocal, kindForm, StepsView, Normalizes};
 ghost use Rattle.capi_contracts.specs.Received.{askReceived, askPlainReceived, askNamedReceived, locationReceived, MapsReceived, versionReceived, NormalizesReceived};
 ghost use Rattle.file_locations.specs.ByField.{locationBy};
@@ -29,20 +29,35 @@ pub extern "C" fn nzd_normalize(file: &[u8], out: &mut [u8]) -> u64
 
 // The marked question.
 #[no_mangle]
-pub extern "C" fn nzd_ask(file: &[u8], id: &[u8], ticks: i64, more: bool, out: &mut [i64; 7]) -> u64
-    ensures { λ r. ⌜ Gives (answerReply (askOf (now (file .entry)) (now (id .entry)) ticks (markOf more))) (now (out .entry)) r (now (out .exit)) ⌝ }
+pub extern "C" fn nzd_ask(
+    file: &[u8],
+    id: &[u8],
+    ticks: i64,
+    more: bool,
+    first: bool,
+    out: &mut [i64; 7],
+) -> u64
+    ensures { λ r. ⌜ Gives (answerReply (askOf (now (file .entry)) (now (id .entry)) ticks (markOf more) (editionOf first))) (now (out .entry)) r (now (out .exit)) ⌝ }
 {
     let mark = file_replies::mark_of(more);
-    let a = questions::ask(file, id, ticks, mark);
+    let edition = file_replies::edition_of(first);
+    let a = questions::ask(file, id, ticks, mark, edition);
     file_replies::give_answer(a, out)
 }
 
 // The plain question.
 #[no_mangle]
-pub extern "C" fn nzd_ask_plain(file: &[u8], id: &[u8], ticks: i64, out: &mut [i64; 7]) -> u64
-    ensures { λ r. ⌜ Gives (answerReply (askPlain (now (file .entry)) (now (id .entry)) ticks)) (now (out .entry)) r (now (out .exit)) ⌝ }
+pub extern "C" fn nzd_ask_plain(
+    file: &[u8],
+    id: &[u8],
+    ticks: i64,
+    first: bool,
+    out: &mut [i64; 7],
+) -> u64
+    ensures { λ r. ⌜ Gives (answerReply (askPlain (now (file .entry)) (now (id .entry)) ticks (editionOf first))) (now (out .entry)) r (now (out .exit)) ⌝ }
 {
-    let a = questions::ask_plain(file, id, ticks);
+    let edition = file_replies::edition_of(first);
+    let a = questions::ask_plain(file, id, ticks, edition);
     file_replies::give_answer(a, out)
 }
 
@@ -53,12 +68,14 @@ pub extern "C" fn nzd_ask_named(
     name: &[u8],
     ticks: i64,
     more: bool,
+    first: bool,
     out: &mut [i64; 7],
 ) -> u64
-    ensures { λ r. ⌜ Gives (answerReply (askNamed (now (file .entry)) (now (name .entry)) ticks (markOf more))) (now (out .entry)) r (now (out .exit)) ⌝ }
+    ensures { λ r. ⌜ Gives (answerReply (askNamed (now (file .entry)) (now (name .entry)) ticks (markOf more) (editionOf first))) (now (out .entry)) r (now (out .exit)) ⌝ }
 {
     let mark = file_replies::mark_of(more);
-    let a = named_questions::ask_named(file, name, ticks, mark);
+    let edition = file_replies::edition_of(first);
+    let a = named_questions::ask_named(file, name, ticks, mark, edition);
     file_replies::give_answer(a, out)
 }
 
@@ -144,15 +161,16 @@ pub extern "C" fn nzd_receiver_ask(
     id: &[u8],
     ticks: i64,
     more: bool,
+    first: bool,
     out: &mut [i64; 7],
 ) -> u64
-    ensures { λ x. ⌜ Gives (askReceived r (now (buffer .entry)) (now (id .entry)) ticks more) (now (out .entry)) x (now (out .exit)) ⌝ }
+    ensures { λ x. ⌜ Gives (askReceived r (now (buffer .entry)) (now (id .entry)) ticks more first) (now (out .entry)) x (now (out .exit)) ⌝ }
 {
     let held = r.held;
     if buffer.len() < held {
         return 15;
     }
-    nzd_ask(&buffer[..held], id, ticks, more, out)
+    nzd_ask(&buffer[..held], id, ticks, more, first, out)
 }
 
 // The plain question of what a receiver holds.
@@ -162,15 +180,16 @@ pub extern "C" fn nzd_receiver_ask_plain(
     buffer: &[u8],
     id: &[u8],
     ticks: i64,
+    first: bool,
     out: &mut [i64; 7],
 ) -> u64
-    ensures { λ x. ⌜ Gives (askPlainReceived r (now (buffer .entry)) (now (id .entry)) ticks) (now (out .entry)) x (now (out .exit)) ⌝ }
+    ensures { λ x. ⌜ Gives (askPlainReceived r (now (buffer .entry)) (now (id .entry)) ticks first) (now (out .entry)) x (now (out .exit)) ⌝ }
 {
     let held = r.held;
     if buffer.len() < held {
         return 15;
     }
-    nzd_ask_plain(&buffer[..held], id, ticks, out)
+    nzd_ask_plain(&buffer[..held], id, ticks, first, out)
 }
 
 // The named question of what a receiver holds.
@@ -181,15 +200,16 @@ pub extern "C" fn nzd_receiver_ask_named(
     name: &[u8],
     ticks: i64,
     more: bool,
+    first: bool,
     out: &mut [i64; 7],
 ) -> u64
-    ensures { λ x. ⌜ Gives (askNamedReceived r (now (buffer .entry)) (now (name .entry)) ticks more) (now (out .entry)) x (now (out .exit)) ⌝ }
+    ensures { λ x. ⌜ Gives (askNamedReceived r (now (buffer .entry)) (now (name .entry)) ticks more first) (now (out .entry)) x (now (out .exit)) ⌝ }
 {
     let held = r.held;
     if buffer.len() < held {
         return 15;
     }
-    nzd_ask_named(&buffer[..held], name, ticks, more, out)
+    nzd_ask_named(&buffer[..held], name, ticks, more, first, out)
 }
 
 // The instants that read as a local time, by what a receiver holds.

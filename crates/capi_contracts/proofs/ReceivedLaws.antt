@@ -1,5 +1,6 @@
 -- What a function says of what a receiver holds, from one return each. Assumes nothing.
-use mathlib.Core.Path.{refl, sym}
+use mathlib.Core.Bool.{Bool, true}
+use mathlib.Core.Path.{_≡_, refl, sym}
 use mathlib.Core.List.{List}
 use Prim.Native.Nat.{ℕ, _≤_, _<_}
 use native.Mathlib.Omega.{arith}
@@ -16,7 +17,7 @@ use Rattle.replies.specs.Reply.{Reply, refused, Gives}
 use Rattle.replies.proofs.ReplyLaws.{denied-code, gives-as}
 use Rattle.location_replies.proofs.LocationLaws.{location-as}
 use Rattle.capi_contracts.specs.Functions.{MapsLocal}
-use Rattle.capi_contracts.specs.Received.{replyOnHeld, locationReceived, MapsReceived}
+use Rattle.capi_contracts.specs.Received.{replyOnHeld, askReceived, askPlainReceived, locationReceived, MapsReceived}
 
 module _ (q : List ℕ → Reply) (r : Receiver) (d : List ℕ) (o : List ℤ) where
   pub full-gives : length d < r .held → Gives (replyOnHeld q r d) o 15 o
@@ -24,6 +25,10 @@ module _ (q : List ℕ → Reply) (r : Receiver) (d : List ℕ) (o : List ℤ) w
 
   pub held-gives : r .held ≤ length d → (x : ℕ) (e : List ℤ) → Gives (q (heldBytes r d)) o x e → Gives (replyOnHeld q r d) o x e
   held-gives l x e g = gives-as _ _ o x e (on-held r d (refused 15 0) q l) g
+
+-- the plain question of a receiver expects more
+pub plain-received : (r : Receiver) (d id : List ℕ) (z : ℤ) (first : Bool) → askPlainReceived r d id z first ≡ askReceived r d id z true first
+plain-received r d id z first = refl
 
 module _ (r : Receiver) (d : List ℕ) (field number : ℕ) (c : List Float) (o : List ℕ) where
   pub full-location : length d < r .held → GivesLocation (locationReceived r d field number) c o 15 c o

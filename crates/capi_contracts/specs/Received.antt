@@ -15,7 +15,7 @@ use Rattle.receivers.specs.Receive.{heldBytes}
 use Rattle.receivers.specs.OnHeld.{onHeld}
 use Rattle.receivers.specs.declared.Receiver.{Receiver}
 use Rattle.replies.specs.Reply.{refusal, Reply, refused, Gives}
-use Rattle.file_replies.specs.Functions.{rewrittenResult, markOf, answerReply, versionReply}
+use Rattle.file_replies.specs.Functions.{rewrittenResult, markOf, answerReply, versionReply, editionOf}
 use Rattle.file_locations.specs.ByField.{locationBy}
 use Rattle.capi_contracts.specs.Functions.{MapsLocal}
 
@@ -23,14 +23,14 @@ use Rattle.capi_contracts.specs.Functions.{MapsLocal}
 abbrev pub replyOnHeld : (List ℕ → Reply) → Receiver → List ℕ → Reply
 replyOnHeld q r d = onHeld (refused 15 0) q r d
 
-abbrev pub askReceived : Receiver → List ℕ → List ℕ → ℤ → Bool → Reply
-askReceived r d id z more = replyOnHeld (λ bs. answerReply (ask bs id z (markOf more))) r d
+abbrev pub askReceived : Receiver → List ℕ → List ℕ → ℤ → Bool → Bool → Reply
+askReceived r d id z more first = replyOnHeld (λ bs. answerReply (ask bs id z (markOf more) (editionOf first))) r d
 
-abbrev pub askPlainReceived : Receiver → List ℕ → List ℕ → ℤ → Reply
-askPlainReceived r d id z = replyOnHeld (λ bs. answerReply (askPlain bs id z)) r d
+abbrev pub askPlainReceived : Receiver → List ℕ → List ℕ → ℤ → Bool → Reply
+askPlainReceived r d id z first = replyOnHeld (λ bs. answerReply (askPlain bs id z (editionOf first))) r d
 
-abbrev pub askNamedReceived : Receiver → List ℕ → List ℕ → ℤ → Bool → Reply
-askNamedReceived r d name z more = replyOnHeld (λ bs. answerReply (askNamed bs name z (markOf more))) r d
+abbrev pub askNamedReceived : Receiver → List ℕ → List ℕ → ℤ → Bool → Bool → Reply
+askNamedReceived r d name z more first = replyOnHeld (λ bs. answerReply (askNamed bs name z (markOf more) (editionOf first))) r d
 
 -- a mapping is said by what holds of it: the result x and the output e, where the output was o
 pub record MapsReceived (r : Receiver) (d id : List ℕ) (local : ℤ) (o : List ℤ) (x : ℕ) (e : List ℤ) : Type 0 where

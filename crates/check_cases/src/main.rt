@@ -2,8 +2,8 @@
 // A line is `TICKS ID FILE` or `TICKS ID FRONT UNIT TIMES END`, where the file is the front, the unit so many times, and the end.
 // The instant is in ticks since 1970; the zone's ID, the file's parts and the times, three bytes, are in hexadecimal, `-` for none.
 // For each it writes the check's number and place, `0 0` for a well-formed file; the version text's number and place, with its length behind a
-// 0; and the number and place of the question as all there is, or 0, wall offset, savings, standard offset, start, end and name, the name in
-// hexadecimal.
+// 0; the number and place of the question as all there is under edition 2, or 0, wall offset, savings, standard offset, start, end and name, the
+// name in hexadecimal; and the same under edition 1.
 // The stored output comes from tests/make/check_cases.py.
 use answers::Answer;
 use answers::Found;
@@ -11,6 +11,7 @@ use answers::Mark;
 use field_checks::Verdict;
 use field_checks::VersionText;
 use libc::STDIN_FILENO;
+use zones::Edition;
 
 // An offset, in milliseconds.
 fn offset(ms: i64) {
@@ -65,7 +66,9 @@ fn run_file(s: &[u8], id: &[u8], ticks: i64) {
     cases::say(b" | ");
     show_version(checks::version_text(s));
     cases::say(b" | ");
-    show_answer(s, questions::ask(s, id, ticks, Mark::All));
+    show_answer(s, questions::ask(s, id, ticks, Mark::All, Edition::Two));
+    cases::say(b" | ");
+    show_answer(s, questions::ask(s, id, ticks, Mark::All, Edition::One));
     cases::say(b"\n");
 }
 

@@ -15,6 +15,7 @@ use Rattle.base.specs.Equal.{equal}
 use Rattle.base.proofs.EqualLaws.{equal-true, equal-refl}
 use Rattle.zones.specs.Content.{Zone}
 use Rattle.zones.specs.Parse.{parseZone}
+use Rattle.zones.specs.declared.Edition.{Edition}
 use Rattle.frames.specs.Frame.{Field}
 use Rattle.frames.specs.Fields.{fields}
 use Rattle.base.specs.All.{All, all-none, all-also}
@@ -82,14 +83,14 @@ asked-or-none f id = go (find-one (filePool (fields f)) id (fields f))
     go (inr n) = inr n
 
 -- WHAT A QUESTION THAT MEANS "THIS IS ALL" GIVES on a well-formed file
-pub agree : (f id : List ℕ) (z : ℤ) → WellFormed f → Agrees f (givenByAnswer (ask f id z Whole))
+pub agree : (ed : Edition) (f id : List ℕ) (z : ℤ) → WellFormed f → Agrees f (givenByAnswer (ask f id z Whole ed))
 unfolding ask
-agree f id z w = by-instant (eqb (instantOf z) 0) refl
+agree ed f id z w = by-instant (eqb (instantOf z) 0) refl
   where
-    in-range : InRange z → ((g : Field) × Asked f id g) ⊎ NoZone f id → Agrees f (givenByAnswer (ask f id z Whole))
-    in-range h (inl a) = subst⁻¹ (λ (x : Answer). Agrees f (givenByAnswer x)) (zone-there f id z (a .0) (length f) w (a .1) h (omega arith) .answered) answers
-    in-range h (inr n) = subst⁻¹ (λ (x : Answer). Agrees f (givenByAnswer x)) (missing-whole f id z w n h) no-zone
+    in-range : InRange z → ((g : Field) × Asked f id g) ⊎ NoZone f id → Agrees f (givenByAnswer (ask f id z Whole ed))
+    in-range h (inl a) = subst⁻¹ (λ (x : Answer). Agrees f (givenByAnswer x)) (zone-there ed f id z (a .0) (length f) w (a .1) h (omega arith) .answered) answers
+    in-range h (inr n) = subst⁻¹ (λ (x : Answer). Agrees f (givenByAnswer x)) (missing-whole ed f id z w n h) no-zone
 
-    by-instant : (b : Bool) → eqb (instantOf z) 0 ≡ b → Agrees f (givenByAnswer (ask f id z Whole))
+    by-instant : (b : Bool) → eqb (instantOf z) 0 ≡ b → Agrees f (givenByAnswer (ask f id z Whole ed))
     by-instant true e = rw e no-instant
     by-instant false e = in-range (eqb-false (instantOf z) 0 e) (asked-or-none f id)

@@ -15,7 +15,9 @@ use Rattle.base.specs.Equal.{equal}
 use Rattle.base.proofs.EqualLaws.{equal-true, equal-refl}
 use Rattle.zones.specs.Content.{Zone}
 use Rattle.zones.specs.Parse.{parseZone}
+use Rattle.zones.specs.Editions.{under}
 use Rattle.zones.specs.Lookup.{inZone}
+use Rattle.zones.specs.declared.Edition.{Edition}
 use Rattle.zones.proofs.SoundLaws.{zone-sound}
 use Rattle.ids.specs.Ids.{among}
 use Rattle.frames.specs.Frame.{Field}
@@ -41,7 +43,7 @@ pub record Passed (ts : List (List ℕ)) (id : List ℕ) (g : Field) : Type 0 wh
 no-keep : {M A G : Type 0} {n : ℕ} {m : M} → _≡_ {A = Content M A} (fault n) (keep m) → G
 no-keep e = clash cc
 
-module _ (ts : List (List ℕ)) (id : List ℕ) (t : ℕ) (x x′ : Memory) (y : Pool) (r : Alike ts x y) (g : Field) where
+module _ (ts : List (List ℕ)) (id : List ℕ) (ed : Edition) (t : ℕ) (x x′ : Memory) (y : Pool) (r : Alike ts x y) (g : Field) where
   -- field 0
   pool-beside : (stringsOf (g .body) ≡ ts) → (p : Parsed (List (List ℕ))) → parsePool (g .body) ≡ p → poolIn x p ≡ keep x′
       → (y′ : Pool) × (poolSays {A = Found} g p ≡ keep y′) × Alike ts x′ y′
@@ -82,7 +84,7 @@ module _ (ts : List (List ℕ)) (id : List ℕ) (t : ℕ) (x x′ : Memory) (y :
       go false e = let w : withId x (getD (x .pool) (z .id) []) ≡ x′ = cc in ap (λ (m : Memory). m .pool) (sym w)
 
   zone-beside : g .id ≡ 1 → (HasId ts id g → ⊥) → (p : Parsed Zone) → parseZone (length (x .pool)) (g .body) ≡ p → zoneIn x p ≡ keep x′
-      → (y′ : Pool) × (zoneSays (answerAt t) id y p ≡ keep y′) × Alike ts x′ y′
+      → (y′ : Pool) × (zoneSays (answerAt ed t) id y p ≡ keep y′) × Alike ts x′ y′
   zone-beside i o (got z q) e k =
       let w = read z q e in
       let n : equal (getD (stringsOf (y .body)) (z .id) []) id ≡ false = different w (equal (getD (stringsOf (y .body)) (z .id) []) id) refl in
@@ -101,11 +103,11 @@ module _ (ts : List (List ℕ)) (id : List ℕ) (t : ℕ) (x x′ : Memory) (y :
   zone-beside i o (bad n) e k = no-keep k
 
   -- a field that the check keeps, and that isn't the asked zone, is kept by the question
-  pub keeps : Passed ts id g → judged x (g .id) (g .start) (g .body) ≡ keep x′ → (y′ : Pool) × (says (answerAt t) id y g ≡ keep y′) × Alike ts x′ y′
+  pub keeps : Passed ts id g → judged x (g .id) (g .start) (g .body) ≡ keep x′ → (y′ : Pool) × (says (answerAt ed t) id y g ≡ keep y′) × Alike ts x′ y′
   unfolding judged poolKept zoneKept says
   keeps p k = go (eqb (g .id) 0) refl
     where
-      go : (b : Bool) → eqb (g .id) 0 ≡ b → (y′ : Pool) × (says (answerAt t) id y g ≡ keep y′) × Alike ts x′ y′
+      go : (b : Bool) → eqb (g .id) 0 ≡ b → (y′ : Pool) × (says (answerAt ed t) id y g ≡ keep y′) × Alike ts x′ y′
       go true h = rw h (pool-beside (p .pool-is (eqb-true (g .id) 0 h)) (parsePool (g .body)) refl (rw h at k))
       go false h =
           let n : g .id ≡ 0 → ⊥ = eqb-false (g .id) 0 h in
@@ -113,20 +115,20 @@ module _ (ts : List (List ℕ)) (id : List ℕ) (t : ℕ) (x x′ : Memory) (y :
           rw (h, ← (ap length (r .same))) (zone-beside o (p .other) (parseZone (length (x .pool)) (g .body)) refl (rw (h, eq-eqb (g .id) 1 o) at k))
 
   -- the asked zone answers
-  pub answers : (h : HasId ts id g) → judged x (g .id) (g .start) (g .body) ≡ keep x′ → says (answerAt t) id y g ≡ answer (answered y (inZone t (h .zone)))
+  pub answers : (h : HasId ts id g) → judged x (g .id) (g .start) (g .body) ≡ keep x′ → says (answerAt ed t) id y g ≡ answer (answered y (inZone t (under ed (h .zone))))
   unfolding judged zoneKept says
   answers h k =
       let n : g .id ≡ 0 → ⊥ = omega (arith, h .is-zone) in
       rw (ne-eqb (g .id) 0 n, ← (ap length (r .same))) (go (parseZone (length (x .pool)) (g .body)) refl (rw (ne-eqb (g .id) 0 n, eq-eqb (g .id) 1 (h .is-zone)) at k))
     where
-      go : (p : Parsed Zone) → parseZone (length (x .pool)) (g .body) ≡ p → zoneIn x p ≡ keep x′ → zoneSays (answerAt t) id y p ≡ answer (answered y (inZone t (h .zone)))
+      go : (p : Parsed Zone) → parseZone (length (x .pool)) (g .body) ≡ p → zoneIn x p ≡ keep x′ → zoneSays (answerAt ed t) id y p ≡ answer (answered y (inZone t (under ed (h .zone))))
       go (got z q) e m =
           let w = read z q e in
           let same : got (h .zone) (h .rest) ≡ got z q = sym (h .parsed) ∙ w .parsed in
           let i : h .zone ≡ z = cc in
           let b : getD (stringsOf (y .body)) (z .id) [] ≡ id =
           ap (λ (ss : List (List ℕ)). getD ss (z .id) []) (sym (r .same) ∙ w .pool-is) ∙ ap (λ (u : Zone). getD ts (u .id) []) (sym i) ∙ h .bytes in
-          rw (b, equal-refl id) (ap (λ (u : Zone). answer (answered y (inZone t u))) (sym i))
+          rw (b, equal-refl id) (ap (λ (u : Zone). answer (answered y (inZone t (under ed u)))) (sym i))
       go (bad n) e m = no-keep m
 
   -- and was read from the file's pool

@@ -16,6 +16,7 @@ use Rattle.base.specs.Equal.{equal}
 use Rattle.places.specs.Name.{judgeName, parseName}
 use Rattle.zones.specs.Content.{Zone, present, fixed}
 use Rattle.zones.specs.Parse.{zoneOf, afterFixedOffset, parseFixed, afterFlag, afterId, parseZone}
+use Rattle.zones.specs.declared.Edition.{Edition}
 use Rattle.ids.specs.Ids.{among}
 use Rattle.signed.specs.Instant.{biasedOf}
 use Rattle.frames.specs.Frame.{order, zeros, version, sized, field, frame, Field}
@@ -86,8 +87,8 @@ epoch-in-range e = omega arith
 
 -- so every first part of the file waits for "UTC" up to place 17 and then answers, and waits for "GMT" up to the byte at 17 and then
 -- says that there is no such zone
-pub utc-there : (k : ℕ) → k ≤ length file → There marked file utc (pos 0) zone k
-utc-there k l = zone-there file utc (pos 0) zone k well-formed asked epoch-in-range l
+pub utc-there : (ed : Edition) (k : ℕ) → k ≤ length file → There ed marked file utc (pos 0) zone k
+utc-there ed k l = zone-there ed file utc (pos 0) zone k well-formed asked epoch-in-range l
 
-pub gmt-missing : (k : ℕ) → k ≤ length file → Missing marked file gmt (pos 0) k
-gmt-missing k l = zone-missing file gmt (pos 0) k well-formed lacks epoch-in-range l
+pub gmt-missing : (ed : Edition) (k : ℕ) → k ≤ length file → Missing ed marked file gmt (pos 0) k
+gmt-missing ed k l = zone-missing ed file gmt (pos 0) k well-formed lacks epoch-in-range l

@@ -25,4 +25,6 @@ pub mod NamedTarget
 pub mod NamedNumbers
 pub mod NamedExample
 pub mod Received
+pub mod Editions
+pub mod EditionExample
 pub mod LocationTable

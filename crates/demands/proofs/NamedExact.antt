@@ -16,7 +16,9 @@ use Rattle.base.proofs.Tests.{by-order}
 use Rattle.signed.specs.Instant.{instantOf}
 use Rattle.pool.specs.Pool.{stringsOf}
 use Rattle.zones.specs.Content.{Zone}
+use Rattle.zones.specs.Editions.{under}
 use Rattle.zones.specs.Lookup.{inZone}
+use Rattle.zones.specs.declared.Edition.{Edition}
 use Rattle.aliases.specs.Field.{entriesOf}
 use Rattle.alias_lookup.specs.Lookup.{Named, here, unknown, deep, lookup, most}
 use Rattle.frames.specs.Frame.{Field}
@@ -49,14 +51,14 @@ use Rattle.demands.proofs.Agree.{asked-or-none}
 use Rattle.demands.proofs.NamedBeside.{Prior, Beside, named-keeps, named-answers, alias-says, resolvedAt, resolved-stops}
 
 -- STANDING
-pub standing-named : (bs more id : List ℕ) (z : ℤ) (mark : Mark) → StandingNamed bs more id z mark
+pub standing-named : (ed : Edition) (bs more id : List ℕ) (z : ℤ) (mark : Mark) → StandingNamed ed bs more id z mark
 unfolding askNamed
-standing-named bs more id z mark =
-    record { same = standing-job (naming (answerAt (instantOf z)) id) nothing bs more mark (eqb (instantOf z) 0); same-name = standing-name bs more id z }
+standing-named ed bs more id z mark =
+    record { same = standing-job (naming (answerAt ed (instantOf z)) id) nothing bs more mark (eqb (instantOf z) 0); same-name = standing-name bs more id z ed }
 
-pub asks-named : (bs id : List ℕ) (z : ℤ) (mark : Mark) → InRange z → askNamed bs id z mark ≡ finish mark (walk (naming (answerAt (instantOf z)) id) nothing bs)
+pub asks-named : (bs id : List ℕ) (z : ℤ) (mark : Mark) (ed : Edition) → InRange z → askNamed bs id z mark ed ≡ finish mark (walk (naming (answerAt ed (instantOf z)) id) nothing bs)
 unfolding askNamed
-asks-named bs id z mark h = rw (ne-eqb (instantOf z) 0 h)
+asks-named bs id z mark ed h = rw (ne-eqb (instantOf z) 0 h)
 
 not-three : (gs : List Field) → All (λ h. h .id ≤ 3) gs → All (λ h. h .id ≡ 3 → ⊥) gs → All (λ h. h .id ≤ 2) gs
 not-three [] a b = all-none
@@ -78,7 +80,7 @@ seen-none ts (x ∷ xs) a =
     let l : 2 ≤ x .id = all-head a in
     rw (ne-eqb (x .id) 1 (λ e. omega arith)) (seen-none ts xs (all-tail a))
 
-module _ (f id : List ℕ) where
+module _ (ed : Edition) (f id : List ℕ) where
   abbrev ts : List (List ℕ)
   ts = filePool (fields f)
 
@@ -106,7 +108,7 @@ module _ (f id : List ℕ) where
   record Reached (t : ℕ) (gs : List Field) (g : Field) : Type 0 where
     whole : listing 255 f .ending ≡ endAt (length f)
     known : Known
-    kept : pass (says (answerAt t) id) nothing gs ≡ next known
+    kept : pass (says (answerAt ed t) id) nothing gs ≡ next known
     checked : Memory
     after : Memory
     beside : Beside ts checked known
@@ -116,22 +118,22 @@ module _ (f id : List ℕ) where
   reach t gs g hs w e a =
       let c = walk-ended job start (w .memory) f (length f) (w .ends) in
       let q = pass-first (job .content) start (w .memory) gs (g ∷ hs) (subst (λ (xs : List Field). pass (job .content) start xs ≡ next (w .memory)) e (c .kept)) in
-      let u = lockstep (Beside ts) (Prior ts id) (job .content) (says (answerAt t) id) (λ x x′ y g′ p r k. named-keeps ts id t x x′ y r g′ p k) gs start (q .0) nothing a (begin-alike ts) (q .1) in
+      let u = lockstep (Beside ts) (Prior ts id) (job .content) (says (answerAt ed t) id) (λ x x′ y g′ p r k. named-keeps ts id ed t x x′ y r g′ p k) gs start (q .0) nothing a (begin-alike ts) (q .1) in
       let d = pass-head (job .content) (q .0) (w .memory) g hs (q .2) in
       record { whole = c .whole; known = u .0; kept = u .1; checked = q .0; after = d .0; beside = u .2; content = d .1 }
 
   -- the pool that it remembers behind field 0
-  reached-pool : (gs : List Field) (g : Field) (hs : List Field) → fields f ≡ gs ++ g ∷ hs → 0 < g .id → (k : Known) (t : ℕ) → pass (says (answerAt t) id) nothing gs ≡ next k → k .pool ≡ firstPool (fields f)
+  reached-pool : (gs : List Field) (g : Field) (hs : List Field) → fields f ≡ gs ++ g ∷ hs → 0 < g .id → (k : Known) (t : ℕ) → pass (says (answerAt ed t) id) nothing gs ≡ next k → k .pool ≡ firstPool (fields f)
   unfolding firstPool
   reached-pool [] g hs e i k t p =
       let n = chain-first f 4 g hs (rw e at (listing-chain f 255)) in
       absurd (omega (arith, n .0))
   reached-pool (g₀ ∷ gs) g hs e i k t p =
       let n = chain-first f 4 g₀ (gs ++ g ∷ hs) (rw e at (listing-chain f 255)) in
-      rw e (pass-first-pool id t g₀ gs k (n .0) (all-left gs (g ∷ hs) (n .1)) p .0)
+      rw e (pass-first-pool id ed t g₀ gs k (n .0) (all-left gs (g ∷ hs) (n .1)) p .0)
 
   -- what it remembers before field 3 is the file's pool and its zones
-  known-before : (gs : List Field) (g : Field) (hs : List Field) → fields f ≡ gs ++ g ∷ hs → g .id ≡ 3 → (k : Known) (t : ℕ) → pass (says (answerAt t) id) nothing gs ≡ next k
+  known-before : (gs : List Field) (g : Field) (hs : List Field) → fields f ≡ gs ++ g ∷ hs → g .id ≡ 3 → (k : Known) (t : ℕ) → pass (says (answerAt ed t) id) nothing gs ≡ next k
       → (k .zones ≡ seenOf ts (fields f)) × (k .pool ≡ firstPool (fields f)) × (stringsOf (firstPool (fields f) .body) ≡ ts)
   unfolding filePool firstPool
   known-before [] g hs e i k t p =
@@ -140,7 +142,7 @@ module _ (f id : List ℕ) where
   known-before (g₀ ∷ gs) g hs e i k t p =
       let c : Chain f false 0 4 (g₀ ∷ (gs ++ g ∷ hs)) = rw e at (listing-chain f 255) in
       let n = chain-first f 4 g₀ (gs ++ g ∷ hs) c in
-      let u = pass-first-pool id t g₀ gs k (n .0) (all-left gs (g ∷ hs) (n .1)) p in
+      let u = pass-first-pool id ed t g₀ gs k (n .0) (all-left gs (g ∷ hs) (n .1)) p in
       let two : 2 ≤ g .id = omega arith in
       let late : All (λ h. 2 ≤ h .id) (g ∷ hs) = all-also two (all-map (λ h q. omega arith) (chain-behind f false 0 4 (g₀ ∷ gs) g hs c)) in
       let q : seenOf (stringsOf (g₀ .body)) ((g₀ ∷ gs) ++ g ∷ hs) ≡ seenOf (stringsOf (g₀ .body)) (g₀ ∷ gs) =
@@ -152,86 +154,86 @@ module _ (f id : List ℕ) where
     t = instantOf z
 
     until : (g : Field) (k : ℕ) → k ≤ length f → FieldOf f g → (whole : listing 255 f .ending ≡ endAt (length f)) (o : Out Known Found)
-        → StopsAt (naming (answerAt t) id) nothing f (length f) whole g o k → finish More o ≡ finish Whole o → Until f id z g k
+        → StopsAt (naming (answerAt ed t) id) nothing f (length f) whole g o k → finish More o ≡ finish Whole o → Until ed f id z g k
     until g k l q whole o s m =
-        let part : FieldOf (take k f) g → askNamed (take k f) id z More ≡ askNamed f id z Whole
-        = λ b. asks-named (take k f) id z More h ∙ ap (finish More) (s .exactly .from-then (there-past f k l g b) ∙ s .given) ∙ m ∙ sym (asks-named f id z Whole h ∙ ap (finish Whole) (s .given)) in
+        let part : FieldOf (take k f) g → askNamed (take k f) id z More ed ≡ askNamed f id z Whole ed
+        = λ b. asks-named (take k f) id z More ed h ∙ ap (finish More) (s .exactly .from-then (there-past f k l g b) ∙ s .given) ∙ m ∙ sym (asks-named f id z Whole ed h ∙ ap (finish Whole) (s .given)) in
         record {
           before = λ b. by-order k (g .past)
-              (λ i. rw (asks-named (take k f) id z More h) (waits (walk (naming (answerAt t) id) nothing (take k f)) (s .exactly .before i)))
+              (λ i. rw (asks-named (take k f) id z More ed h) (waits (walk (naming (answerAt ed t) id) nothing (take k f)) (s .exactly .before i)))
               (λ i. absurd (b (past-there f k l g q i)));
           from-then = part;
-          same-name = λ b x e. sym (standing-name (take k f) (drop k f) id z x (part b ∙ e)) ∙ ap (λ (bs : List ℕ). nameOf bs x) (take-append-drop k f);
+          same-name = λ b x e. sym (standing-name (take k f) (drop k f) id z ed x (part b ∙ e)) ∙ ap (λ (bs : List ℕ). nameOf bs x) (take-append-drop k f);
         }
 
     -- A ZONE'S ID
-    by-zone : WellFormed f → (g : Field) → Asked f id g → (k : ℕ) → k ≤ length f → ByZone f id z g k
+    by-zone : WellFormed f → (g : Field) → Asked f id g → (k : ℕ) → k ≤ length f → ByZone ed f id z g k
     by-zone w g a k l =
         let low = all-map {Q = λ (e : Field). e .id ≤ 1} (λ g′ e. omega (arith, e .rising, a .has .is-zone)) (chain-split f false 0 4 (a .before) g (a .behind) (rw (a .splits) at (listing-chain f 255))) in
         let r = reach t (a .before) g (a .behind) w (a .splits) (prior (a .before) (g ∷ a .behind) (a .splits) (all-map (λ g′ e. omega arith) low) (none-before f id g w a)) in
-        let v : Found = answered (r .known .pool) (inZone t (a .has .zone)) in
+        let v : Found = answered (r .known .pool) (inZone t (under ed (a .has .zone))) in
         let o : Out Known Found = found v (g .past) in
-        let n : verdict g (says (answerAt t) id (r .known) g) ≡ stop o = ap (verdict g) (named-answers ts id t (r .checked) (r .after) (r .known) (r .beside) g (a .has) (r .content)) in
-        let s = stops-at (naming (answerAt t) id) nothing f (length f) (r .whole) (a .before) g (a .behind) (r .known) o (a .splits) (omega (arith, a .has .is-zone)) (r .kept) n k l in
-        let p : verdict g (askedSays (answerAt t) id (r .known .pool) g) ≡ stop (found v (g .past)) = ap (verdict g) (answers ts id t (r .checked) (r .after) (r .known .pool) (r .beside) g (a .has) (r .content)) in
-        let q : walk (question id t) noPool f ≡ found v (g .past) =
-        walk-stops (question id t) noPool f (length f) (r .whole) (a .before) g (a .behind) (r .known .pool) (found v (g .past)) (a .splits) (omega (arith, a .has .is-zone)) (pass-asked id t (a .before) nothing (r .known) low (r .kept)) p in
+        let n : verdict g (says (answerAt ed t) id (r .known) g) ≡ stop o = ap (verdict g) (named-answers ts id ed t (r .checked) (r .after) (r .known) (r .beside) g (a .has) (r .content)) in
+        let s = stops-at (naming (answerAt ed t) id) nothing f (length f) (r .whole) (a .before) g (a .behind) (r .known) o (a .splits) (omega (arith, a .has .is-zone)) (r .kept) n k l in
+        let p : verdict g (askedSays (answerAt ed t) id (r .known .pool) g) ≡ stop (found v (g .past)) = ap (verdict g) (answers ts id ed t (r .checked) (r .after) (r .known .pool) (r .beside) g (a .has) (r .content)) in
+        let q : walk (question ed id t) noPool f ≡ found v (g .past) =
+        walk-stops (question ed id t) noPool f (length f) (r .whole) (a .before) g (a .behind) (r .known .pool) (found v (g .past)) (a .splits) (omega (arith, a .has .is-zone)) (pass-asked id ed t (a .before) nothing (r .known) low (r .kept)) p in
         record {
           until = until g k l (field-of (a .before) g (a .behind) (a .splits)) (r .whole) o s refl;
-          answer-is = asks-named f id z Whole h ∙ ap (finish Whole) (s .given) ∙ sym (asks f id z Whole h ∙ ap (finish Whole) q);
+          answer-is = asks-named f id z Whole ed h ∙ ap (finish Whole) (s .given) ∙ sym (asks f id z Whole ed h ∙ ap (finish Whole) q);
         }
 
     -- and what it is
-    pub zone-given : WellFormed f → (g : Field) (a : Asked f id g) → ask f id z Whole ≡ In (answered (firstPool (fields f)) (inZone t (a .has .zone)))
+    pub zone-given : WellFormed f → (g : Field) (a : Asked f id g) → ask f id z Whole ed ≡ In (answered (firstPool (fields f)) (inZone t (under ed (a .has .zone))))
     zone-given w g a =
         let low = all-map {Q = λ (e : Field). e .id ≤ 1} (λ g′ e. omega (arith, e .rising, a .has .is-zone)) (chain-split f false 0 4 (a .before) g (a .behind) (rw (a .splits) at (listing-chain f 255))) in
         let r = reach t (a .before) g (a .behind) w (a .splits) (prior (a .before) (g ∷ a .behind) (a .splits) (all-map (λ g′ e. omega arith) low) (none-before f id g w a)) in
-        let v : Found = answered (r .known .pool) (inZone t (a .has .zone)) in
-        let p : verdict g (askedSays (answerAt t) id (r .known .pool) g) ≡ stop (found v (g .past)) = ap (verdict g) (answers ts id t (r .checked) (r .after) (r .known .pool) (r .beside) g (a .has) (r .content)) in
-        let q : walk (question id t) noPool f ≡ found v (g .past) =
-        walk-stops (question id t) noPool f (length f) (r .whole) (a .before) g (a .behind) (r .known .pool) (found v (g .past)) (a .splits) (omega (arith, a .has .is-zone)) (pass-asked id t (a .before) nothing (r .known) low (r .kept)) p in
+        let v : Found = answered (r .known .pool) (inZone t (under ed (a .has .zone))) in
+        let p : verdict g (askedSays (answerAt ed t) id (r .known .pool) g) ≡ stop (found v (g .past)) = ap (verdict g) (answers ts id ed t (r .checked) (r .after) (r .known .pool) (r .beside) g (a .has) (r .content)) in
+        let q : walk (question ed id t) noPool f ≡ found v (g .past) =
+        walk-stops (question ed id t) noPool f (length f) (r .whole) (a .before) g (a .behind) (r .known .pool) (found v (g .past)) (a .splits) (omega (arith, a .has .is-zone)) (pass-asked id ed t (a .before) nothing (r .known) low (r .kept)) p in
         let o : r .known .pool ≡ firstPool (fields f) = reached-pool (a .before) g (a .behind) (a .splits) (omega (arith, a .has .is-zone)) (r .known) t (r .kept) in
-        asks f id z Whole h ∙ ap (finish Whole) q ∙ ap (λ (y : Pool). In (answered y (inZone t (a .has .zone)))) o
+        asks f id z Whole ed h ∙ ap (finish Whole) q ∙ ap (λ (y : Pool). In (answered y (inZone t (under ed (a .has .zone))))) o
 
     -- NO ZONE'S ID, and a field 3
-    final-named : (g : Field) (p : Pool) (n : Named Zone) → finish More (resolvedAt t g p n) ≡ finish Whole (resolvedAt t g p n)
+    final-named : (g : Field) (p : Pool) (n : Named Zone) → finish More (resolvedAt ed t g p n) ≡ finish Whole (resolvedAt ed t g p n)
     final-named g p (here b) = refl
     final-named g p unknown = refl
     final-named g p deep = refl
 
-    given-named : (g : Field) (p : Pool) (n : Named Zone) → finish Whole (resolvedAt t g p n) ≡ givenBy t (g .place) p n
+    given-named : (g : Field) (p : Pool) (n : Named Zone) → finish Whole (resolvedAt ed t g p n) ≡ givenBy ed t (g .place) p n
     given-named g p (here b) = refl
     given-named g p unknown = refl
     given-named g p deep = refl
 
-    pub by-alias : WellFormed f → NoZone f id → (g : Field) → Aliases f g → (k : ℕ) → k ≤ length f → ByAlias f id z g k
+    pub by-alias : WellFormed f → NoZone f id → (g : Field) → Aliases f g → (k : ℕ) → k ≤ length f → ByAlias ed f id z g k
     by-alias w n g a k l =
         let c : Chain f false 0 4 (a .before ++ g ∷ a .behind) = rw (a .splits) at (listing-chain f 255) in
         let low = all-map {Q = λ (e : Field). e .id ≤ 2} (λ g′ e. omega (arith, a .is-aliases)) (chain-less f false 0 4 (a .before) g (a .behind) c (rw (a .is-aliases) refl)) in
         let none-before = all-left (a .before) (g ∷ a .behind) (subst (All (λ e. HasId ts id e → ⊥)) (a .splits) n) in
         let r = reach t (a .before) g (a .behind) w (a .splits) (prior (a .before) (g ∷ a .behind) (a .splits) low none-before) in
         let m : Named Zone = lookup (zoneIn (r .known .zones)) (entriesOf (stringsOf (r .known .pool .body)) (g .body)) most id in
-        let o : Out Known Found = resolvedAt t g (r .known .pool) m in
-        let v : verdict g (says (answerAt t) id (r .known) g) ≡ stop o =
-        ap (verdict g) (alias-says ts id t (r .checked) (r .after) (r .known) (r .beside) g (a .is-aliases) (r .content)) ∙ resolved-stops t g (r .known .pool) m in
-        let s = stops-at (naming (answerAt t) id) nothing f (length f) (r .whole) (a .before) g (a .behind) (r .known) o (a .splits) (omega (arith, a .is-aliases)) (r .kept) v k l in
+        let o : Out Known Found = resolvedAt ed t g (r .known .pool) m in
+        let v : verdict g (says (answerAt ed t) id (r .known) g) ≡ stop o =
+        ap (verdict g) (alias-says ts id ed t (r .checked) (r .after) (r .known) (r .beside) g (a .is-aliases) (r .content)) ∙ resolved-stops ed t g (r .known .pool) m in
+        let s = stops-at (naming (answerAt ed t) id) nothing f (length f) (r .whole) (a .before) g (a .behind) (r .known) o (a .splits) (omega (arith, a .is-aliases)) (r .kept) v k l in
         let e = known-before (a .before) g (a .behind) (a .splits) (a .is-aliases) (r .known) t (r .kept) in
         record {
           until = until g k l (field-of (a .before) g (a .behind) (a .splits)) (r .whole) o s (final-named g (r .known .pool) m);
-          answer-is = asks-named f id z Whole h ∙ ap (finish Whole) (s .given) ∙ given-named g (r .known .pool) m ∙ rw (e .0, e .1, e .2);
+          answer-is = asks-named f id z Whole ed h ∙ ap (finish Whole) (s .given) ∙ given-named g (r .known .pool) m ∙ rw (e .0, e .1, e .2);
         }
 
     -- NEITHER
-    by-neither : WellFormed f → NoZone f id → NoAliases f → (k : ℕ) → k ≤ length f → Unnamed f id z k
+    by-neither : WellFormed f → NoZone f id → NoAliases f → (k : ℕ) → k ≤ length f → Unnamed ed f id z k
     by-neither w n a k l =
         let s = upTo-first 3 (fields f) in
         let low = not-three (upTo 3 (fields f)) (upTo-low 3 (fields f)) (all-left (upTo 3 (fields f)) (s .0) (subst (All (λ e. e .id ≡ 3 → ⊥)) (s .1) a)) in
         let none-before = all-left (upTo 3 (fields f)) (s .0) (subst (All (λ e. HasId ts id e → ⊥)) (s .1) n) in
-        let x = absent-beside job (naming (answerAt t) id) (Beside ts) (Prior ts id) (λ x x′ y g′ p r e. named-keeps ts id t x x′ y r g′ p e) refl start (w .memory) nothing f (length f) (w .ends)
+        let x = absent-beside job (naming (answerAt ed t) id) (Beside ts) (Prior ts id) (λ x x′ y g′ p r e. named-keeps ts id ed t x x′ y r g′ p e) refl start (w .memory) nothing f (length f) (w .ends)
         (begin-alike ts) (prior (upTo 3 (fields f)) (s .0) (s .1) low none-before) k l in
         record {
-          before = λ b. rw (asks-named (take k f) id z More h) (waits (walk (naming (answerAt t) id) nothing (take k f)) (x .waits b));
-          from-then = λ q e b. asks-named (take k f) id z More h ∙ ap (finish More) (x .refuses q e b);
+          before = λ b. rw (asks-named (take k f) id z More ed h) (waits (walk (naming (answerAt ed t) id) nothing (take k f)) (x .waits b));
+          from-then = λ q e b. asks-named (take k f) id z More ed h ∙ ap (finish More) (x .refuses q e b);
         }
 
 -- a file has a field 3 or has none
@@ -253,13 +255,13 @@ aliases-or-none f = go (find-three (fields f))
     go (inr a) = inr a
 
 -- DEMAND 3 FOR THE NAMED QUESTION, of a well-formed file, any first part of it, and an instant in range
-pub named-part : (f id : List ℕ) (z : ℤ) (k : ℕ) → WellFormed f → InRange z → k ≤ length f → NamedPart f id z k
-named-part f id z k w h l =
+pub named-part : (ed : Edition) (f id : List ℕ) (z : ℤ) (k : ℕ) → WellFormed f → InRange z → k ≤ length f → NamedPart ed f id z k
+named-part ed f id z k w h l =
     record {
       which = which (asked-or-none f id);
-      zone = λ g a. by-zone f id z h w g a k l;
-      alias = λ n g a. by-alias f id z h w n g a k l;
-      neither = λ n a. by-neither f id z h w n a k l;
+      zone = λ g a. by-zone ed f id z h w g a k l;
+      alias = λ n g a. by-alias ed f id z h w n g a k l;
+      neither = λ n a. by-neither ed f id z h w n a k l;
     }
   where
     which : ((g : Field) × Asked f id g) ⊎ NoZone f id → ((g : Field) × Asked f id g) ⊎ (NoZone f id × (((g : Field) × Aliases f g) ⊎ NoAliases f))

@@ -18,6 +18,7 @@ use Rattle.texts.specs.Text.{textSized}
 use Rattle.pool.specs.Pool.{allStrings, counted}
 use Rattle.places.specs.Name.{judgeName, parseName}
 use Rattle.zones.specs.Content.{Zone, absent, fixed}
+use Rattle.zones.specs.declared.Edition.{Edition}
 use Rattle.zones.specs.Parse.{zoneOf, afterFixedOffset, parseFixed, afterFlag, afterId, parseZone}
 use Rattle.ids.specs.Ids.{among}
 use Rattle.aliases.specs.Dictionary.{keys, targetOf}
@@ -87,9 +88,9 @@ unfolding biasedOf
 epoch-in-range e = omega arith
 
 -- so every first part of the file waits for "B" up to place 21 and then gives what the whole file gives, which is the answer of "A"
-pub b-there : (k : ℕ) → k ≤ length file → ByAlias file b (pos 0) dictionary k
-b-there k l = by-alias file b (pos 0) epoch-in-range well-formed lacks dictionary aliases k l
+pub b-there : (ed : Edition) (k : ℕ) → k ≤ length file → ByAlias ed file b (pos 0) dictionary k
+b-there ed k l = by-alias ed file b (pos 0) epoch-in-range well-formed lacks dictionary aliases k l
 
-pub b-answers : OfTarget file b (pos 0) dictionary
+pub b-answers : (ed : Edition) → OfTarget ed file b (pos 0) dictionary
 unfolding filePool listing scan frame version zeros field sized order anyGroups readGroups textSized chars counted allStrings many ended parseZone afterId afterFlag parseFixed afterFixedOffset zoneOf parseName judgeName parseByte readSum parseAliases allEntries parseEntries parseEntry afterKey keys among equal lookup targetOf zoneIn zonesOf seenOf
-b-answers = alias-target file b (pos 0) dictionary content well-formed lacks aliases epoch-in-range refl
+b-answers ed = alias-target ed file b (pos 0) dictionary content well-formed lacks aliases epoch-in-range refl

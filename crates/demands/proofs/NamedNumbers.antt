@@ -24,6 +24,7 @@ use Rattle.frames.specs.Frame.{Field}
 use Rattle.frames.specs.Machine.{Out, found, refused, cut, ended, Content, bad, answer, keep, walk}
 use Rattle.answers.specs.Answers.{Pool, waiting}
 use Rattle.answers.specs.Numbers.{givenByAnswer}
+use Rattle.zones.specs.declared.Edition.{Edition}
 use Rattle.answers.specs.declared.Mark.{Mark}
 use Rattle.answers.specs.declared.Mark.the-variants.{More, All as Whole}
 use Rattle.answers.specs.declared.Found.{Found}
@@ -84,20 +85,20 @@ module _ {A : Type 0} (h : Pool → Zone → A) (x : List ℕ) where
   naming-numbers bs = walk-number (naming h x) OfNamed (λ i. Unit {0}) named-file (named-above 3) says-numbers nothing bs (any bs)
 
 -- A NAMED QUESTION GIVES 0 TO 12, 14, 18 OR 19, whatever the bytes, and never 13
-pub named-numbers : (bs x : List ℕ) (z : ℤ) (mark : Mark) → InTable OfNamed (givenByAnswer (askNamed bs x z mark))
+pub named-numbers : (bs x : List ℕ) (z : ℤ) (mark : Mark) (ed : Edition) → InTable OfNamed (givenByAnswer (askNamed bs x z mark ed))
 unfolding askNamed
-named-numbers bs x z mark = go (eqb (instantOf z) 0)
+named-numbers bs x z mark ed = go (eqb (instantOf z) 0)
   where
     by-mark : (m : Mark) (n p : ℕ) → OfQuestion n → InTable OfNamed (givenByAnswer (Refused (waiting m n) p))
     by-mark More n p h = named-question (not-yet refl)
     by-mark Whole n p h = named-question h
 
-    done : (o : Out Known Found) → Comes (naming (answerAt (instantOf z)) x) OfNamed (λ i. Unit {0}) named-file (named-above 3) o → InTable OfNamed (givenByAnswer (finish mark o))
+    done : (o : Out Known Found) → Comes (naming (answerAt ed (instantOf z)) x) OfNamed (λ i. Unit {0}) named-file (named-above 3) o → InTable OfNamed (givenByAnswer (finish mark o))
     done (found v p) h = tt
     done (refused n p) h = h
     done (cut p) h = by-mark mark 2 p (question-cut refl)
     done (ended m p) h = by-mark mark 12 p (no-zone refl)
 
-    go : (b : Bool) → InTable OfNamed (givenByAnswer (pick b (Refused 14 0) (finish mark (walk (naming (answerAt (instantOf z)) x) nothing bs))))
+    go : (b : Bool) → InTable OfNamed (givenByAnswer (pick b (Refused 14 0) (finish mark (walk (naming (answerAt ed (instantOf z)) x) nothing bs))))
     go true = named-question (no-instant refl)
-    go false = done (walk (naming (answerAt (instantOf z)) x) nothing bs) (naming-numbers (answerAt (instantOf z)) x bs)
+    go false = done (walk (naming (answerAt ed (instantOf z)) x) nothing bs) (naming-numbers (answerAt ed (instantOf z)) x bs)

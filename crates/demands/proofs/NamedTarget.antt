@@ -20,17 +20,16 @@ use Rattle.base.proofs.Tests.{clash}
 use Rattle.signed.specs.Instant.{instantOf}
 use Rattle.zones.specs.Content.{Zone}
 use Rattle.zones.specs.Parse.{parseZone}
-use Rattle.zones.specs.Lookup.{inZone}
+use Rattle.zones.specs.declared.Edition.{Edition}
 use Rattle.aliases.specs.Field.{entriesOf}
 use Rattle.alias_lookup.specs.Lookup.{here, Leads}
 use Rattle.alias_lookup.proofs.LookupLaws.{lookup-says}
 use Rattle.frames.specs.Frame.{Field}
 use Rattle.frames.specs.Fields.{fields}
 use Rattle.field_checks.specs.Check.{WellFormed, filePool, HasId}
-use Rattle.answers.specs.Answers.{answered}
 use Rattle.answers.specs.declared.Mark.the-variants.{All as Whole}
 use Rattle.answers.specs.declared.Answer.the-variants.{In}
-use Rattle.questions.specs.Question.{ask}
+use Rattle.questions.specs.Question.{ask, answerAt}
 use Rattle.named_fields.specs.Named.{Seen, zoneIn, seenIn, zonesOf, seenOf, askNamed}
 use Rattle.demands.specs.Zones.{InRange, Asked, NoZone}
 use Rattle.demands.specs.Named.{Aliases, firstPool, leadsTo, OfTarget}
@@ -80,15 +79,15 @@ module _ (ts : List (List ℕ)) (x : List ℕ) where
   no-seen (g ∷ gs) a = zone-append (zonesOf ts g) (seenOf ts gs) x (not-seen g (all-head a)) ∙ no-seen gs (all-tail a)
 
 -- THE TARGET'S ANSWER
-pub alias-target : (f id : List ℕ) (z : ℤ) (g : Field) (b : Zone) → WellFormed f → NoZone f id → Aliases f g → InRange z → leadsTo f id g ≡ here b → OfTarget f id z g
-alias-target f id z g b w n a h e =
+pub alias-target : (ed : Edition) (f id : List ℕ) (z : ℤ) (g : Field) (b : Zone) → WellFormed f → NoZone f id → Aliases f g → InRange z → leadsTo f id g ≡ here b → OfTarget ed f id z g
+alias-target ed f id z g b w n a h e =
     let l : Leads (zoneIn (seenOf (filePool (fields f)) (fields f))) (entriesOf (filePool (fields f)) (g .body)) 8 id b =
     rw e at (lookup-says (zoneIn (seenOf (filePool (fields f)) (fields f))) (entriesOf (filePool (fields f)) (g .body)) 8 id) in
-    let i : askNamed f id z Whole ≡ In (answered (firstPool (fields f)) (inZone (instantOf z) b)) = by-alias f id z h w n g a (length f) (omega arith) .answer-is ∙ rw e in
+    let i : askNamed f id z Whole ed ≡ In (answerAt ed (instantOf z) (firstPool (fields f)) b) = by-alias ed f id z h w n g a (length f) (omega arith) .answer-is ∙ rw e in
     record { zone = b; leads = l; number = rw i; as-target = i ∙ sym (go (l .last) (l .zone-is) (asked-or-none f (l .last))) }
   where
     go : (y : List ℕ) → zoneIn (seenOf (filePool (fields f)) (fields f)) y ≡ some b → ((g′ : Field) × Asked f y g′) ⊎ NoZone f y
-        → ask f y z Whole ≡ In (answered (firstPool (fields f)) (inZone (instantOf z) b))
+        → ask f y z Whole ed ≡ In (answerAt ed (instantOf z) (firstPool (fields f)) b)
     go y q (inr m) = let o : some b ≡ none = sym q ∙ no-seen (filePool (fields f)) y (fields f) m in clash cc
     go y q (inl p) =
         let k : Asked f y (p .0) = p .1 in
@@ -96,4 +95,4 @@ alias-target f id z g b w n a h e =
         ap (λ (gs : List Field). zoneIn (seenOf (filePool (fields f)) gs) y) (k .splits) ∙ none-seen (filePool (fields f)) y (k .before) (p .0 ∷ k .behind) (none-before f y (p .0) w k) ∙ first-seen (filePool (fields f)) y (p .0) (k .behind) (k .has) in
         let s : some b ≡ some (k .has .zone) = sym q ∙ o in
         let u : k .has .zone ≡ b = cc in
-        zone-given f y z h w (p .0) k ∙ ap (λ (v : Zone). In (answered (firstPool (fields f)) (inZone (instantOf z) v))) u
+        zone-given ed f y z h w (p .0) k ∙ ap (λ (v : Zone). In (answerAt ed (instantOf z) (firstPool (fields f)) v)) u

@@ -19,7 +19,10 @@ use Rattle.pool.specs.Index.{readStarts, startsIn}
 use Rattle.places.specs.Name.{judgeName, parseName}
 use Rattle.zones.specs.Content.{absent, fixed}
 use Rattle.zones.specs.Parse.{zoneOf, afterFixedOffset, parseFixed, afterFlag, afterId, parseZone}
+use Rattle.zones.specs.Editions.{under}
 use Rattle.zones.specs.Lookup.{fixedNameOf, inBody}
+use Rattle.zones.specs.declared.Edition.{Edition}
+use Rattle.zones.specs.declared.Edition.the-variants.{Two}
 use Rattle.frames.specs.Frame.{order, zeros, version, sized, field, frame, Field}
 use Rattle.frames.specs.Machine.{act, step, walk}
 use Rattle.frames.specs.Fields.{scan, listing}
@@ -64,8 +67,8 @@ epoch-in-range : InRange (pos 0)
 unfolding biasedOf
 epoch-in-range e = omega arith
 
-pub a-there : (k : ℕ) → k ≤ length nameless → There marked nameless a (pos 0) zone k
-a-there k l = zone-there nameless a (pos 0) zone k nameless-well-formed asked epoch-in-range l
+pub a-there : (ed : Edition) (k : ℕ) → k ≤ length nameless → There ed marked nameless a (pos 0) zone k
+a-there ed k l = zone-there ed nameless a (pos 0) zone k nameless-well-formed asked epoch-in-range l
 
 -- two equal strings "A", and a zone with the second for its ID
 abbrev second : List ℕ
@@ -94,7 +97,7 @@ utc place length = In (record {
 -- the name is the part that holds the string of the zone's own ID number: "A" at 8, the second "A" at 10, no bytes at 8; a name that has
 -- not arrived is not absent
 pub answers :
-    ask nameless a (pos 0) More ∷ ask second a (pos 0) More ∷ ask empty [] (pos 0) More ∷ ask cut a (pos 0) More ∷ ask cut a (pos 0) All ∷ []
+    ask nameless a (pos 0) More Two ∷ ask second a (pos 0) More Two ∷ ask empty [] (pos 0) More Two ∷ ask cut a (pos 0) More Two ∷ ask cut a (pos 0) All Two ∷ []
     ≡ utc 8 1 ∷ utc 10 1 ∷ utc 8 0 ∷ Refused 1 9 ∷ Refused 2 9 ∷ []
-unfolding ask says biasedOf walk iterate step act frame version zeros field order sized anyGroups readGroups many counted allStrings ended chars textSized equal readStarts startsIn parseZone afterId afterFlag parseFixed afterFixedOffset zoneOf parseByte parseName judgeName readSum fixedNameOf inBody
+unfolding ask says biasedOf walk iterate step act frame version zeros field order sized anyGroups readGroups many counted allStrings ended chars textSized equal readStarts startsIn parseZone afterId afterFlag parseFixed afterFixedOffset zoneOf parseByte parseName judgeName readSum fixedNameOf inBody under
 answers = refl

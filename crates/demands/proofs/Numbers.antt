@@ -29,6 +29,7 @@ use Rattle.pool.specs.Pool.{Pool as PoolContent, parsePool, stringsOf}
 use Rattle.pool.proofs.PoolLaws.{pool-faulty}
 use Rattle.zones.specs.Content.{Zone}
 use Rattle.zones.specs.Parse.{parseZone}
+use Rattle.zones.specs.declared.Edition.{Edition}
 use Rattle.ids.specs.Ids.{among}
 use Rattle.aliases.specs.Dictionary.{Dictionary}
 use Rattle.aliases.specs.Field.{parseAliases}
@@ -352,20 +353,20 @@ module _ {A : Type 0} (P : ℕ → Type 0) (of-file : (n : ℕ) → OfFile n →
   pub asking-numbers : (bs : List ℕ) → Comes (asking h id) P (λ i. Unit {0}) of-file above (walk (asking h id) noPool bs)
   asking-numbers bs = walk-number (asking h id) P (λ i. Unit {0}) of-file above said noPool bs (any bs)
 
-pub question-numbers : (bs id : List ℕ) (z : ℤ) (mark : Mark) → InTable OfQuestion (givenByAnswer (ask bs id z mark))
+pub question-numbers : (bs id : List ℕ) (z : ℤ) (mark : Mark) (ed : Edition) → InTable OfQuestion (givenByAnswer (ask bs id z mark ed))
 unfolding ask
-question-numbers bs id z mark = go (eqb (instantOf z) 0)
+question-numbers bs id z mark ed = go (eqb (instantOf z) 0)
   where
     by-mark : (m : Mark) (n p : ℕ) → OfQuestion n → InTable OfQuestion (givenByAnswer (No (waiting m n) p))
     by-mark More n p h = not-yet refl
     by-mark Whole′ n p h = h
 
-    done : (o : Out Pool Found) → Comes (question id (instantOf z)) OfQuestion (λ i. Unit {0}) ask-file ask-above o → InTable OfQuestion (givenByAnswer (finish mark o))
+    done : (o : Out Pool Found) → Comes (question ed id (instantOf z)) OfQuestion (λ i. Unit {0}) ask-file ask-above o → InTable OfQuestion (givenByAnswer (finish mark o))
     done (found x p) h = tt
     done (refused n p) h = h
     done (cut p) h = by-mark mark 2 p (question-cut refl)
     done (ended m p) h = by-mark mark 12 p (no-zone refl)
 
-    go : (b : Bool) → InTable OfQuestion (givenByAnswer (pick b (No 14 0) (finish mark (walk (question id (instantOf z)) noPool bs))))
+    go : (b : Bool) → InTable OfQuestion (givenByAnswer (pick b (No 14 0) (finish mark (walk (question ed id (instantOf z)) noPool bs))))
     go true = no-instant refl
-    go false = done (walk (question id (instantOf z)) noPool bs) (asking-numbers OfQuestion ask-file ask-above (answerAt (instantOf z)) id bs)
+    go false = done (walk (question ed id (instantOf z)) noPool bs) (asking-numbers OfQuestion ask-file ask-above (answerAt ed (instantOf z)) id bs)

@@ -19,7 +19,10 @@ use Rattle.pool.specs.Index.{readStarts, startsIn}
 use Rattle.places.specs.Name.{judgeName, parseName}
 use Rattle.zones.specs.Content.{absent, fixed}
 use Rattle.zones.specs.Parse.{zoneOf, afterFixedOffset, parseFixed, afterFlag, afterId, parseZone}
+use Rattle.zones.specs.Editions.{under}
 use Rattle.zones.specs.Lookup.{fixedNameOf, inBody}
+use Rattle.zones.specs.declared.Edition.{Edition}
+use Rattle.zones.specs.declared.Edition.the-variants.{Two}
 use Rattle.frames.specs.Frame.{order, zeros, version, sized, field, frame, Field}
 use Rattle.frames.specs.Machine.{act, step, walk}
 use Rattle.frames.specs.Fields.{scan, listing}
@@ -72,8 +75,8 @@ epoch-in-range : InRange (pos 0)
 unfolding biasedOf
 epoch-in-range e = omega arith
 
-pub a-there : (k : ℕ) → k ≤ length padded → There marked padded a (pos 0) zone k
-a-there k l = zone-there padded a (pos 0) zone k padded-well-formed asked epoch-in-range l
+pub a-there : (ed : Edition) (k : ℕ) → k ≤ length padded → There ed marked padded a (pos 0) zone k
+a-there ed k l = zone-there ed padded a (pos 0) zone k padded-well-formed asked epoch-in-range l
 
 -- the version and a field 0 with a size that begins so
 abbrev begun : List ℕ → List ℕ
@@ -85,9 +88,9 @@ limited s = begun (7 ∷ 3 ∷ 1 ∷ 65 ∷ 1 ∷ 66 ∷ 1 ∷ 67 ∷ 1 ∷ s)
 
 -- cut among the groups of 0: "not yet", or 2; a fifth byte with the top bit is 7; the limit counts the padding; a place behind padded sizes
 pub answers :
-    ask (begun (131 ∷ 128 ∷ [])) a (pos 0) More ∷ ask (begun (131 ∷ 128 ∷ 128 ∷ 128 ∷ [])) a (pos 0) All
-    ∷ ask (begun (131 ∷ 128 ∷ 128 ∷ 128 ∷ 128 ∷ [])) a (pos 0) More ∷ ask (limited (238 ∷ 255 ∷ 255 ∷ 1 ∷ [])) a (pos 0) More
-    ∷ ask (limited (238 ∷ 255 ∷ 255 ∷ 129 ∷ 0 ∷ [])) a (pos 0) More ∷ ask (padded ++ 2 ∷ []) (66 ∷ []) (pos 0) More ∷ []
+    ask (begun (131 ∷ 128 ∷ [])) a (pos 0) More Two ∷ ask (begun (131 ∷ 128 ∷ 128 ∷ 128 ∷ [])) a (pos 0) All Two
+    ∷ ask (begun (131 ∷ 128 ∷ 128 ∷ 128 ∷ 128 ∷ [])) a (pos 0) More Two ∷ ask (limited (238 ∷ 255 ∷ 255 ∷ 1 ∷ [])) a (pos 0) More Two
+    ∷ ask (limited (238 ∷ 255 ∷ 255 ∷ 129 ∷ 0 ∷ [])) a (pos 0) More Two ∷ ask (padded ++ 2 ∷ []) (66 ∷ []) (pos 0) More Two ∷ []
     ≡ Refused 1 4 ∷ Refused 2 4 ∷ Refused 7 4 ∷ Refused 1 13 ∷ Refused 4 13 ∷ Refused 12 18 ∷ []
-unfolding ask says biasedOf walk iterate step act frame version zeros field order sized anyGroups readGroups many counted allStrings ended chars textSized equal readStarts startsIn parseZone afterId afterFlag parseFixed afterFixedOffset zoneOf parseByte parseName judgeName readSum fixedNameOf inBody
+unfolding ask says biasedOf walk iterate step act frame version zeros field order sized anyGroups readGroups many counted allStrings ended chars textSized equal readStarts startsIn parseZone afterId afterFlag parseFixed afterFixedOffset zoneOf parseByte parseName judgeName readSum fixedNameOf inBody under
 answers = refl

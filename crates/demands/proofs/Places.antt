@@ -11,6 +11,7 @@ use Rattle.base.specs.All.{All}
 use Rattle.base.proofs.AllLaws.{all-head, all-tail}
 use Rattle.base.proofs.Tests.{pick-holds}
 use Rattle.signed.specs.Instant.{instantOf}
+use Rattle.zones.specs.declared.Edition.{Edition}
 use Rattle.frames.specs.Frame.{Field}
 use Rattle.frames.specs.Machine.{Out, found, refused, cut, ended, Content, bad, answer, keep, Job, verdict, onward, walk}
 use Rattle.frames.specs.Fields.{Ending, refusedAt, cutAt, endAt, listing, pass, outcome}
@@ -65,12 +66,12 @@ walk-place J m bs =
     subst⁻¹ (Ends (length bs)) (walk-pass J m bs) (by-pass J (length bs) (listing (J .last) bs .ending) (s .stops) (listing (J .last) bs .fields) m (s .inside))
 
 -- the question
-pub question-place : (bs id : List ℕ) (z : ℤ) (mark : Mark) → PlacedIn bs (givenByAnswer (ask bs id z mark))
+pub question-place : (bs id : List ℕ) (z : ℤ) (mark : Mark) (ed : Edition) → PlacedIn bs (givenByAnswer (ask bs id z mark ed))
 unfolding ask
-question-place bs id z mark =
+question-place bs id z mark ed =
     pick-holds (λ (a : Answer). PlacedIn bs (givenByAnswer a)) (eqb (instantOf z) 0)
     (λ e. record { place = omega arith })
-    (λ e. done (walk (question id (instantOf z)) noPool bs) (walk-place (question id (instantOf z)) noPool bs))
+    (λ e. done (walk (question ed id (instantOf z)) noPool bs) (walk-place (question ed id (instantOf z)) noPool bs))
   where
     done : (o : Out Pool Found) → Ends (length bs) o → PlacedIn bs (givenByAnswer (finish mark o))
     done (found x p) h = record { place = omega arith }

@@ -16,6 +16,7 @@ use Rattle.signed.specs.OffsetSum.{millisecondsOf}
 use Rattle.intervals.specs.Interval.{standardSum}
 use Rattle.zones.specs.Content.{Zone}
 use Rattle.zones.specs.Parse.{parseZone}
+use Rattle.zones.specs.declared.Edition.{Edition}
 use Rattle.zones.specs.declared.Found.{Found as Interval}
 use Rattle.frames.specs.Frame.{Field}
 use Rattle.frames.specs.Fields.{Listing, fields}
@@ -92,9 +93,9 @@ module _ (f : List ℕ) (w : WellFormed f) (b : Bytes f) where
       (moved-lacks (filePool (fields f)) id 4 (fields f) all-kept (zones-read f w) n))
 
   -- both answers are of the one interval of that zone that holds the instant
-  one-interval : (id : List ℕ) (z : ℤ) (u : Zone) → Right f id z u → Right (preferred f) id z u
-      → SameAnswer f (preferred f) (ask f id z Whole) (ask (preferred f) id z Whole)
-  one-interval id z u r s =
+  one-interval : (ed : Edition) (id : List ℕ) (z : ℤ) (u : Zone) → Right ed f id z u → Right ed (preferred f) id z u
+      → SameAnswer f (preferred f) (ask f id z Whole ed) (ask (preferred f) id z Whole ed)
+  one-interval ed id z u r s =
       let i : s .interval ≡ r .interval = r .only (s .interval) (s .of-zone) (s .holds) in
       let e : SameFound f (preferred f) (r .given) (s .given) = record {
         wall = r .wall-is ∙ sym (s .wall-is ∙ ap (λ (x : Interval). millisecondsOf (x .wall)) i);
@@ -109,21 +110,21 @@ module _ (f : List ℕ) (w : WellFormed f) (b : Bytes f) where
       } in
       rw (r .marked Whole, s .marked Whole) (both-answer e)
 
-  same-in-range : (id : List ℕ) (z : ℤ) → InRange z → ((g : Field) × Asked f id g) ⊎ NoZone f id
-      → SameAnswer f (preferred f) (ask f id z Whole) (ask (preferred f) id z Whole)
-  same-in-range id z h (inl a) =
+  same-in-range : (ed : Edition) (id : List ℕ) (z : ℤ) → InRange z → ((g : Field) × Asked f id g) ⊎ NoZone f id
+      → SameAnswer f (preferred f) (ask f id z Whole ed) (ask (preferred f) id z Whole ed)
+  same-in-range ed id z h (inl a) =
       let m = asked-moved id (a .0) (a .1) in
-      let s = right (preferred f) id z (m .0) (rewritten-well-formed f w b) (m .1) h in
-      one-interval id z (a .1 .has .zone) (right f id z (a .0) w (a .1) h) (subst (Right (preferred f) id z) (m .2) s)
-  same-in-range id z h (inr n) =
-      refusals f (preferred f) _ _ (missing-whole f id z w n h)
-      (missing-whole (preferred f) id z (rewritten-well-formed f w b) (lacks-moved id n) h)
+      let s = right ed (preferred f) id z (m .0) (rewritten-well-formed f w b) (m .1) h in
+      one-interval ed id z (a .1 .has .zone) (right ed f id z (a .0) w (a .1) h) (subst (Right ed (preferred f) id z) (m .2) s)
+  same-in-range ed id z h (inr n) =
+      refusals f (preferred f) _ _ (missing-whole ed f id z w n h)
+      (missing-whole ed (preferred f) id z (rewritten-well-formed f w b) (lacks-moved id n) h)
 
-  -- THE SAME ANSWERS: for every zone name and every instant, in range or not
-  pub same-answers : (id : List ℕ) (z : ℤ) → SameAnswer f (preferred f) (ask f id z Whole) (ask (preferred f) id z Whole)
+  -- THE SAME ANSWERS: for every zone name and every instant, in range or not, under either edition
+  pub same-answers : (ed : Edition) (id : List ℕ) (z : ℤ) → SameAnswer f (preferred f) (ask f id z Whole ed) (ask (preferred f) id z Whole ed)
   unfolding ask
-  same-answers id z = go (eqb (instantOf z) 0) refl
+  same-answers ed id z = go (eqb (instantOf z) 0) refl
     where
-      go : (t : Bool) → eqb (instantOf z) 0 ≡ t → SameAnswer f (preferred f) (ask f id z Whole) (ask (preferred f) id z Whole)
+      go : (t : Bool) → eqb (instantOf z) 0 ≡ t → SameAnswer f (preferred f) (ask f id z Whole ed) (ask (preferred f) id z Whole ed)
       go true e = rw e both-refuse
-      go false e = same-in-range id z (eqb-false (instantOf z) 0 e) (asked-or-none f id)
+      go false e = same-in-range ed id z (eqb-false (instantOf z) 0 e) (asked-or-none f id)

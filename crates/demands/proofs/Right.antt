@@ -17,9 +17,12 @@ use Rattle.pool.specs.Pool.{stringsOf}
 use Rattle.pool.specs.Index.{spanOf}
 use Rattle.pool.proofs.StringLaws.{span-inside, span-string}
 use Rattle.zones.specs.Content.{Zone}
+use Rattle.zones.specs.Editions.{under}
 use Rattle.zones.specs.Lookup.{inZone}
+use Rattle.zones.specs.declared.Edition.{Edition}
 use Rattle.zones.specs.declared.Found.{Found as Interval}
 use Rattle.zones.proofs.SoundLaws.{zone-sound}
+use Rattle.zones.proofs.EditionLaws.{under-sound}
 use Rattle.zones.proofs.RangeLaws.{zone-found}
 use Rattle.zones.proofs.PartitionLaws.{lookup-holds, lookup-only}
 use Rattle.frames.specs.Frame.{Field}
@@ -60,11 +63,11 @@ record Known (f : List ℕ) (ts : List (List ℕ)) (id : List ℕ) (g : Field) :
 field-located : (f : List ℕ) (g : Field) → FieldOf f g → Located f (record { start = g .start; body = g .body })
 field-located f g o = record { within = omega (arith, o .ends, o .within); part = o .bytes }
 
-go-on : (f : List ℕ) (ts : List (List ℕ)) (id : List ℕ) (t : ℕ) (x x′ : Memory) (y : Pool) (g : Field) → Known f ts id g → Beside f ts x y
-    → judged x (g .id) (g .start) (g .body) ≡ keep x′ → (y′ : Pool) × (says (answerAt t) id y g ≡ keep y′) × Beside f ts x′ y′
-go-on f ts id t x x′ y g k r e =
-    let w = keeps ts id t x x′ y (r .alike) g (k .passes) e in
-    (w .0, w .1, record { alike = w .2; located = by-kept (Located f) id t y g (w .0) (w .1) (r .located) (field-located f g (k .is-field)) })
+go-on : (f : List ℕ) (ts : List (List ℕ)) (id : List ℕ) (ed : Edition) (t : ℕ) (x x′ : Memory) (y : Pool) (g : Field) → Known f ts id g → Beside f ts x y
+    → judged x (g .id) (g .start) (g .body) ≡ keep x′ → (y′ : Pool) × (says (answerAt ed t) id y g ≡ keep y′) × Beside f ts x′ y′
+go-on f ts id ed t x x′ y g k r e =
+    let w = keeps ts id ed t x x′ y (r .alike) g (k .passes) e in
+    (w .0, w .1, record { alike = w .2; located = by-kept (Located f) id ed t y g (w .0) (w .1) (r .located) (field-located f g (k .is-field)) })
 
 known : (f : List ℕ) (ts : List (List ℕ)) (id : List ℕ) (gs : List Field) → All (Passed ts id) gs → All (FieldOf f) gs → All (Known f ts id) gs
 known f ts id [] a b = all-none
@@ -83,34 +86,34 @@ name-is f y i l h =
     ∙ span-string d k h)
 
 -- of the asked zone
-pub right : (f id : List ℕ) (z : ℤ) (g : Field) → WellFormed f → (a : Asked f id g) → InRange z → Right f id z (a .has .zone)
-right f id z g w a h =
+pub right : (ed : Edition) (f id : List ℕ) (z : ℤ) (g : Field) → WellFormed f → (a : Asked f id g) → InRange z → Right ed f id z (a .has .zone)
+right ed f id z g w a h =
     let t : ℕ = instantOf z in
     let ts : List (List ℕ) = filePool (fields f) in
-    let zone : Zone = a .has .zone in
+    let zone : Zone = under ed (a .has .zone) in
     let fin : Finite t = instant-finite t z refl h in
-    let ok = zone-sound (length ts) (g .body) zone (a .has .rest) (a .has .parsed) .0 in
+    let ok = under-sound ed (length ts) (a .has .zone) (zone-sound (length ts) (g .body) (a .has .zone) (a .has .rest) (a .has .parsed) .0) in
     let c = walk-ended job start (w .memory) f (length f) (w .ends) in
     let q = pass-first (job .content) start (w .memory) (a .before) (g ∷ a .behind)
     (subst (λ (gs : List Field). pass (job .content) start gs ≡ next (w .memory)) (a .splits) (c .kept)) in
     let low = all-map {Q = λ (e : Field). e .id ≤ 1} (λ g′ e. omega (arith, e .rising, a .has .is-zone))
     (chain-split f false 0 4 (a .before) g (a .behind) (rw (a .splits) at (listing-chain f 255))) in
     let fs = all-left (a .before) (g ∷ a .behind) (subst (All (FieldOf f)) (a .splits) (chain-fields f false 0 4 (fields f) (listing-chain f 255))) in
-    let u = lockstep (Beside f ts) (Known f ts id) (job .content) (question id t .content) (λ x x′ y g′ k r e. go-on f ts id t x x′ y g′ k r e)
+    let u = lockstep (Beside f ts) (Known f ts id) (job .content) (question ed id t .content) (λ x x′ y g′ k r e. go-on f ts id ed t x x′ y g′ k r e)
     (a .before) start (q .0) noPool (known f ts id (a .before) (passed f id (a .before) (g ∷ a .behind) (a .splits) low (none-before f id g w a)) fs)
     (record { alike = begin-alike ts; located = record { within = omega arith; part = refl } }) (q .1) in
     let p = pass-head (job .content) (q .0) (w .memory) g (a .behind) (q .2) in
     let y : Pool = u .0 in
     let i : Interval = inZone t zone in
-    let s = answers ts id t (q .0) (p .0) y (u .2 .alike) g (a .has) (p .1) in
-    let o = walk-answer (question id t) noPool f (length f) (c .whole) (a .before) g (a .behind) y (answered y i) (a .splits) (omega (arith, a .has .is-zone)) (u .1) s in
+    let s = answers ts id ed t (q .0) (p .0) y (u .2 .alike) g (a .has) (p .1) in
+    let o = walk-answer (question ed id t) noPool f (length f) (c .whole) (a .before) g (a .behind) y (answered y i) (a .splits) (omega (arith, a .has .is-zone)) (u .1) s in
     let l = lookup-holds (length ts) t zone ok fin in
-    let same : stringsOf (y .body) ≡ ts = sym (u .2 .alike .same) ∙ zone-pool ts id t (q .0) (p .0) y (u .2 .alike) g (a .has) (p .1) in
+    let same : stringsOf (y .body) ≡ ts = sym (u .2 .alike .same) ∙ zone-pool ts id ed t (q .0) (p .0) y (u .2 .alike) g (a .has) (p .1) in
     record {
-      number-is = ap numberOf (asks f id z _ h ∙ ap (finish _) o);
+      number-is = ap numberOf (asks f id z _ ed h ∙ ap (finish _) o);
       given = answered y i;
-      plain = asks f id z _ h ∙ ap (finish _) o;
-      marked = λ mark. asks f id z mark h ∙ ap (finish mark) o;
+      plain = asks f id z _ ed h ∙ ap (finish _) o;
+      marked = λ mark. asks f id z mark ed h ∙ ap (finish mark) o;
       interval = i;
       of-zone = l .0;
       holds = l .1;
@@ -129,7 +132,8 @@ right f id z g w a h =
 pub zone-asked : (f : List ℕ) (g : Field) → ZoneIn f g → (x : List ℕ) → HasId (filePool (fields f)) x g → Asked f x g
 zone-asked f g i x k = record { before = i .before; behind = i .behind; splits = i .splits; has = k }
 
--- DEMAND 2, FOR READERS: every well-formed file, every zone of it, every instant from year 1 to year 9999
+-- DEMAND 2, FOR READERS: every well-formed file, every zone of it, every instant from year 1 to year 9999, under either
+-- edition
 pub demand-2 : (f : List ℕ) → WellFormed f → (g : Field) → ZoneIn f g → Answered f g
 unfolding zone-asked
 demand-2 f w g i =
@@ -140,5 +144,5 @@ demand-2 f w g i =
     record {
       zone = k .zone;
       parsed = e;
-      right = λ z h. right f (getD ts (k .zone .id) []) z g w (zone-asked f g i (getD ts (k .zone .id) []) own) h;
+      right = λ ed z h. right ed f (getD ts (k .zone .id) []) z g w (zone-asked f g i (getD ts (k .zone .id) []) own) h;
     }

@@ -8,6 +8,7 @@ use lib.Dec.{eqb}
 use Rattle.base.specs.Pick.{pick}
 use Rattle.base.proofs.Tests.{never}
 use Rattle.signed.specs.Instant.{instantOf}
+use Rattle.zones.specs.declared.Edition.{Edition}
 use Rattle.frames.specs.Machine.{Out, found, refused, cut, ended, final, Job, walk}
 use Rattle.frames.proofs.GrowthLaws.{walk-stable}
 use Rattle.answers.specs.Answers.{numberOf, noPool}
@@ -49,6 +50,6 @@ standing-job J m bs more mark false h =
 
 -- "Take any bytes, any zone name and any instant, asked with more expected. If that gives anything but 'not yet', then whatever bytes
 -- follow, the bytes so lengthened give the same answer or refusal, asked with more expected or as all there is."
-pub standing : (bs more id : List ℕ) (z : ℤ) (mark : Mark) → (numberOf (ask bs id z More) ≡ 1 → ⊥) → ask (bs ++ more) id z mark ≡ ask bs id z More
+pub standing : (bs more id : List ℕ) (z : ℤ) (mark : Mark) (ed : Edition) → (numberOf (ask bs id z More ed) ≡ 1 → ⊥) → ask (bs ++ more) id z mark ed ≡ ask bs id z More ed
 unfolding ask
-standing bs more id z mark = standing-job (question id (instantOf z)) noPool bs more mark (eqb (instantOf z) 0)
+standing bs more id z mark ed = standing-job (question ed id (instantOf z)) noPool bs more mark (eqb (instantOf z) 0)

@@ -28,6 +28,8 @@ use Rattle.tails.specs.Tail.{afterTime, parseTime, afterDay, parseDay, afterMon
 use Rattle.tails.specs.Tail.{afterStandardName, afterOffset, parseStandard, afterSavings, parseSavings, afterDaylightName, parseDaylight, parseTail}
 use Rattle.zones.specs.Parse.{zoneOf, afterTail, parseTailed, afterTailByte, afterEnd, afterIntervals, afterCount, parseListed}
 use Rattle.zones.specs.Parse.{afterFixedOffset, parseFixed, afterFlag, afterId, parseZone}
+use Rattle.zones.specs.Editions.{under}
+use Rattle.zones.specs.declared.Edition.the-variants.{Two}
 use Rattle.zones.specs.Lookup.{holding, inList, inTail, behindList, fixedNameOf, inBody}
 use Rattle.ids.specs.Ids.{among}
 use Rattle.frames.specs.Frame.{order, zeros, version, sized, field, frame, Field}
@@ -87,7 +89,7 @@ valuesOf (In x) = values (x .wall) (x .savings) (x .standard) (nameOf file x) (x
 valuesOf (Refused n p) = none
 
 abbrev asked : ℤ → Values
-asked z = valuesOf (askPlain file (90 ∷ []) z)
+asked z = valuesOf (askPlain file (90 ∷ []) z Two)
 
 -- ticks of a Unix second
 abbrev at : ℕ → ℤ
@@ -103,5 +105,5 @@ pub answers :
     ∷ values (pos 3600000) (pos 0) (pos 3600000) (83 ∷ []) (at 1698541200) (at 1711846800)
     ∷ values (pos 7200000) (pos 3600000) (pos 3600000) (68 ∷ []) (at 1711846800) (at 1729990800)
     ∷ []
-unfolding ask says biasedOf walk iterate step act frame version zeros field order sized anyGroups readGroups many counted allStrings ended chars textSized equal readStarts startsIn parseZone afterId afterFlag parseFixed afterFixedOffset zoneOf parseByte parseName judgeName readSum parseListed afterCount afterIntervals afterEnd afterTailByte parseTailed afterTail behind readMoment fromCount parseInterval afterStart parseDetails afterName afterWall judgeStandard parseTail parseDaylight afterDaylightName parseSavings afterSavings parseStandard afterOffset afterStandardName parseRule afterByte parseMonth afterMonth parseDay afterDay parseTime afterTime byteOk monthOk dayOk timeOk sumOk mostDay monthLength leapDay holding inList inTail behindList fixedNameOf inBody lookup lastAt nextAfter yearBefore searchFrom yearOf estimate standardIn daylightIn occurrence subtracted fallsOn moved onOrAfter onOrBefore monthDay dayNumber daysBefore yearStart
+unfolding ask says biasedOf walk iterate step act frame version zeros field order sized anyGroups readGroups many counted allStrings ended chars textSized equal readStarts startsIn parseZone afterId afterFlag parseFixed afterFixedOffset zoneOf parseByte parseName judgeName readSum parseListed afterCount afterIntervals afterEnd afterTailByte parseTailed afterTail behind readMoment fromCount parseInterval afterStart parseDetails afterName afterWall judgeStandard parseTail parseDaylight afterDaylightName parseSavings afterSavings parseStandard afterOffset afterStandardName parseRule afterByte parseMonth afterMonth parseDay afterDay parseTime afterTime byteOk monthOk dayOk timeOk sumOk mostDay monthLength leapDay holding inList inTail behindList fixedNameOf inBody under lookup lastAt nextAfter yearBefore searchFrom yearOf estimate standardIn daylightIn occurrence subtracted fallsOn moved onOrAfter onOrBefore monthDay dayNumber daysBefore yearStart
 answers = refl

@@ -10,6 +10,7 @@ use Rattle.base.specs.Pick.{pick}
 use Rattle.base.specs.Numbers.{numberGiven}
 use Rattle.signed.specs.Instant.{biasedOf, ticksOf, InRange}
 use Rattle.frames.specs.Machine.{Out, found, refused, cut, ended, walk}
+use Rattle.zones.specs.declared.Edition.the-variants.{Two}
 use Rattle.answers.specs.Answers.{Pool, noPool}
 use Rattle.answers.specs.Numbers.{givenByAnswer}
 use Rattle.answers.specs.declared.Answer.{Answer}
@@ -85,5 +86,5 @@ module _ (f id : List ℕ) (local : ℤ) (r : Mapping) (m : MapsTo f id local r)
           (counted c, only-if (ReadsAs f id local) r c 17 0 (counted c))
       go (Denied n p) k =
           let w : r ≡ Refused n p = m .refuses (pos 0) n p epoch-in k in
-          not-asked n (subst (λ (y : Answer). InTable OfQuestion (givenByAnswer y)) k (question-numbers f id (pos 0) All))
+          not-asked n (subst (λ (y : Answer). InTable OfQuestion (givenByAnswer y)) k (question-numbers f id (pos 0) All Two))
           (ap (λ (x : Mapping). numberGiven (givenByMapping x)) (sym w) ∙ e)

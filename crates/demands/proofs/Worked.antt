@@ -20,6 +20,7 @@ use Rattle.pool.specs.Pool.{allStrings, counted}
 use Rattle.pool.specs.Index.{readStarts, startsIn}
 use Rattle.base.specs.Equal.{equal}
 use Rattle.places.specs.Name.{judgeName, parseName}
+use Rattle.zones.specs.Editions.{under}
 use Rattle.zones.specs.Lookup.{fixedNameOf, inBody}
 use Rattle.zones.specs.Parse.{zoneOf, afterFixedOffset, parseFixed, afterFlag, afterId, parseZone}
 use Rattle.frames.specs.Frame.{order, zeros, version, sized, field, frame}
@@ -29,5 +30,5 @@ use Rattle.questions.specs.Question.{ask}
 use Rattle.demands.specs.Cases.{Case, given, cases}
 
 pub worked : map (λ (c : Case). given (c .asked)) cases ≡ map (λ (c : Case). c .expected) cases
-unfolding biasedOf unzigzagOf anyGroups readGroups writeGroups fixedFrom readSum fromCount readMoment chars textSized leapDay monthLength daysBefore yearStart dayNumber mostDay monthDay onOrAfter onOrBefore moved fallsOn occurrence subtracted byteOk monthOk dayOk timeOk afterTime parseTime afterDay parseDay afterMonth parseMonth afterByte parseRule allStrings counted readStarts startsIn equal judgeName parseName fixedNameOf inBody zoneOf afterFixedOffset parseFixed afterFlag afterId parseZone order zeros version sized field frame act step walk says ask parseByte ended many iterate
+unfolding biasedOf unzigzagOf anyGroups readGroups writeGroups fixedFrom readSum fromCount readMoment chars textSized leapDay monthLength daysBefore yearStart dayNumber mostDay monthDay onOrAfter onOrBefore moved fallsOn occurrence subtracted byteOk monthOk dayOk timeOk afterTime parseTime afterDay parseDay afterMonth parseMonth afterByte parseRule allStrings counted readStarts startsIn equal judgeName parseName fixedNameOf inBody under zoneOf afterFixedOffset parseFixed afterFlag afterId parseZone order zeros version sized field frame act step walk says ask parseByte ended many iterate
 worked = refl

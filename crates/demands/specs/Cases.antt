@@ -18,6 +18,7 @@ use Rattle.calendar.specs.Calendar.{dayNumber}
 use Rattle.rules.specs.declared.Rule.{Rule}
 use Rattle.occurrences.specs.Rules.{fallsOn, occurrence, subtracted}
 use Rattle.tails.specs.Tail.{parseRule}
+use Rattle.zones.specs.declared.Edition.the-variants.{Two}
 use Rattle.questions.specs.Question.{ask, askPlain}
 use Rattle.answers.specs.Answers.{nameOf}
 use Rattle.answers.specs.Numbers.{givenByAnswer}
@@ -68,8 +69,8 @@ abbrev pub given : Asking → Given
 given (writing v) = ofForm (countForm v)
 given (reading read s) = told (givenByNumber (read s))
 given (rule s y) = ofRule y (parseRule s)
-given (question bs id z mark) = ofAnswer bs (ask bs id z mark)
-given (plain bs id z) = ofAnswer bs (askPlain bs id z)
+given (question bs id z mark) = ofAnswer bs (ask bs id z mark Two)
+given (plain bs id z) = ofAnswer bs (askPlain bs id z Two)
 
 pub record Case : Type 0 where
   pub asked : Asking

@@ -9,3 +9,4 @@ pub mod Normalizes
 pub mod Places
 pub mod Named
 pub mod Received
+pub mod Editions

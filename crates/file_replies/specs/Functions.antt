@@ -5,6 +5,8 @@ use mathlib.Core.List.{[], _∷_}
 use lib.IntN.{pos}
 use Rattle.field_checks.specs.declared.VersionText.{VersionText}
 use Rattle.field_checks.specs.declared.VersionText.the-variants.{Part as TextPart, Refused as NoText}
+use Rattle.zones.specs.declared.Edition.{Edition}
+use Rattle.zones.specs.declared.Edition.the-variants.{One, Two}
 use Rattle.answers.specs.declared.Mark.{Mark}
 use Rattle.answers.specs.declared.Mark.the-variants.{More, All}
 use Rattle.answers.specs.declared.Answer.{Answer}
@@ -24,6 +26,11 @@ rewrittenResult (Unwritten n p) = refusal n p
 abbrev pub markOf : Bool → Mark
 markOf true = More
 markOf false = All
+
+-- Ask 11: "Questions take an edition, 1 or 2, and no third can be named": whether it is the first
+abbrev pub editionOf : Bool → Edition
+editionOf true = One
+editionOf false = Two
 
 -- "An answer carries wall offset, savings, the name as a part of the lent bytes, and the interval's start and end."; after savings, "the standard
 -- offset"

@@ -5,9 +5,10 @@ use field_checks::Verdict;
 use field_checks::VersionText;
 use rewrite::Rewritten;
 use wall_times::Mapping;
+use zones::Edition;
 ghost use mathlib.Core.Path.{_≡_};
 ghost use Rattle.replies.specs.Reply.{Gives};
-ghost use Rattle.file_replies.specs.Functions.{rewrittenResult, markOf, answerReply, mappingReply, versionReply};
+ghost use Rattle.file_replies.specs.Functions.{rewrittenResult, markOf, answerReply, mappingReply, versionReply, editionOf};
 ghost use Rattle.file_replies.specs.Small.{SmallRewritten, SmallAnswer, SmallMapping, SmallVersion};
 
 // The result of normalizing.
@@ -28,6 +29,15 @@ pub fn mark_of(more: bool) -> Mark
         return Mark::More;
     }
     Mark::All
+}
+
+pub fn edition_of(first: bool) -> Edition
+    ensures { λ r. ⌜ r ≡ editionOf first ⌝ }
+{
+    if first {
+        return Edition::One;
+    }
+    Edition::Two
 }
 
 // The numbers of an answer.

@@ -5,6 +5,7 @@ use lib.Dec.{leb}
 use lib.IntN.{ℤ}
 use lib.ListN.{length, take}
 use Rattle.base.specs.Pick.{pick}
+use Rattle.zones.specs.declared.Edition.the-variants.{Two}
 use Rattle.questions.specs.Question.{ask, askPlain}
 use Rattle.answers.specs.Answers.{nameOf}
 use Rattle.answers.specs.declared.Mark.the-variants as mark
@@ -23,11 +24,11 @@ unfoldable pub lineOf : List ℕ → Answer → List ℕ
 lineOf s (In f) = answerLine (f .wall) (f .savings) (f .standard) (nameOf s f)
 lineOf s (Refused number place) = refusalLine number place
 
--- an unmarked line asks the plain question, `part` says "more may come" and `all` "this is all"
+-- an unmarked line asks the plain question, `part` says "more may come" and `all` "this is all"; Ask 11: "the program's lines mean 2"
 unfoldable pub askedBy : List ℕ → List ℕ → ℤ → Kind → Answer
-askedBy s zone t Plain = askPlain s zone t
-askedBy s zone t Part = ask s zone t mark.More
-askedBy s zone t All = ask s zone t mark.All
+askedBy s zone t Plain = askPlain s zone t Two
+askedBy s zone t Part = ask s zone t mark.More Two
+askedBy s zone t All = ask s zone t mark.All Two
 
 -- the ID is the line's front; 16 for a line that isn't understood
 unfoldable pub replyTo : List ℕ → List ℕ → Line → List ℕ

@@ -9,6 +9,7 @@ use answers::Mark;
 use base::Wrote;
 use lines::Kind;
 use lines::Line;
+use zones::Edition;
 
 // The line that the program writes for a question line, with the file s. It has at most 65,605 bytes: a name of at most 65,536, three
 // numbers of at most 21, and six more.
@@ -29,9 +30,9 @@ fn ask(s: &[u8], zone: &[u8], t: i64, kind: Kind) -> Answer
     ensures { λ r. ⌜ r ≡ askedBy (now (s .entry)) (now (zone .entry)) t kind ⌝ }
 {
     match kind {
-        Kind::Plain => questions::ask_plain(s, zone, t),
-        Kind::Part => questions::ask(s, zone, t, Mark::More),
-        Kind::All => questions::ask(s, zone, t, Mark::All),
+        Kind::Plain => questions::ask_plain(s, zone, t, Edition::Two),
+        Kind::Part => questions::ask(s, zone, t, Mark::More, Edition::Two),
+        Kind::All => questions::ask(s, zone, t, Mark::All, Edition::Two),
     }
 }
 

@@ -17,12 +17,15 @@ use Rattle.intervals.specs.Scan.{scanFrom, unscanned, scanned}
 use Rattle.intervals.proofs.ScanLaws.{advance-closed, advance-next, advance-over}
 use Rattle.intervals.specs.Sound.{Rising, ListOk}
 use Rattle.tails.specs.declared.NamedTail.{NamedTail}
-use Rattle.zones.specs.Content.{untailed, tailed, Body, fixed, listed, Zone}
+use Rattle.zones.specs.Content.{Ending, untailed, tailed, Body, fixed, listed, Zone}
 use Rattle.zones.specs.Parse.{parseZone}
 use Rattle.zones.specs.Sound.{BodyOk}
-use Rattle.zones.specs.Lookup.{zeroOffset, until, holding, inList, inTail, behindList, inBody, answerOf}
-use Rattle.lookups.specs.View.{heldUntil, bodyRead, readOf}
+use Rattle.zones.specs.Editions.{nameless, under}
+use Rattle.zones.specs.Lookup.{zeroOffset, until, holding, inList, inTail, behindList, fixedNameOf, inBody, inZone, answerOf}
+use Rattle.lookups.specs.View.{heldUntil, bodyRead, readOf, fixedName}
 use Rattle.zones.proofs.SoundLaws.{zone-sound}
+use Rattle.zones.specs.declared.Edition.{Edition}
+use Rattle.zones.specs.declared.Edition.the-variants.{One, Two}
 use Rattle.zones.specs.declared.Found.{Found}
 use Rattle.zones.specs.declared.Answer.{Answer}
 use Rattle.zones.specs.declared.Answer.the-variants.{In, Refused as Denied}
@@ -66,28 +69,45 @@ held-is pool t end (i ∷ is) h =
 abbrev pub tailAnswer : ℕ → Scan → NamedTail → Found
 tailAnswer t c n = pick (ltb t (n .tail .start)) (heldUntil c (n .tail .start)) (inTail t n)
 
-abbrev pub answerRead : ℕ → ZoneRead → Answer
-answerRead t (Fixed id offset n form) = In (record { wall = offset; savings = zeroOffset; name = n; start = startOfTime; end = endOfTime })
-answerRead t (Listed id c form) = In (heldUntil c endOfTime)
-answerRead t (Tailed id c n form) = In (tailAnswer t c n)
-answerRead t (Refused k) = Denied k
+abbrev pub answerRead : Edition → ℕ → ZoneRead → Answer
+answerRead ed t (Fixed id offset n form) = In (record { wall = offset; savings = zeroOffset; name = fixedName ed id n; start = startOfTime; end = endOfTime })
+answerRead ed t (Listed id c form) = In (heldUntil c endOfTime)
+answerRead ed t (Tailed id c n form) = In (tailAnswer t c n)
+answerRead ed t (Refused k) = Denied k
 
-body-answer : (pool t : ℕ) (form : Bool) (id : ℕ) (b : Body) → Finite t → BodyOk pool b → answerRead t (bodyRead t form id b) ≡ In (inBody t id b)
+list-answer : (ed : Edition) (pool t : ℕ) (form : Bool) (id : ℕ) (is : List Interval) (end : ℕ) (e : Ending) → Finite t → BodyOk pool (listed is end e)
+    → answerRead ed t (bodyRead t form id (listed is end e)) ≡ In (inBody t id (listed is end e))
 unfolding inBody behindList
-body-answer pool t form id (fixed offset n) f h = refl
-body-answer pool t form id (listed is end untailed) f h =
+list-answer ed pool t form id is end untailed f h =
     rw (h .1, lt-ltb t endOfTime (omega (arith, f .high))) (ap In (held-is pool t endOfTime is (h .0)))
-body-answer pool t form id (listed is end (tailed n)) f h =
+list-answer ed pool t form id is end (tailed n) f h =
     ap (λ (m : ℕ). In (pick (ltb t m) (heldUntil (scanned t is) m) (inTail t n))) (h .1 .2 .starts)
     ∙ ap (λ (x : Found). In (pick (ltb t end) x (inTail t n))) (held-is pool t end is (h .0))
 
-answer-read : (pool t : ℕ) (form : Bool) (s : List ℕ) (p : Parsed Zone) → p ≡ parseZone pool s → Finite t → answerRead t (readOf t form p) ≡ answerOf t p
-unfolding readOf
-answer-read pool t form s (bad k) e f = refl
-answer-read pool t form s (got z r) e f = body-answer pool t form (z .id) (z .body) f (zone-sound pool s z r (sym e) .0 .body-ok)
+zone-answer : (ed : Edition) (pool t : ℕ) (form : Bool) (id : ℕ) (b : Body) → Finite t → BodyOk pool b
+    → answerRead ed t (bodyRead t form id b) ≡ In (inZone t (under ed (record { id = id; body = b })))
+unfolding inBody fixedNameOf nameless under
+zone-answer One pool t form id (fixed offset n) f h = refl
+zone-answer Two pool t form id (fixed offset n) f h = refl
+zone-answer One pool t form id (listed is end e) f h = list-answer One pool t form id is end e f h
+zone-answer Two pool t form id (listed is end e) f h = list-answer Two pool t form id is end e f h
 
-pub answer-is : (pool t : ℕ) (form : Bool) (s : List ℕ) (r : ZoneRead) → Finite t → r ≡ readOf t form (parseZone pool s) → answerRead t r ≡ answerOf t (parseZone pool s)
-answer-is pool t form s r f e = ap (answerRead t) e ∙ answer-read pool t form s (parseZone pool s) refl f
+answer-read : (ed : Edition) (pool t : ℕ) (form : Bool) (s : List ℕ) (p : Parsed Zone) → p ≡ parseZone pool s → Finite t
+    → answerRead ed t (readOf t form p) ≡ answerOf ed t p
+unfolding readOf
+answer-read ed pool t form s (bad k) e f = refl
+answer-read ed pool t form s (got z r) e f = zone-answer ed pool t form (z .id) (z .body) f (zone-sound pool s z r (sym e) .0 .body-ok)
+
+pub answer-is : (ed : Edition) (pool t : ℕ) (form : Bool) (s : List ℕ) (r : ZoneRead) → Finite t → r ≡ readOf t form (parseZone pool s)
+    → answerRead ed t r ≡ answerOf ed t (parseZone pool s)
+answer-is ed pool t form s r f e = ap (answerRead ed t) e ∙ answer-read ed pool t form s (parseZone pool s) refl f
+
+pub fixed-is : (ed : Edition) (pool t : ℕ) (form : Bool) (s : List ℕ) (id offset n : ℕ) (b : Bool) (r : ℕ) → Finite t
+    → Fixed id offset n b ≡ readOf t form (parseZone pool s) → r ≡ fixedName ed id n
+    → In (record { wall = offset; savings = zeroOffset; name = r; start = startOfTime; end = endOfTime }) ≡ answerOf ed t (parseZone pool s)
+fixed-is ed pool t form s id offset n b r f e g =
+    ap (λ (m : ℕ). In (record { wall = offset; savings = zeroOffset; name = m; start = startOfTime; end = endOfTime })) g
+    ∙ answer-is ed pool t form s (Fixed id offset n b) f e
 
 -- before the tail's start, and from it on
 pub before-tail : (t : ℕ) (c : Scan) (n : NamedTail) (r : Found) → t < n .tail .start → r ≡ heldUntil c (n .tail .start) → In r ≡ In (tailAnswer t c n)

@@ -9,6 +9,8 @@ use Rattle.intervals.specs.Scan.{scanned}
 use Rattle.intervals.specs.declared.Scan.{Scan}
 use Rattle.zones.specs.Content.{untailed, tailed, Body, fixed, listed, Zone}
 use Rattle.zones.specs.Lookup.{until, fixedNameOf}
+use Rattle.zones.specs.declared.Edition.{Edition}
+use Rattle.zones.specs.declared.Edition.the-variants.{One, Two}
 use Rattle.zones.specs.declared.Found.{Found}
 use Rattle.lookups.specs.declared.ZoneRead.{ZoneRead}
 use Rattle.lookups.specs.declared.ZoneRead.the-variants.{Fixed, Listed, Tailed, Refused as ZoneRefused}
@@ -33,3 +35,8 @@ readOf t form (bad n) = ZoneRefused n
 abbrev pub formOf : Bool → Parsed Zone → ZoneForm
 formOf form (got z r) = Good (z .id) form
 formOf form (bad n) = FormRefused n
+
+-- the name of a fixed zone under an edition, from the ID and the name that the walk keeps
+abbrev pub fixedName : Edition → ℕ → ℕ → ℕ
+fixedName One id n = id
+fixedName Two id n = n

@@ -5,6 +5,7 @@ use intervals::Scan;
 use intervals::ScanRead;
 use tails::NamedTail;
 use zones::Answer;
+use zones::Edition;
 use zones::Found;
 use zones::ZoneEnd;
 use zones::ZoneFront;
@@ -18,7 +19,7 @@ ghost use Rattle.recurrence.specs.Tails.{TailOk};
 ghost use Rattle.pieces.specs.Form.{piecesPreferred, dataPreferred};
 ghost use Rattle.zones.specs.Parse.{parseIntervals, parseZone};
 ghost use Rattle.zones.specs.Lookup.{verdictOf, answerOf, inTail};
-ghost use Rattle.lookups.specs.View.{heldUntil, readOf, formOf};
+ghost use Rattle.lookups.specs.View.{heldUntil, readOf, formOf, fixedName};
 
 // A whole zone, with what an instant needs of it, and whether its transitions are in the writer's form.
 pub enum ZoneRead {
@@ -134,20 +135,33 @@ fn in_tail(t: u64, n: NamedTail) -> Found
     }
 }
 
-// The interval of a zone that holds the instant t, all of the zone checked.
-pub fn find(s: &[u8], pool: u64, t: u64) -> Answer
+// The name of a fixed zone, which has the ID id and by what follows its offset the name n.
+fn fixed_name(edition: Edition, id: u64, n: u64) -> u64
+    ensures { λ r. ⌜ r ≡ fixedName edition id n ⌝ }
+{
+    match edition {
+        Edition::One => id,
+        Edition::Two => n,
+    }
+}
+
+// The interval of a zone that holds the instant t under an edition, all of the zone checked.
+pub fn find(s: &[u8], pool: u64, t: u64, edition: Edition) -> Answer
     requires { ⌜ Finite t ⌝ }
-    ensures { λ r. ⌜ r ≡ answerOf t (parseZone pool (now (s .entry))) ⌝ }
+    ensures { λ r. ⌜ r ≡ answerOf edition t (parseZone pool (now (s .entry))) ⌝ }
 {
     match read_zone(s, pool, t, false) {
         ZoneRead::Refused(k) => Answer::Refused(k),
-        ZoneRead::Fixed(_, offset, n, _) => Answer::In(Found {
-            wall: offset,
-            savings: 86400000,
-            name: n,
-            start: 0,
-            end: END,
-        }),
+        ZoneRead::Fixed(id, offset, n, _) => {
+            let name = fixed_name(edition, id, n);
+            Answer::In(Found {
+                wall: offset,
+                savings: 86400000,
+                name: name,
+                start: 0,
+                end: END,
+            })
+        }
         ZoneRead::Listed(_, c, _) => Answer::In(held_until(c, END)),
         ZoneRead::Tailed(_, c, n, _) => {
             let tail = n.tail;

@@ -1,14 +1,16 @@
 // Asks one name of each of the files that the lines of its input spell, at one instant, and checks the file.
 // A line is `TICKS NAME FILE` or `TICKS NAME FRONT UNIT TIMES END`, where the file is the front, the unit so many times, and the end.
 // The instant is in ticks since 1970; the name, the file's parts and the times, three bytes, are in hexadecimal, `-` for none.
-// For each it writes the number and place of the named question with more to come, or 0, wall offset, savings, standard offset, start, end
-// and name, the name in hexadecimal; the same as all there is; and the check's number and place, `0 0` for a well-formed file.
+// For each it writes the number and place of the named question with more to come under edition 2, or 0, wall offset, savings, standard offset,
+// start, end and name, the name in hexadecimal; the same as all there is; that under edition 1; and the check's number and place, `0 0` for a
+// well-formed file.
 // The stored output comes from tests/make/name_cases.py.
 use answers::Answer;
 use answers::Found;
 use answers::Mark;
 use field_checks::Verdict;
 use libc::STDIN_FILENO;
+use zones::Edition;
 
 // An offset, in milliseconds.
 fn offset(ms: i64) {
@@ -49,8 +51,18 @@ fn show_verdict(v: Verdict) {
 }
 
 fn run_file(s: &[u8], name: &[u8], ticks: i64) {
-    show_answer(s, named_questions::ask_named(s, name, ticks, Mark::More));
-    show_answer(s, named_questions::ask_named(s, name, ticks, Mark::All));
+    show_answer(
+        s,
+        named_questions::ask_named(s, name, ticks, Mark::More, Edition::Two),
+    );
+    show_answer(
+        s,
+        named_questions::ask_named(s, name, ticks, Mark::All, Edition::Two),
+    );
+    show_answer(
+        s,
+        named_questions::ask_named(s, name, ticks, Mark::All, Edition::One),
+    );
     show_verdict(checks::check(s));
     cases::say(b"\n");
 }

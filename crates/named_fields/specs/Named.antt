@@ -15,6 +15,7 @@ use Rattle.texts.specs.declared.Text.the-variants.{Part, Refused as Untext}
 use Rattle.pool.specs.Pool.{stringsOf}
 use Rattle.zones.specs.Content.{Zone}
 use Rattle.zones.specs.Parse.{parseZone}
+use Rattle.zones.specs.declared.Edition.{Edition}
 use Rattle.aliases.specs.Dictionary.{Dictionary}
 use Rattle.aliases.specs.Field.{parseAliases}
 use Rattle.alias_lookup.specs.Lookup.{Named, here, unknown, deep, lookup, most}
@@ -91,6 +92,6 @@ says h x k g =
 abbrev pub naming : {A : Type 0} → (Pool → Zone → A) → List ℕ → Job Known A
 naming h x = record { last = 3; content = says h x }
 
--- the zone that x names, at the signed tick z
-unfoldable pub askNamed : List ℕ → List ℕ → ℤ → Mark → Answer
-askNamed bs x z mark = pick (eqb (instantOf z) 0) (Refused 14 0) (finish mark (walk (naming (answerAt (instantOf z)) x) nothing bs))
+-- the zone that x names, at the signed tick z, under an edition
+unfoldable pub askNamed : List ℕ → List ℕ → ℤ → Mark → Edition → Answer
+askNamed bs x z mark ed = pick (eqb (instantOf z) 0) (Refused 14 0) (finish mark (walk (naming (answerAt ed (instantOf z)) x) nothing bs))

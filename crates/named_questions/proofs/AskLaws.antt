@@ -22,6 +22,7 @@ use Rattle.frames.specs.Frame.{Field}
 use Rattle.frames.specs.Machine.{Out, found, refused, cut, ended, Content, bad as fault, answer, keep, walk}
 use Rattle.frames.specs.Mapped.{mapContent, mapOut}
 use Rattle.frames.proofs.MapLaws.{walk-mapped}
+use Rattle.zones.specs.declared.Edition.{Edition}
 use Rattle.answers.specs.Answers.{Pool, answerOf}
 use Rattle.answers.specs.declared.Mark.{Mark}
 use Rattle.answers.specs.declared.Found.{Found}
@@ -86,39 +87,39 @@ told-is h (refused n p) = refl
 told-is h (cut p) = refl
 told-is h (ended m p) = refl
 
-pub named-outcome : {M : Type 0} (t : ℕ) (s : List ℕ) (m : Pool) (o : Out M Held) (r : Located) → NamedAs s m o r
-    → outcomeAt t (locatedOut s m r) ≡ outcomeOf (mapOut (ofHeld (answerAt t)) o)
-named-outcome t s m o r n =
-    told-is (ofHeld (answerAt t)) (locatedOut s m r)
-    ∙ ap (λ (q : Out (Unit {0}) Held). outcomeOf (mapOut (ofHeld (answerAt t)) q)) (sym (n .goes))
-    ∙ sym (told-is (ofHeld (answerAt t)) o)
+pub named-outcome : {M : Type 0} (ed : Edition) (t : ℕ) (s : List ℕ) (m : Pool) (o : Out M Held) (r : Located) → NamedAs s m o r
+    → outcomeAt ed t (locatedOut s m r) ≡ outcomeOf (mapOut (ofHeld (answerAt ed t)) o)
+named-outcome ed t s m o r n =
+    told-is (ofHeld (answerAt ed t)) (locatedOut s m r)
+    ∙ ap (λ (q : Out (Unit {0}) Held). outcomeOf (mapOut (ofHeld (answerAt ed t)) q)) (sym (n .goes))
+    ∙ sym (told-is (ofHeld (answerAt ed t)) o)
 
 -- of all the bytes
-module _ (t : ℕ) (x s : List ℕ) where
+module _ (ed : Edition) (t : ℕ) (x s : List ℕ) where
   abbrev all : Out Known Held
   all = walk (naming held x) nothing s
 
-  pub out-walk : (r : Outcome) → r ≡ outcomeOf (mapOut (ofHeld (answerAt t)) all) → r ≡ outcomeOf (walk (naming (answerAt t) x) nothing s)
-  out-walk r e = e ∙ ap outcomeOf (sym (named-walk (answerAt t) x s))
+  pub out-walk : (r : Outcome) → r ≡ outcomeOf (mapOut (ofHeld (answerAt ed t)) all) → r ≡ outcomeOf (walk (naming (answerAt ed t) x) nothing s)
+  out-walk r e = e ∙ ap outcomeOf (sym (named-walk (answerAt ed t) x s))
 
-  pub out-refused : (n p : ℕ) → all ≡ refused n p → Stopped n p ≡ outcomeOf (walk (naming (answerAt t) x) nothing s)
+  pub out-refused : (n p : ℕ) → all ≡ refused n p → Stopped n p ≡ outcomeOf (walk (naming (answerAt ed t) x) nothing s)
   out-refused n p e = out-walk (Stopped n p) (rw e)
 
-  pub out-cut : (p : ℕ) → all ≡ cut p → Cut p ≡ outcomeOf (walk (naming (answerAt t) x) nothing s)
+  pub out-cut : (p : ℕ) → all ≡ cut p → Cut p ≡ outcomeOf (walk (naming (answerAt ed t) x) nothing s)
   out-cut p e = out-walk (Cut p) (rw e)
 
-  pub out-end : (k : Known) (p : ℕ) → all ≡ ended k p → End p ≡ outcomeOf (walk (naming (answerAt t) x) nothing s)
+  pub out-end : (k : Known) (p : ℕ) → all ≡ ended k p → End p ≡ outcomeOf (walk (naming (answerAt ed t) x) nothing s)
   out-end k p e = out-walk (End p) (rw e)
 
-module _ (bs x : List ℕ) (z : ℤ) (mark : Mark) (t : ℕ) (e : t ≡ instantOf z) where
-  pub ask-outside : t ≡ 0 → Refused 14 0 ≡ askNamed bs x z mark
+module _ (bs x : List ℕ) (z : ℤ) (mark : Mark) (ed : Edition) (t : ℕ) (e : t ≡ instantOf z) where
+  pub ask-outside : t ≡ 0 → Refused 14 0 ≡ askNamed bs x z mark ed
   unfolding askNamed
   ask-outside h = rw (eq-eqb (instantOf z) 0 (sym e ∙ h))
 
-  pub ask-inside : (t ≡ 0 → ⊥) → (o : Outcome) → o ≡ outcomeOf (walk (naming (answerAt t) x) nothing bs) → answerOf mark o ≡ askNamed bs x z mark
+  pub ask-inside : (t ≡ 0 → ⊥) → (o : Outcome) → o ≡ outcomeOf (walk (naming (answerAt ed t) x) nothing bs) → answerOf mark o ≡ askNamed bs x z mark ed
   unfolding askNamed
   ask-inside h o k =
       rw (ne-eqb (instantOf z) 0 (λ f. h (e ∙ f))) (
-      ap (answerOf mark) k ∙ finish-is mark (walk (naming (answerAt t) x) nothing bs)
-      ∙ ap (λ (u : ℕ). finish mark (walk (naming (answerAt u) x) nothing bs)) e
+      ap (answerOf mark) k ∙ finish-is mark (walk (naming (answerAt ed t) x) nothing bs)
+      ∙ ap (λ (u : ℕ). finish mark (walk (naming (answerAt ed u) x) nothing bs)) e
       )

@@ -27,9 +27,12 @@ use Rattle.pool.specs.Pool.{stringsOf}
 use Rattle.pool.proofs.StringLaws.{span-inside}
 use Rattle.zones.specs.Content.{Zone}
 use Rattle.zones.specs.Parse.{parseZone}
+use Rattle.zones.specs.Editions.{under}
 use Rattle.zones.specs.Lookup.{inZone}
+use Rattle.zones.specs.declared.Edition.{Edition}
 use Rattle.zones.specs.Sound.{Sound}
 use Rattle.zones.proofs.SoundLaws.{zone-sound}
+use Rattle.zones.proofs.EditionLaws.{under-sound}
 use Rattle.zones.proofs.RangeLaws.{zone-found}
 use Rattle.aliases.specs.Dictionary.{Dictionary}
 use Rattle.aliases.specs.Field.{parseAliases}
@@ -75,124 +78,124 @@ zones-ok ts g = go (eqb (g .id) 1)
     go true = two (parseZone (length ts) (g .body)) refl
     go false = all-none
 
-module _ (bs id : List ℕ) (t : ℕ) (f : Finite t) where
+module _ (bs id : List ℕ) (ed : Edition) (t : ℕ) (f : Finite t) where
   record Good (k : Known) : Type 0 where
-    inside : Inside bs id t f (k .pool)
+    inside : Inside bs id ed t f (k .pool)
     names : All (SeenOk (length (stringsOf (k .pool .body)))) (k .zones)
 
-  asked-named : (k : Known) (g : Field) → Good k → (c : Content Pool Found) → askedSays (answerAt t) id (k .pool) g ≡ c → (v : Found) → remembered k g c ≡ answer v → Named bs id t f v
+  asked-named : (k : Known) (g : Field) → Good k → (c : Content Pool Found) → askedSays (answerAt ed t) id (k .pool) g ≡ c → (v : Found) → remembered k g c ≡ answer v → Named bs id ed t f v
   asked-named k g o (fault n) e v h = clash cc
-  asked-named k g o (answer x) e v h = let w : x ≡ v = cc in subst (Named bs id t f) w (says-named bs id t f (k .pool) g (o .inside) x e)
+  asked-named k g o (answer x) e v h = let w : x ≡ v = cc in subst (Named bs id ed t f) w (says-named bs id ed t f (k .pool) g (o .inside) x e)
   asked-named k g o (keep p) e v h = clash cc
 
-  text-named : (k : Known) (size : ℕ) (u : Text) (v : Found) → textSays k size u ≡ answer v → Named bs id t f v
+  text-named : (k : Known) (size : ℕ) (u : Text) (v : Found) → textSays k size u ≡ answer v → Named bs id ed t f v
   text-named k size (Untext n) v e = clash cc
   text-named k size (Part b n) v e = go (eqb (b + n) size) e
     where
-      go : (y : Bool) → pick {A = Content Known Found} y (keep k) (fault 9) ≡ answer v → Named bs id t f v
+      go : (y : Bool) → pick {A = Content Known Found} y (keep k) (fault 9) ≡ answer v → Named bs id ed t f v
       go true q = clash cc
       go false q = clash cc
 
-  alias-named : (k : Known) → Good k → (p : Parsed Dictionary) (v : Found) → aliasSays (answerAt t) id k p ≡ answer v → Named bs id t f v
+  alias-named : (k : Known) → Good k → (p : Parsed Dictionary) (v : Found) → aliasSays (answerAt ed t) id k p ≡ answer v → Named bs id ed t f v
   alias-named k o (bad n) v e = clash cc
   alias-named k o (got es r) v e = go (lookup (zoneIn (k .zones)) es most id) (lookup-says (zoneIn (k .zones)) es most id) e
     where
-      go : (n : Leading Zone) → Says (zoneIn (k .zones)) es most id n → resolved (answerAt t) (k .pool) n ≡ answer v → Named bs id t f v
+      go : (n : Leading Zone) → Says (zoneIn (k .zones)) es most id n → resolved (answerAt ed t) (k .pool) n ≡ answer v → Named bs id ed t f v
       go (here b) s q =
-          let w : answered (k .pool) (inZone t b) ≡ v = cc in
-          let l : inZone t b .name < length (stringsOf (k .pool .body)) = zone-found (length (stringsOf (k .pool .body))) t b (zone-ok (length (stringsOf (k .pool .body))) (k .zones) (o .names) (s .last) b (s .zone-is)) f .name-ok in
-          subst (Named bs id t f) w (omega (arith, span-inside (k .pool .body) (inZone t b .name) l, o .inside))
+          let w : answered (k .pool) (inZone t (under ed b)) ≡ v = cc in
+          let l : inZone t (under ed b) .name < length (stringsOf (k .pool .body)) = zone-found (length (stringsOf (k .pool .body))) t (under ed b) (under-sound ed _ b (zone-ok (length (stringsOf (k .pool .body))) (k .zones) (o .names) (s .last) b (s .zone-is))) f .name-ok in
+          subst (Named bs id ed t f) w (omega (arith, span-inside (k .pool .body) (inZone t (under ed b) .name) l, o .inside))
       go unknown s q = clash cc
       go deep s q = clash cc
 
-  field-named : (k : Known) (g : Field) → Good k → (v : Found) → says (answerAt t) id k g ≡ answer v → Named bs id t f v
+  field-named : (k : Known) (g : Field) → Good k → (v : Found) → says (answerAt ed t) id k g ≡ answer v → Named bs id ed t f v
   unfolding says
   field-named k g o v = go (ltb (g .id) 2) (eqb (g .id) 2)
     where
-      go : (a b : Bool) → pick a (remembered k g (askedSays (answerAt t) id (k .pool) g)) (pick b (textSays k (length (g .body)) (readText (g .body))) (aliasSays (answerAt t) id k (parseAliases (stringsOf (k .pool .body)) (g .body)))) ≡ answer v → Named bs id t f v
-      go true b e = asked-named k g o (askedSays (answerAt t) id (k .pool) g) refl v e
+      go : (a b : Bool) → pick a (remembered k g (askedSays (answerAt ed t) id (k .pool) g)) (pick b (textSays k (length (g .body)) (readText (g .body))) (aliasSays (answerAt ed t) id k (parseAliases (stringsOf (k .pool .body)) (g .body)))) ≡ answer v → Named bs id ed t f v
+      go true b e = asked-named k g o (askedSays (answerAt ed t) id (k .pool) g) refl v e
       go false true e = text-named k (length (g .body)) (readText (g .body)) v e
       go false false e = alias-named k o (parseAliases (stringsOf (k .pool .body)) (g .body)) v e
 
-  field-good : (k k′ : Known) (g : Field) → Good k → 0 < g .id → says (answerAt t) id k g ≡ keep k′ → Good k′
+  field-good : (k k′ : Known) (g : Field) → Good k → 0 < g .id → says (answerAt ed t) id k g ≡ keep k′ → Good k′
   field-good k k′ g o l e =
-      let w = field-grown id t k k′ g l e in
+      let w = field-grown id ed t k k′ g l e in
       record {
         inside = rw (w .0) (o .inside);
         names = subst (λ (p : Pool). All (SeenOk (length (stringsOf (p .body)))) (k′ .zones)) (sym (w .0)) (rw (w .1) (all-append (o .names) (zones-ok (stringsOf (k .pool .body)) g)));
       }
 
-  pass-named : (gs : List Field) (k : Known) → Good k → All (λ h. 0 < h .id) gs → (x : Found) (p : ℕ) → pass (says (answerAt t) id) k gs ≡ stop (found x p) → Named bs id t f x
+  pass-named : (gs : List Field) (k : Known) → Good k → All (λ h. 0 < h .id) gs → (x : Found) (p : ℕ) → pass (says (answerAt ed t) id) k gs ≡ stop (found x p) → Named bs id ed t f x
   unfolding pass
   pass-named [] k o a x p h = clash cc
-  pass-named (g ∷ gs) k o a x p h = go (says (answerAt t) id k g) refl h (λ k′ o′. pass-named gs k′ o′ (all-tail a) x p)
+  pass-named (g ∷ gs) k o a x p h = go (says (answerAt ed t) id k g) refl h (λ k′ o′. pass-named gs k′ o′ (all-tail a) x p)
     where
-      go : (c : Content Known Found) → says (answerAt t) id k g ≡ c → onward (verdict g c) (λ m. pass (says (answerAt t) id) m gs) ≡ stop (found x p)
-          → ((k′ : Known) → Good k′ → pass (says (answerAt t) id) k′ gs ≡ stop (found x p) → Named bs id t f x) → Named bs id t f x
+      go : (c : Content Known Found) → says (answerAt ed t) id k g ≡ c → onward (verdict g c) (λ m. pass (says (answerAt ed t) id) m gs) ≡ stop (found x p)
+          → ((k′ : Known) → Good k′ → pass (says (answerAt ed t) id) k′ gs ≡ stop (found x p) → Named bs id ed t f x) → Named bs id ed t f x
       go (fault n) e q rec = clash cc
-      go (answer v) e q rec = let w : v ≡ x = cc in subst (Named bs id t f) w (field-named k g o v e)
+      go (answer v) e q rec = let w : v ≡ x = cc in subst (Named bs id ed t f) w (field-named k g o v e)
       go (keep k′) e q rec = rec k′ (field-good k k′ g o (all-head a) e) q
 
   -- field 0 first
-  first-good : (g : Field) (k′ : Known) → g .id ≡ 0 → FieldOf bs g → says (answerAt t) id nothing g ≡ keep k′ → Good k′
+  first-good : (g : Field) (k′ : Known) → g .id ≡ 0 → FieldOf bs g → says (answerAt ed t) id nothing g ≡ keep k′ → Good k′
   unfolding says
-  first-good g k′ i o e = go (askedSays (answerAt t) id (nothing .pool) g) refl (rw (lt-ltb (g .id) 2 (omega arith)) at e)
+  first-good g k′ i o e = go (askedSays (answerAt ed t) id (nothing .pool) g) refl (rw (lt-ltb (g .id) 2 (omega arith)) at e)
     where
-      go : (c : Content Pool Found) → askedSays (answerAt t) id (nothing .pool) g ≡ c → remembered nothing g c ≡ keep k′ → Good k′
+      go : (c : Content Pool Found) → askedSays (answerAt ed t) id (nothing .pool) g ≡ c → remembered nothing g c ≡ keep k′ → Good k′
       go (fault n) q h = clash cc
       go (answer v) q h = clash cc
       go (keep p) q h =
           let w : record { pool = p; zones = [] ++ zonesOf (stringsOf (p .body)) g } ≡ k′ = cc in
-          subst Good w (record { inside = says-inside bs id t f (nothing .pool) g (omega arith) o p q; names = zones-ok (stringsOf (p .body)) g })
+          subst Good w (record { inside = says-inside bs id ed t f (nothing .pool) g (omega arith) o p q; names = zones-ok (stringsOf (p .body)) g })
 
   begin-good : Good nothing
   begin-good = record { inside = omega arith; names = all-none }
 
-  all-named : (gs : List Field) → All (FieldOf bs) gs → (g₀ : Field) (hs : List Field) → gs ≡ g₀ ∷ hs → g₀ .id ≡ 0 → All (λ h. 0 < h .id) hs → (x : Found) (p : ℕ) → pass (says (answerAt t) id) nothing gs ≡ stop (found x p) → Named bs id t f x
+  all-named : (gs : List Field) → All (FieldOf bs) gs → (g₀ : Field) (hs : List Field) → gs ≡ g₀ ∷ hs → g₀ .id ≡ 0 → All (λ h. 0 < h .id) hs → (x : Found) (p : ℕ) → pass (says (answerAt ed t) id) nothing gs ≡ stop (found x p) → Named bs id ed t f x
   unfolding pass
-  all-named gs a g₀ hs e i l x p h = go (says (answerAt t) id nothing g₀) refl (rw e at h)
+  all-named gs a g₀ hs e i l x p h = go (says (answerAt ed t) id nothing g₀) refl (rw e at h)
     where
-      go : (c : Content Known Found) → says (answerAt t) id nothing g₀ ≡ c → onward (verdict g₀ c) (λ m. pass (says (answerAt t) id) m hs) ≡ stop (found x p) → Named bs id t f x
+      go : (c : Content Known Found) → says (answerAt ed t) id nothing g₀ ≡ c → onward (verdict g₀ c) (λ m. pass (says (answerAt ed t) id) m hs) ≡ stop (found x p) → Named bs id ed t f x
       go (fault n) y q = clash cc
-      go (answer v) y q = let w : v ≡ x = cc in subst (Named bs id t f) w (field-named nothing g₀ begin-good v y)
+      go (answer v) y q = let w : v ≡ x = cc in subst (Named bs id ed t f) w (field-named nothing g₀ begin-good v y)
       go (keep k′) y q = pass-named hs k′ (first-good g₀ k′ i (all-head (rw e at a)) y) l x p q
 
-  pub name-inside : (x : Found) (p : ℕ) → walk (naming (answerAt t) id) nothing bs ≡ found x p → Named bs id t f x
-  name-inside x p h = go (pass (says (answerAt t) id) nothing (listing 3 bs .fields)) refl (sym (walk-pass (naming (answerAt t) id) nothing bs) ∙ h)
+  pub name-inside : (x : Found) (p : ℕ) → walk (naming (answerAt ed t) id) nothing bs ≡ found x p → Named bs id ed t f x
+  name-inside x p h = go (pass (says (answerAt ed t) id) nothing (listing 3 bs .fields)) refl (sym (walk-pass (naming (answerAt ed t) id) nothing bs) ∙ h)
     where
-      by-end : (e : Ending) (m : Known) → outcome {A = Found} e m ≡ found x p → Named bs id t f x
+      by-end : (e : Ending) (m : Known) → outcome {A = Found} e m ≡ found x p → Named bs id ed t f x
       by-end (refusedAt n q) m k = clash cc
       by-end (cutAt q) m k = clash cc
       by-end (endAt q) m k = clash cc
 
-      by-fields : (gs : List Field) → listing 3 bs .fields ≡ gs → pass (says (answerAt t) id) nothing gs ≡ stop (found x p) → Named bs id t f x
+      by-fields : (gs : List Field) → listing 3 bs .fields ≡ gs → pass (says (answerAt ed t) id) nothing gs ≡ stop (found x p) → Named bs id ed t f x
       by-fields [] e k = pass-named [] nothing begin-good all-none x p k
       by-fields (g ∷ gs) e k =
           let n = chain-first bs 4 g gs (rw e at (listing-chain bs 3)) in
           all-named (g ∷ gs) (chain-fields bs false 0 4 (g ∷ gs) (rw e at (listing-chain bs 3))) g gs refl (n .0) (n .1) x p k
 
-      go : (s : Step Known (Out Known Found)) → pass (says (answerAt t) id) nothing (listing 3 bs .fields) ≡ s → follow s (outcome (listing 3 bs .ending)) ≡ found x p → Named bs id t f x
+      go : (s : Step Known (Out Known Found)) → pass (says (answerAt ed t) id) nothing (listing 3 bs .fields) ≡ s → follow s (outcome (listing 3 bs .ending)) ≡ found x p → Named bs id ed t f x
       go (stop o) e k = by-fields (listing 3 bs .fields) refl (e ∙ ap stop k)
       go (next m) e k = by-end (listing 3 bs .ending) m k
 
 -- "The same answer: every value that it carries is equal, the name byte for byte."
-pub standing-name : (bs more id : List ℕ) (z : ℤ) (x : Found) → askNamed bs id z More ≡ In x → nameOf (bs ++ more) x ≡ nameOf bs x
+pub standing-name : (bs more id : List ℕ) (z : ℤ) (ed : Edition) (x : Found) → askNamed bs id z More ed ≡ In x → nameOf (bs ++ more) x ≡ nameOf bs x
 unfolding askNamed
-standing-name bs more id z x = go (eqb (instantOf z) 0) refl
+standing-name bs more id z ed x = go (eqb (instantOf z) 0) refl
   where
-    within : (instantOf z ≡ 0 → ⊥) → (o : Out Known Found) → walk (naming (answerAt (instantOf z)) id) nothing bs ≡ o → finish More o ≡ In x → x .name + x .length ≤ length bs
+    within : (instantOf z ≡ 0 → ⊥) → (o : Out Known Found) → walk (naming (answerAt ed (instantOf z)) id) nothing bs ≡ o → finish More o ≡ In x → x .name + x .length ≤ length bs
     within h (found v p) e k =
         let w : v ≡ x = cc in
-        subst (λ (u : Found). u .name + u .length ≤ length bs) w (name-inside bs id (instantOf z) (instant-finite (instantOf z) z refl h) v p e)
+        subst (λ (u : Found). u .name + u .length ≤ length bs) w (name-inside bs id ed (instantOf z) (instant-finite (instantOf z) z refl h) v p e)
     within h (refused n p) e k = clash cc
     within h (cut p) e k = clash cc
     within h (ended m p) e k = clash cc
 
-    go : (t : Bool) → eqb (instantOf z) 0 ≡ t → pick t (Refused 14 0) (finish More (walk (naming (answerAt (instantOf z)) id) nothing bs)) ≡ In x
+    go : (t : Bool) → eqb (instantOf z) 0 ≡ t → pick t (Refused 14 0) (finish More (walk (naming (answerAt ed (instantOf z)) id) nothing bs)) ≡ In x
         → nameOf (bs ++ more) x ≡ nameOf bs x
     go true e k = clash cc
     go false e k =
-        let l = within (eqb-false (instantOf z) 0 e) (walk (naming (answerAt (instantOf z)) id) nothing bs) refl k in
+        let l = within (eqb-false (instantOf z) 0 e) (walk (naming (answerAt ed (instantOf z)) id) nothing bs) refl k in
         let l′ : x .name + x .length ≤ length (bs ++ more) = rw (length-append bs more) (omega arith) in
         rw (le-leb _ _ l, le-leb _ _ l′, drop-append-le (x .name) bs more (omega arith))
         (take-append-le (x .length) (drop (x .name) bs) more (simp length-drop (omega arith)))

@@ -16,6 +16,8 @@ use Rattle.pool.specs.Index.{readStarts, startsIn}
 use Rattle.places.specs.Name.{judgeName, parseName}
 use Rattle.ids.specs.Ids.{among}
 use Rattle.zones.specs.Lookup.{inBody}
+use Rattle.zones.specs.Editions.{under}
+use Rattle.zones.specs.declared.Edition.the-variants.{Two}
 use Rattle.zones.specs.Parse.{zoneOf, afterFixedOffset, parseFixed, afterFlag, afterId, parseZone}
 use Rattle.aliases.specs.Dictionary.{keys, targetOf}
 use Rattle.aliases.specs.Field.{afterKey, parseEntry, parseEntries, allEntries, parseAliases}
@@ -45,7 +47,7 @@ b d mark = record { name = 66 ∷ []; bytes = behind d; mark = mark }
 
 -- number and place
 abbrev given : Asked → List ℕ
-given q = numberOf (askNamed (q .bytes) (q .name) (pos 0) (q .mark)) ∷ placeOf (askNamed (q .bytes) (q .name) (pos 0) (q .mark)) ∷ []
+given q = numberOf (askNamed (q .bytes) (q .name) (pos 0) (q .mark) Two) ∷ placeOf (askNamed (q .bytes) (q .name) (pos 0) (q .mark) Two) ∷ []
 
 -- an ID above 3 has begun, field 2 has, nothing has; the zone is there already, whatever field 3 is; field 2 is faulty, before field 3 and before an ID above it
 pub waiting :
@@ -54,7 +56,7 @@ pub waiting :
     ∷ b (2 ∷ 2 ∷ 1 ∷ 255 ∷ 3 ∷ 3 ∷ 1 ∷ 1 ∷ 0 ∷ []) All ∷ b (2 ∷ 2 ∷ 1 ∷ 255 ∷ 4 ∷ []) More ∷ [])
     ≡ (12 ∷ 16 ∷ []) ∷ (1 ∷ 16 ∷ []) ∷ (1 ∷ 16 ∷ []) ∷ (12 ∷ 16 ∷ []) ∷ (0 ∷ 0 ∷ []) ∷ (0 ∷ 0 ∷ []) ∷ (0 ∷ 0 ∷ [])
     ∷ (8 ∷ 16 ∷ []) ∷ (8 ∷ 16 ∷ []) ∷ []
-unfolding biasedOf anyGroups readGroups readSum chars textSized allStrings counted readStarts startsIn equal judgeName parseName inBody zoneOf afterFixedOffset parseFixed afterFlag afterId parseZone order zeros version sized field frame act step walk askedSays says askNamed zoneIn zonesOf keys targetOf lookup afterKey parseEntry parseEntries allEntries parseAliases among parseByte ended many iterate
+unfolding biasedOf anyGroups readGroups readSum chars textSized allStrings counted readStarts startsIn equal judgeName parseName inBody under zoneOf afterFixedOffset parseFixed afterFlag afterId parseZone order zeros version sized field frame act step walk askedSays says askNamed zoneIn zonesOf keys targetOf lookup afterKey parseEntry parseEntries allEntries parseAliases among parseByte ended many iterate
 waiting = refl
 
 -- "B" is no key, in a field 3 that is whole and in one that isn't; it leads to "A"; a byte is left over, two keys are equal, in a whole field and
@@ -64,7 +66,7 @@ pub aliases :
     (b (3 ∷ 1 ∷ 0 ∷ []) More ∷ b (3 ∷ 2 ∷ 0 ∷ []) More ∷ b (3 ∷ 3 ∷ 1 ∷ 1 ∷ 0 ∷ []) More ∷ b (3 ∷ 4 ∷ 1 ∷ 1 ∷ 0 ∷ 255 ∷ []) More
     ∷ b (3 ∷ 5 ∷ 2 ∷ 1 ∷ 0 ∷ 1 ∷ 5 ∷ []) More ∷ b (3 ∷ 6 ∷ 2 ∷ 1 ∷ 0 ∷ 1 ∷ []) More ∷ b (3 ∷ 3 ∷ 1 ∷ 1 ∷ 1 ∷ []) More ∷ b (3 ∷ 3 ∷ 1 ∷ 1 ∷ 2 ∷ []) All ∷ [])
     ≡ (12 ∷ 16 ∷ []) ∷ (1 ∷ 16 ∷ []) ∷ (0 ∷ 0 ∷ []) ∷ (9 ∷ 16 ∷ []) ∷ (19 ∷ 16 ∷ []) ∷ (1 ∷ 16 ∷ []) ∷ (18 ∷ 16 ∷ []) ∷ (8 ∷ 16 ∷ []) ∷ []
-unfolding biasedOf anyGroups readGroups readSum chars textSized allStrings counted readStarts startsIn equal judgeName parseName inBody zoneOf afterFixedOffset parseFixed afterFlag afterId parseZone order zeros version sized field frame act step walk askedSays says askNamed zoneIn zonesOf keys targetOf lookup afterKey parseEntry parseEntries allEntries parseAliases among parseByte ended many iterate
+unfolding biasedOf anyGroups readGroups readSum chars textSized allStrings counted readStarts startsIn equal judgeName parseName inBody under zoneOf afterFixedOffset parseFixed afterFlag afterId parseZone order zeros version sized field frame act step walk askedSays says askNamed zoneIn zonesOf keys targetOf lookup afterKey parseEntry parseEntries allEntries parseAliases among parseByte ended many iterate
 aliases = refl
 
 -- strings "A", "a" to "i", a zone "A", and a field 3 in which each leads to the next
@@ -83,5 +85,5 @@ pub steps :
     map given
     (from 97 (17 ∷ 8 ∷ eight (0 ∷ [])) ∷ from 97 (19 ∷ 9 ∷ eight (9 ∷ 9 ∷ 0 ∷ [])) ∷ from 98 (19 ∷ 9 ∷ eight (9 ∷ 9 ∷ 0 ∷ [])) ∷ from 97 (17 ∷ 8 ∷ eight (9 ∷ [])) ∷ [])
     ≡ (0 ∷ 0 ∷ []) ∷ (18 ∷ 32 ∷ []) ∷ (0 ∷ 0 ∷ []) ∷ (12 ∷ 32 ∷ []) ∷ []
-unfolding biasedOf anyGroups readGroups readSum chars textSized allStrings counted readStarts startsIn equal judgeName parseName inBody zoneOf afterFixedOffset parseFixed afterFlag afterId parseZone order zeros version sized field frame act step walk askedSays says askNamed zoneIn zonesOf keys targetOf lookup afterKey parseEntry parseEntries allEntries parseAliases among parseByte ended many iterate
+unfolding biasedOf anyGroups readGroups readSum chars textSized allStrings counted readStarts startsIn equal judgeName parseName inBody under zoneOf afterFixedOffset parseFixed afterFlag afterId parseZone order zeros version sized field frame act step walk askedSays says askNamed zoneIn zonesOf keys targetOf lookup afterKey parseEntry parseEntries allEntries parseAliases among parseByte ended many iterate
 steps = refl

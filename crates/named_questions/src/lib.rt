@@ -8,6 +8,7 @@ use locate::Judged;
 use locate::Located;
 use locate::Spot;
 use pool::Checked;
+use zones::Edition;
 ghost use mathlib.Core.Path.{_≡_};
 ghost use mathlib.Core.List.{[]};
 ghost use mathlib.Core.Bool.{true};
@@ -133,40 +134,41 @@ fn ask_with(
     e: usize,
     name: &[u8],
     t: u64,
+    edition: Edition,
     starts: &mut [u32],
     flags: &mut [u8],
 ) -> Outcome
     requires { ⌜ Lies (now s) d e × (roomOf (part d e (now s)) ≤ length (now starts)) × (roomOf (part d e (now s)) ≤ length (now flags)) × Clear (now flags) × Finite t ⌝ }
-    ensures { λ r. ⌜ r ≡ outcomeOf (mapOut (ofHeld (answerAt t)) (byPool (now (name .entry)) (now (s .entry)) d e (parsePool (part d e (now (s .entry)))))) ⌝ }
+    ensures { λ r. ⌜ r ≡ outcomeOf (mapOut (ofHeld (answerAt edition t)) (byPool (now (name .entry)) (now (s .entry)) d e (parsePool (part d e (now (s .entry)))))) ⌝ }
 {
     let l = walk_named(s, d, e, name, starts, flags);
-    questions::answer_at(s, &*starts, d, e, t, l)
+    questions::answer_at(s, &*starts, d, e, t, edition, l)
 }
 
 // The same with an index and flags of its own, for a pool of few strings: short ones are cleared at once.
-fn ask_short(s: &[u8], d: usize, e: usize, name: &[u8], t: u64) -> Outcome
+fn ask_short(s: &[u8], d: usize, e: usize, name: &[u8], t: u64, edition: Edition) -> Outcome
     requires { ⌜ Lies (now s) d e × (roomOf (part d e (now s)) ≤ 256) × Finite t ⌝ }
-    ensures { λ r. ⌜ r ≡ outcomeOf (mapOut (ofHeld (answerAt t)) (byPool (now (name .entry)) (now (s .entry)) d e (parsePool (part d e (now (s .entry)))))) ⌝ }
+    ensures { λ r. ⌜ r ≡ outcomeOf (mapOut (ofHeld (answerAt edition t)) (byPool (now (name .entry)) (now (s .entry)) d e (parsePool (part d e (now (s .entry)))))) ⌝ }
 {
     let mut starts = [0u32; 256];
     let mut flags = [0u8; 256];
-    ask_with(s, d, e, name, t, &mut starts, &mut flags)
+    ask_with(s, d, e, name, t, edition, &mut starts, &mut flags)
 }
 
 // The same for every pool.
-fn ask_long(s: &[u8], d: usize, e: usize, name: &[u8], t: u64) -> Outcome
+fn ask_long(s: &[u8], d: usize, e: usize, name: &[u8], t: u64, edition: Edition) -> Outcome
     requires { ⌜ Lies (now s) d e × Finite t ⌝ }
-    ensures { λ r. ⌜ r ≡ outcomeOf (mapOut (ofHeld (answerAt t)) (byPool (now (name .entry)) (now (s .entry)) d e (parsePool (part d e (now (s .entry)))))) ⌝ }
+    ensures { λ r. ⌜ r ≡ outcomeOf (mapOut (ofHeld (answerAt edition t)) (byPool (now (name .entry)) (now (s .entry)) d e (parsePool (part d e (now (s .entry)))))) ⌝ }
 {
     let mut starts = [0u32; 8192];
     let mut flags = [0u8; 8192];
-    ask_with(s, d, e, name, t, &mut starts, &mut flags)
+    ask_with(s, d, e, name, t, edition, &mut starts, &mut flags)
 }
 
 // The question without its mark, at an instant in range.
-fn ask_at(s: &[u8], name: &[u8], t: u64) -> Outcome
+fn ask_at(s: &[u8], name: &[u8], t: u64, edition: Edition) -> Outcome
     requires { ⌜ Finite t ⌝ }
-    ensures { λ r. ⌜ r ≡ outcomeOf (walk (naming (answerAt t) (now (name .entry))) nothing (now (s .entry))) ⌝ }
+    ensures { λ r. ⌜ r ≡ outcomeOf (walk (naming (answerAt edition t) (now (name .entry))) nothing (now (s .entry))) ⌝ }
 {
     match locate::read_first(s) {
         First::Refused(n, p) => Outcome::Refused(n, p),
@@ -174,21 +176,21 @@ fn ask_at(s: &[u8], name: &[u8], t: u64) -> Outcome
         First::End(p) => Outcome::End(p),
         First::Pool(d, e) => {
             if pool::room(&s[d..e]) <= 256 {
-                return ask_short(s, d, e, name, t);
+                return ask_short(s, d, e, name, t, edition);
             }
-            ask_long(s, d, e, name, t)
+            ask_long(s, d, e, name, t, edition)
         }
     }
 }
 
-// The named question: the zone with the bytes name for its ID, or else the one that the alias name leads to, at a tick since 1970.
-pub fn ask_named(s: &[u8], name: &[u8], ticks: i64, mark: Mark) -> Answer
-    ensures { λ r. ⌜ r ≡ askNamed (now (s .entry)) (now (name .entry)) ticks mark ⌝ }
+// The named question: the zone with the bytes name for its ID, or else the one that the alias name leads to, at a tick since 1970, under an edition.
+pub fn ask_named(s: &[u8], name: &[u8], ticks: i64, mark: Mark, edition: Edition) -> Answer
+    ensures { λ r. ⌜ r ≡ askNamed (now (s .entry)) (now (name .entry)) ticks mark edition ⌝ }
 {
     let t = signed::instant(ticks);
     if t == 0 {
         return Answer::Refused(14, 0);
     }
-    let o = ask_at(s, name, t);
+    let o = ask_at(s, name, t, edition);
     answers::finish(o, mark)
 }

@@ -1,5 +1,6 @@
 -- What the code's results stand for. The code's way, tied to the question by `ask-held` (proofs/HeldLaws.antt).
 use Prim.Native.Nat.{ℕ}
+use Rattle.zones.specs.declared.Edition.{Edition}
 use Rattle.frames.specs.Machine.{Out, found, refused, cut, ended}
 use Rattle.frames.specs.Mapped.{mapOut}
 use Rattle.answers.specs.Answers.{Pool}
@@ -16,6 +17,6 @@ outcomeOf (refused n p) = Refused n p
 outcomeOf (cut p) = Cut p
 outcomeOf (ended m p) = End p
 
--- the question at the instant t, where the walk o holds the asked zone
-abbrev pub outcomeAt : ℕ → Out Pool Held → Outcome
-outcomeAt t o = outcomeOf (mapOut (ofHeld (answerAt t)) o)
+-- the question under an edition at the instant t, where the walk o holds the asked zone
+abbrev pub outcomeAt : Edition → ℕ → Out Pool Held → Outcome
+outcomeAt ed t o = outcomeOf (mapOut (ofHeld (answerAt ed t)) o)

@@ -5,6 +5,7 @@ use answers::Outcome;
 use locate::First;
 use locate::Located;
 use zones::Answer as ZoneAnswer;
+use zones::Edition;
 ghost use mathlib.Core.Path.{_≡_};
 ghost use Prim.Native.Nat.{_≤_};
 ghost use lib.ListN.{length};
@@ -17,10 +18,18 @@ ghost use Rattle.locate.specs.View.{part, poolAt, Lies, byPool, locatedOut, Wit
 ghost use Rattle.questions.specs.Question.{question, ask as askOf, askPlain};
 ghost use Rattle.questions.specs.View.{outcomeOf, outcomeAt};
 
-// What a walk comes to at the instant t, by what it located; the data of field 0 is s[d..e].
-pub fn answer_at(s: &[u8], starts: &[u32], d: usize, e: usize, t: u64, l: Located) -> Outcome
+// What a walk comes to at the instant t under an edition, by what it located; the data of field 0 is s[d..e].
+pub fn answer_at(
+    s: &[u8],
+    starts: &[u32],
+    d: usize,
+    e: usize,
+    t: u64,
+    edition: Edition,
+    l: Located,
+) -> Outcome
     requires { ⌜ Lies (now s) d e × Ready (part d e (now s)) (now starts) × Finite t × Within (now s) (poolAt (now s) d e) l ⌝ }
-    ensures { λ r. ⌜ r ≡ outcomeAt t (locatedOut (now (s .entry)) (poolAt (now (s .entry)) d e) l) ⌝ }
+    ensures { λ r. ⌜ r ≡ outcomeAt edition t (locatedOut (now (s .entry)) (poolAt (now (s .entry)) d e) l) ⌝ }
 {
     match l {
         Located::Refused(n, p) => Outcome::Refused(n, p),
@@ -29,7 +38,7 @@ pub fn answer_at(s: &[u8], starts: &[u32], d: usize, e: usize, t: u64, l: Locate
         Located::Found(v) => {
             let from = v.start;
             let to = v.past;
-            match lookups::find(&s[from..to], v.count as u64, t) {
+            match lookups::find(&s[from..to], v.count as u64, t, edition) {
                 ZoneAnswer::Refused(n) => Outcome::Refused(n, v.place),
                 ZoneAnswer::In(x) => Outcome::Answered(answers::answered(&s[d..e], starts, d, x)),
             }
@@ -38,36 +47,44 @@ pub fn answer_at(s: &[u8], starts: &[u32], d: usize, e: usize, t: u64, l: Locate
 }
 
 // The question on a file whose field 0 has the data s[d..e]. starts gets the index of its strings.
-fn ask_with(s: &[u8], d: usize, e: usize, id: &[u8], t: u64, starts: &mut [u32]) -> Outcome
+fn ask_with(
+    s: &[u8],
+    d: usize,
+    e: usize,
+    id: &[u8],
+    t: u64,
+    edition: Edition,
+    starts: &mut [u32],
+) -> Outcome
     requires { ⌜ Lies (now s) d e × (roomOf (part d e (now s)) ≤ length (now starts)) × Finite t ⌝ }
-    ensures { λ r. ⌜ r ≡ outcomeAt t (byPool (now (id .entry)) (now (s .entry)) d e (parsePool (part d e (now (s .entry))))) ⌝ }
+    ensures { λ r. ⌜ r ≡ outcomeAt edition t (byPool (now (id .entry)) (now (s .entry)) d e (parsePool (part d e (now (s .entry))))) ⌝ }
 {
     let l = locate::walk(s, d, e, id, starts);
-    answer_at(s, &*starts, d, e, t, l)
+    answer_at(s, &*starts, d, e, t, edition, l)
 }
 
 // The same with an index of its own, for a pool of few strings: a short index is cleared at once.
-fn ask_short(s: &[u8], d: usize, e: usize, id: &[u8], t: u64) -> Outcome
+fn ask_short(s: &[u8], d: usize, e: usize, id: &[u8], t: u64, edition: Edition) -> Outcome
     requires { ⌜ Lies (now s) d e × (roomOf (part d e (now s)) ≤ 256) × Finite t ⌝ }
-    ensures { λ r. ⌜ r ≡ outcomeAt t (byPool (now (id .entry)) (now (s .entry)) d e (parsePool (part d e (now (s .entry))))) ⌝ }
+    ensures { λ r. ⌜ r ≡ outcomeAt edition t (byPool (now (id .entry)) (now (s .entry)) d e (parsePool (part d e (now (s .entry))))) ⌝ }
 {
     let mut starts = [0u32; 256];
-    ask_with(s, d, e, id, t, &mut starts)
+    ask_with(s, d, e, id, t, edition, &mut starts)
 }
 
 // The same for every pool.
-fn ask_long(s: &[u8], d: usize, e: usize, id: &[u8], t: u64) -> Outcome
+fn ask_long(s: &[u8], d: usize, e: usize, id: &[u8], t: u64, edition: Edition) -> Outcome
     requires { ⌜ Lies (now s) d e × Finite t ⌝ }
-    ensures { λ r. ⌜ r ≡ outcomeAt t (byPool (now (id .entry)) (now (s .entry)) d e (parsePool (part d e (now (s .entry))))) ⌝ }
+    ensures { λ r. ⌜ r ≡ outcomeAt edition t (byPool (now (id .entry)) (now (s .entry)) d e (parsePool (part d e (now (s .entry))))) ⌝ }
 {
     let mut starts = [0u32; 8192];
-    ask_with(s, d, e, id, t, &mut starts)
+    ask_with(s, d, e, id, t, edition, &mut starts)
 }
 
 // The question without its mark, at an instant in range.
-fn ask_at(s: &[u8], id: &[u8], t: u64) -> Outcome
+fn ask_at(s: &[u8], id: &[u8], t: u64, edition: Edition) -> Outcome
     requires { ⌜ Finite t ⌝ }
-    ensures { λ r. ⌜ r ≡ outcomeOf (walk (question (now (id .entry)) t) noPool (now (s .entry))) ⌝ }
+    ensures { λ r. ⌜ r ≡ outcomeOf (walk (question edition (now (id .entry)) t) noPool (now (s .entry))) ⌝ }
 {
     match locate::read_first(s) {
         First::Refused(n, p) => Outcome::Refused(n, p),
@@ -75,28 +92,28 @@ fn ask_at(s: &[u8], id: &[u8], t: u64) -> Outcome
         First::End(p) => Outcome::End(p),
         First::Pool(d, e) => {
             if pool::room(&s[d..e]) <= 256 {
-                return ask_short(s, d, e, id, t);
+                return ask_short(s, d, e, id, t, edition);
             }
-            ask_long(s, d, e, id, t)
+            ask_long(s, d, e, id, t, edition)
         }
     }
 }
 
-// The marked question: the zone with the bytes id, at a tick since 1970.
-pub fn ask(s: &[u8], id: &[u8], ticks: i64, mark: Mark) -> Answer
-    ensures { λ r. ⌜ r ≡ askOf (now (s .entry)) (now (id .entry)) ticks mark ⌝ }
+// The marked question: the zone with the bytes id, at a tick since 1970, under an edition.
+pub fn ask(s: &[u8], id: &[u8], ticks: i64, mark: Mark, edition: Edition) -> Answer
+    ensures { λ r. ⌜ r ≡ askOf (now (s .entry)) (now (id .entry)) ticks mark edition ⌝ }
 {
     let t = signed::instant(ticks);
     if t == 0 {
         return Answer::Refused(14, 0);
     }
-    let o = ask_at(s, id, t);
+    let o = ask_at(s, id, t, edition);
     answers::finish(o, mark)
 }
 
 // The plain question: more may come.
-pub fn ask_plain(s: &[u8], id: &[u8], ticks: i64) -> Answer
-    ensures { λ r. ⌜ r ≡ askPlain (now (s .entry)) (now (id .entry)) ticks ⌝ }
+pub fn ask_plain(s: &[u8], id: &[u8], ticks: i64, edition: Edition) -> Answer
+    ensures { λ r. ⌜ r ≡ askPlain (now (s .entry)) (now (id .entry)) ticks edition ⌝ }
 {
-    ask(s, id, ticks, Mark::More)
+    ask(s, id, ticks, Mark::More, edition)
 }

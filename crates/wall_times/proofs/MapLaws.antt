@@ -13,7 +13,9 @@ use Rattle.signed.proofs.IntegerLaws.{instant-ticks, ticks-instant, instant-fin
 use Rattle.pool.specs.Pool.{stringsOf}
 use Rattle.zones.specs.Content.{Zone}
 use Rattle.zones.specs.Sound.{FoundOk}
+use Rattle.zones.specs.Editions.{under}
 use Rattle.zones.specs.Lookup.{inZone}
+use Rattle.zones.specs.declared.Edition.the-variants.{Two}
 use Rattle.zones.proofs.RangeLaws.{zone-found}
 use Rattle.frames.specs.Machine.{Out, found, refused, cut, ended, walk}
 use Rattle.frames.specs.Mapped.{mapOut}
@@ -43,24 +45,26 @@ module _ (f id : List ℕ) (local : ℤ) (k : Holding f id) where
   zone = k .zone .zone
 
   abbrev found-at : ℕ → Found
-  found-at t = ofHeld (answerAt t) (k .zone)
+  found-at t = ofHeld (answerAt Two t) (k .zone)
 
   in-ticks : (t : ℕ) → Finite t → InRange (ticksOf t)
   in-ticks t f e = omega (arith, f .low, instant-ticks t f)
 
   reads-to : (t : ℕ) → Reads zone (localOf local) t → ReadsAs f id local (ticksOf t)
+  unfolding under
   reads-to t r = record {
     in-range = in-ticks t (r .finite);
     given = found-at t;
-    answer = holding-asks f id (ticksOf t) All (in-ticks t (r .finite)) k ∙ ap (λ (u : ℕ). In (found-at u)) (instant-ticks t (r .finite));
+    answer = holding-asks f id (ticksOf t) All Two (in-ticks t (r .finite)) k ∙ ap (λ (u : ℕ). In (found-at u)) (instant-ticks t (r .finite));
     sum = reads-number t (inZone t zone .wall) local (r .finite) (r .sum);
   }
 
   reads-from : (z : ℤ) → ReadsAs f id local z → Reads zone (localOf local) (instantOf z)
+  unfolding under
   reads-from z r =
       let g : Finite (instantOf z) = instant-finite (instantOf z) z refl (r .in-range) in
       let o : FoundOk (length (stringsOf (k .zone .pool .body))) (inZone (instantOf z) zone) = zone-found _ (instantOf z) zone (holding-sound f id k) g in
-      let same : In (found-at (instantOf z)) ≡ In (r .given) = sym (holding-asks f id z All (r .in-range) k) ∙ r .answer in
+      let same : In (found-at (instantOf z)) ≡ In (r .given) = sym (holding-asks f id z All Two (r .in-range) k) ∙ r .answer in
       let e : found-at (instantOf z) ≡ r .given = cc in
       record {
         finite = g;
@@ -72,7 +76,7 @@ module _ (f id : List ℕ) (local : ℤ) (k : Holding f id) where
   -- the zone's instants are the file's
   map-held : MapsTo f id local (mappingOf (tallyOf (instantsOf (localOf local) (zone .body))))
   map-held = record {
-    refuses = λ z n p r e. let w : In (found-at (instantOf z)) ≡ Denied n p = sym (holding-asks f id z All r k) ∙ e in clash cc;
+    refuses = λ z n p r e. let w : In (found-at (instantOf z)) ≡ Denied n p = sym (holding-asks f id z All Two r k) ∙ e in clash cc;
     counts = λ z x r e.
         tally-counts (Reads zone (localOf local)) (ReadsAs f id local) (λ t r. r .finite) (λ z r. r .in-range) reads-to reads-from
         (instantsOf (localOf local) (zone .body)) (instants-list _ (localOf local) zone (holding-sound f id k));
@@ -80,7 +84,7 @@ module _ (f id : List ℕ) (local : ℤ) (k : Holding f id) where
 
 -- where the walk holds no zone, the question's refusal is given
 module _ (f id : List ℕ) (local : ℤ) where
-  map-denied : (n p : ℕ) → ((t : ℕ) → finish All (mapOut (ofHeld (answerAt t)) (walk (holder id) noPool f)) ≡ Denied n p) → MapsTo f id local (Refused n p)
+  map-denied : (n p : ℕ) → ((t : ℕ) → finish All (mapOut (ofHeld (answerAt Two t)) (walk (holder id) noPool f)) ≡ Denied n p) → MapsTo f id local (Refused n p)
   map-denied n p h = record {
     refuses = λ z n′ p′ r e.
         let s : Denied n p ≡ Denied n′ p′ = sym (asked z r) ∙ e in
@@ -91,7 +95,7 @@ module _ (f id : List ℕ) (local : ℤ) where
   }
     where
       asked : (z : ℤ) → InRange z → askAll f id z ≡ Denied n p
-      asked z r = ask-held f id z All r ∙ h (instantOf z)
+      asked z r = ask-held f id z All Two r ∙ h (instantOf z)
 
   -- ON ANY BYTES THERE IS SUCH A RESULT
   pub map-some : MapsTo f id local (mappingIn f id local)

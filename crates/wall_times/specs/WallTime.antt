@@ -9,6 +9,7 @@ use lib.IntN.{ℤ, pos, _+ℤ_, _*ℤ_}
 use lib.Signed.{_<ℤ_}
 use lib.ListN.{length}
 use Rattle.signed.specs.Instant.{InRange}
+use Rattle.zones.specs.declared.Edition.the-variants.{Two}
 use Rattle.answers.specs.declared.Mark.the-variants.{All}
 use Rattle.answers.specs.declared.Found.{Found}
 use Rattle.answers.specs.declared.Answer.{Answer}
@@ -17,9 +18,9 @@ use Rattle.questions.specs.Question.{ask}
 use Rattle.wall_times.specs.declared.Mapping.{Mapping}
 use Rattle.wall_times.specs.declared.Mapping.the-variants.{Instants, Refused}
 
--- the "this is all" question
+-- the "this is all" question, under edition 2; a wall offset is the same under both
 abbrev pub askAll : List ℕ → List ℕ → ℤ → Answer
-askAll f id z = ask f id z All
+askAll f id z = ask f id z All Two
 
 -- an instant and a wall offset of some milliseconds, 10,000 ticks each, as a local time. The sum is one of integers: none is cut to 64 bits.
 abbrev pub localTime : ℤ → ℤ → ℤ

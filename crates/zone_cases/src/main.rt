@@ -8,6 +8,7 @@ use base::END;
 use base::FIRST;
 use libc::STDIN_FILENO;
 use zones::Answer;
+use zones::Edition;
 use zones::Found;
 use zones::ZoneVerdict;
 
@@ -65,7 +66,7 @@ fn look_up(s: &[u8], pool: u64, t: u64) {
     if END <= t {
         return;
     }
-    show_answer(lookups::find(s, pool, t));
+    show_answer(lookups::find(s, pool, t, Edition::Two));
 }
 
 fn run_zone(s: &[u8], pool: u64, text: &[u8]) {

@@ -19,8 +19,11 @@ use Rattle.tails.specs.Sound.{NamedTailOk}
 use Rattle.zones.specs.Content.{untailed, tailed, absent, present, Body, fixed, listed, Zone}
 use Rattle.zones.specs.Parse.{parseZone}
 use Rattle.zones.specs.Sound.{BodyOk, Sound, FoundOk}
+use Rattle.zones.specs.Editions.{under}
 use Rattle.zones.specs.Lookup.{zeroOffset, until, holding, inList, inTail, behindList, fixedNameOf, inBody, inZone, answerOf}
 use Rattle.zones.proofs.SoundLaws.{zone-sound}
+use Rattle.zones.proofs.EditionLaws.{under-sound}
+use Rattle.zones.specs.declared.Edition.{Edition}
 use Rattle.zones.specs.declared.Found.{Found}
 use Rattle.zones.specs.declared.Answer.the-variants.{In}
 
@@ -77,11 +80,11 @@ pub zone-found : (pool t : ℕ) (z : Zone) → Sound pool z → Finite t → Fou
 zone-found pool t z h f = body-found pool t (z .id) (z .body) (h .id-ok) (h .body-ok) f
 
 -- what a lookup gives
-pub found-ok : (pool t : ℕ) (s : List ℕ) (x : Found) → Finite t → In x ≡ answerOf t (parseZone pool s) → FoundOk pool x
-found-ok pool t s x f e = go (parseZone pool s) refl e
+pub found-ok : (ed : Edition) (pool t : ℕ) (s : List ℕ) (x : Found) → Finite t → In x ≡ answerOf ed t (parseZone pool s) → FoundOk pool x
+found-ok ed pool t s x f e = go (parseZone pool s) refl e
   where
-    go : (p : Parsed Zone) → p ≡ parseZone pool s → In x ≡ answerOf t p → FoundOk pool x
+    go : (p : Parsed Zone) → p ≡ parseZone pool s → In x ≡ answerOf ed t p → FoundOk pool x
     go (got z r) k h =
-        let y : inZone t z ≡ x = cc in
-        subst (FoundOk pool) y (zone-found pool t z (zone-sound pool s z r (sym k) .0) f)
+        let y : inZone t (under ed z) ≡ x = cc in
+        subst (FoundOk pool) y (zone-found pool t (under ed z) (under-sound ed pool z (zone-sound pool s z r (sym k) .0)) f)
     go (bad n) k h = clash cc

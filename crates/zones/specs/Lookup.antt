@@ -9,8 +9,10 @@ use Rattle.base.specs.Moment.{startOfTime, endOfTime}
 use Rattle.recurrence.specs.Tails.{lookup}
 use Rattle.recurrence.specs.declared.Interval.{Interval as Lookup}
 use Rattle.zones.specs.Content.{Ending, untailed, tailed, FixedName, absent, present, Body, fixed, listed, Zone}
+use Rattle.zones.specs.Editions.{under}
 use Rattle.intervals.specs.declared.Interval.{Interval}
 use Rattle.tails.specs.declared.NamedTail.{NamedTail}
+use Rattle.zones.specs.declared.Edition.{Edition}
 use Rattle.zones.specs.declared.Found.{Found}
 use Rattle.zones.specs.declared.ZoneVerdict.{ZoneVerdict}
 use Rattle.zones.specs.declared.ZoneVerdict.the-variants.{Good, Refused}
@@ -67,11 +69,11 @@ inBody t id (listed is end e) = pick (ltb t end) (inList t end is) (behindList t
 abbrev pub inZone : ℕ → Zone → Found
 inZone t z = inBody t (z .id) (z .body)
 
--- what the check and the lookup make of a parse
+-- what the check makes of a parse, and the lookup under an edition
 abbrev pub verdictOf : Parsed Zone → ZoneVerdict
 verdictOf (got z r) = Good (z .id)
 verdictOf (bad n) = Refused n
 
-abbrev pub answerOf : ℕ → Parsed Zone → Answer
-answerOf t (got z r) = In (inZone t z)
-answerOf t (bad n) = Denied n
+abbrev pub answerOf : Edition → ℕ → Parsed Zone → Answer
+answerOf ed t (got z r) = In (inZone t (under ed z))
+answerOf ed t (bad n) = Denied n

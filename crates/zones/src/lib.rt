@@ -10,6 +10,12 @@ pub struct Found {
     pub end: u64,
 }
 
+// Of Noda Time: the first ignores a fixed zone's name and shows its ID.
+pub enum Edition {
+    One,
+    Two,
+}
+
 // A well-formed zone's ID, or a refusal's number.
 pub enum ZoneVerdict {
     Good(u64),

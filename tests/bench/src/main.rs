@@ -9,6 +9,7 @@ mod work;
 
 use files::{content, in_ticks, padded, Grown, GROWING};
 use measure::{measure, FEW_SAMPLES, SAMPLES};
+use nzd::Edition::{One, Two};
 use second_reader::generate::FileContent;
 use second_reader::zone::{Rest, Zone};
 use std::process::ExitCode;
@@ -75,7 +76,7 @@ fn realistic() -> Result<(), String> {
         rows.push((&file, "normalize, preferred already".to_string(), Work::Normalize { room: true }));
         rows.push((&long, "normalize, every instant in ticks".to_string(), Work::Normalize { room: true }));
         rows.push((&wide, format!("{CHECK}, every size in five bytes"), Work::Normalize { room: false }));
-        let absent = Work::Ask { id: b"No/Such_Zone".to_vec(), ticks: LISTED };
+        let absent = Work::Ask { id: b"No/Such_Zone".to_vec(), ticks: LISTED, edition: Two };
         rows.push((&wide, "question, absent zone, every size in five bytes".to_string(), absent));
         rows.push((&wide, "normalize, every size in five bytes".to_string(), Work::Normalize { room: true }));
         for (file, what, work) in rows {
@@ -139,12 +140,19 @@ fn questions(content: &FileContent) -> Vec<(String, Work)> {
         for (place, number) in [("first", 0), ("middle", last / 2), ("last", last)] {
             let id = content.id(zones[number]).to_vec();
             let which = format!("{place} zone, {kind} (`{}`)", String::from_utf8_lossy(&id));
-            questions.push((format!("question, {which}"), Work::Ask { id: id.clone(), ticks }));
+            questions.push((format!("question, {which}"), Work::Ask { id: id.clone(), ticks, edition: Two }));
             locals.push((format!("local time, {which}"), Work::MapLocal { id, local: ticks }));
         }
     }
-    let absent = Work::Ask { id: b"No/Such_Zone".to_vec(), ticks: LISTED };
+    let absent = Work::Ask { id: b"No/Such_Zone".to_vec(), ticks: LISTED, edition: Two };
     questions.push(("question, absent zone".to_string(), absent));
+    // Under edition 1: the last fixed zone, or the last of all.
+    let is_fixed = |zone: &&&Zone| matches!(&zone.rest, Rest::Fixed { .. });
+    if let Some(zone) = zones.iter().rev().find(is_fixed).or(zones.last()) {
+        let id = content.id(zone).to_vec();
+        let what = format!("question, edition 1 (`{}`)", String::from_utf8_lossy(&id));
+        questions.push((what, Work::Ask { id, ticks: LISTED, edition: One }));
+    }
     // Aliases of the first and of the last zone that has one; the absent name; in a file without aliases the last alone.
     let place = |&(_, target): &(usize, usize)| content.zones.iter().position(|zone| zone.id == target);
     let pairs: Vec<&(usize, usize)> = content.aliases.iter().flatten().filter(|pair| place(pair).is_some()).collect();
@@ -154,10 +162,10 @@ fn questions(content: &FileContent) -> Vec<(String, Work)> {
         if let Some((key, _)) = pair {
             let name = content.pool[*key].clone();
             let what = format!("named question, alias of the {which} zone (`{}`)", String::from_utf8_lossy(&name));
-            questions.push((what, Work::AskNamed { name, ticks: LISTED }));
+            questions.push((what, Work::AskNamed { name, ticks: LISTED, edition: Two }));
         }
     }
-    let unnamed = Work::AskNamed { name: b"No/Such_Zone".to_vec(), ticks: LISTED };
+    let unnamed = Work::AskNamed { name: b"No/Such_Zone".to_vec(), ticks: LISTED, edition: Two };
     questions.push(("named question, absent name".to_string(), unnamed));
     questions.extend(locals);
     questions
@@ -176,10 +184,11 @@ fn growing() -> Result<(), String> {
     println!("|---|---|---:|---:|---:|---:|---:|---:|---:|");
     for kind in GROWING {
         let sizes = [1, 2, 4, 8].map(kind.make);
-        let absent = |grown: &Grown| Work::Ask { id: grown.absent.clone(), ticks: LISTED };
-        let last = |grown: &Grown| Work::Ask { id: grown.last.clone(), ticks: LISTED };
-        let alias = |grown: &Grown| Some(Work::AskNamed { name: grown.alias.clone()?, ticks: LISTED });
-        let unnamed = |grown: &Grown| Work::AskNamed { name: grown.absent.clone(), ticks: LISTED };
+        let absent = |grown: &Grown| Work::Ask { id: grown.absent.clone(), ticks: LISTED, edition: Two };
+        let last = |grown: &Grown| Work::Ask { id: grown.last.clone(), ticks: LISTED, edition: Two };
+        let alias =
+            |grown: &Grown, edition| Some(Work::AskNamed { name: grown.alias.clone()?, ticks: LISTED, edition });
+        let unnamed = |grown: &Grown| Work::AskNamed { name: grown.absent.clone(), ticks: LISTED, edition: Two };
         let local = |grown: &Grown| Some(Work::MapLocal { id: grown.last.clone(), local: grown.local? });
         let mut rows = vec![("question, absent zone", sizes.each_ref().map(absent))];
         if kind.well_formed {
@@ -187,8 +196,14 @@ fn growing() -> Result<(), String> {
             if let [Some(one), Some(two), Some(four), Some(eight)] = sizes.each_ref().map(local) {
                 rows.push(("local time, last zone", [one, two, four, eight]));
             }
-            if let [Some(one), Some(two), Some(four), Some(eight)] = sizes.each_ref().map(alias) {
-                rows.push(("named question, alias", [one, two, four, eight]));
+            for (what, edition) in [("named question, alias", Two), ("named question, alias, edition 1", One)] {
+                if let [Some(one), Some(two), Some(four), Some(eight)] =
+                    sizes.each_ref().map(|grown| alias(grown, edition))
+                {
+                    rows.push((what, [one, two, four, eight]));
+                }
+            }
+            if sizes.iter().all(|grown| grown.alias.is_some()) {
                 rows.push(("named question, absent name", sizes.each_ref().map(unnamed)));
             }
             if sizes.iter().all(|grown| grown.located.is_some()) {

@@ -2,7 +2,7 @@
 //! in pieces, by the library and by the peer.
 
 use crate::measure::Piece;
-use nzd::{Bound, LocationField, Mark};
+use nzd::{Bound, Edition, LocationField, Mark};
 use std::hint::black_box;
 
 /// One kind of work on a file.
@@ -14,10 +14,12 @@ pub enum Work {
     Ask {
         id: Vec<u8>,
         ticks: i64,
+        edition: Edition,
     },
     AskNamed {
         name: Vec<u8>,
         ticks: i64,
+        edition: Edition,
     },
     MapLocal {
         id: Vec<u8>,
@@ -73,12 +75,13 @@ impl Work {
     /// Whether both give the same on a file.
     pub fn agrees(&self, file: &[u8]) -> bool {
         match self {
-            Work::Ask { id, ticks } => {
-                said(nzd::ask(file, id, *ticks, Mark::ThisIsAll)) == peer_said(peer::ask(file, id, *ticks, false))
+            Work::Ask { id, ticks, edition } => {
+                let ours = said(nzd::ask(file, id, *ticks, Mark::ThisIsAll, *edition));
+                ours == peer_said(peer::ask(file, id, *ticks, false, *edition == Edition::One))
             }
-            Work::AskNamed { name, ticks } => {
-                let ours = said(nzd::ask_named(file, name, *ticks, Mark::ThisIsAll));
-                ours == peer_said(peer::ask_named(file, name, *ticks, false))
+            Work::AskNamed { name, ticks, edition } => {
+                let ours = said(nzd::ask_named(file, name, *ticks, Mark::ThisIsAll, *edition));
+                ours == peer_said(peer::ask_named(file, name, *ticks, false, *edition == Edition::One))
             }
             Work::MapLocal { id, local } => {
                 let numbers = |found: nzd::LocalInstants| match (found.earliest(), found.latest()) {
@@ -108,14 +111,20 @@ impl Work {
     /// The work done by the library, and by the peer.
     pub fn pieces<'a>(&'a self, file: &'a [u8]) -> [Piece<'a>; 2] {
         match self {
-            Work::Ask { id, ticks } => [
-                piece(move || nzd::ask(black_box(file), black_box(id), *ticks, Mark::ThisIsAll)),
-                piece(move || peer::ask(black_box(file), black_box(id), *ticks, false)),
-            ],
-            Work::AskNamed { name, ticks } => [
-                piece(move || nzd::ask_named(black_box(file), black_box(name), *ticks, Mark::ThisIsAll)),
-                piece(move || peer::ask_named(black_box(file), black_box(name), *ticks, false)),
-            ],
+            Work::Ask { id, ticks, edition } => {
+                let first = *edition == Edition::One;
+                [
+                    piece(move || nzd::ask(black_box(file), black_box(id), *ticks, Mark::ThisIsAll, *edition)),
+                    piece(move || peer::ask(black_box(file), black_box(id), *ticks, false, first)),
+                ]
+            }
+            Work::AskNamed { name, ticks, edition } => {
+                let first = *edition == Edition::One;
+                [
+                    piece(move || nzd::ask_named(black_box(file), black_box(name), *ticks, Mark::ThisIsAll, *edition)),
+                    piece(move || peer::ask_named(black_box(file), black_box(name), *ticks, false, first)),
+                ]
+            }
             Work::MapLocal { id, local } => [
                 piece(move || nzd::map_local(black_box(file), black_box(id), *local)),
                 piece(move || peer::map_local(black_box(file), black_box(id), *local)),
@@ -188,7 +197,7 @@ pub fn asked_after_each<'a>(file: &'a [u8], size: usize, id: &'a [u8], ticks: i6
         let mut receiver = nzd::Receiver::new(&mut buffer);
         for piece in black_box(file).chunks(size) {
             let _ = black_box(receiver.add(piece));
-            let _ = black_box(receiver.ask(id, ticks, Mark::MoreMayCome));
+            let _ = black_box(receiver.ask(id, ticks, Mark::MoreMayCome, Edition::Two));
         }
     })
 }

@@ -1,11 +1,12 @@
-//! Questions: by ID, marked both ways and plain, and by name, marked both ways; by the C functions and by the wrapper.
+//! Questions: by ID, marked both ways and plain, and by name, marked both ways, under both editions; by the C functions and by
+//! the wrapper.
 
 use crate::lent;
 use crate::tally::{Difference, Outcome, Tally};
 use crate::whole::{error_pair, pair};
 use nzd::{ffi, Bound};
 use second_reader::generate::Prng;
-use second_reader::{Answer, Mark, Transition};
+use second_reader::{Answer, Edition, Mark, Transition};
 use std::fmt;
 
 /// A zone ID or a name, and an instant.
@@ -21,47 +22,56 @@ pub enum Way {
     NamedAll,
 }
 
+/// Both editions, ours and the second reader's.
+pub const EDITIONS: [(nzd::Edition, Edition); 2] =
+    [(nzd::Edition::One, Edition::One), (nzd::Edition::Two, Edition::Two)];
+
 struct Asked<'a> {
     id: &'a [u8],
     ticks: i64,
     way: Way,
+    edition: nzd::Edition,
 }
 
 impl fmt::Display for Asked<'_> {
     fn fmt(&self, f: &mut fmt::Formatter<'_>) -> fmt::Result {
-        write!(f, "{:?} at {}, {:?}", self.id.escape_ascii().to_string(), self.ticks, self.way)
+        let id = self.id.escape_ascii().to_string();
+        write!(f, "{id:?} at {}, {:?}, edition {:?}", self.ticks, self.way, self.edition)
     }
 }
 
-/// Compares a question asked in each way.
+/// Compares a question asked in each way, under both editions.
 pub fn ask(tally: &mut Tally, file: &[u8], id: &[u8], ticks: i64) -> Result<(), Difference> {
-    for way in [Way::More, Way::All, Way::Plain, Way::NamedMore, Way::NamedAll] {
-        let asked = Asked { id, ticks, way };
-        let theirs = match way {
-            Way::More => second_reader::ask(file, id, ticks, Mark::MoreMayCome),
-            Way::All => second_reader::ask(file, id, ticks, Mark::ThisIsAll),
-            Way::Plain => second_reader::ask_plain(file, id, ticks),
-            Way::NamedMore => second_reader::ask_named(file, id, ticks, Mark::MoreMayCome),
-            Way::NamedAll => second_reader::ask_named(file, id, ticks, Mark::ThisIsAll),
+    for (edition, their_edition) in EDITIONS {
+        for way in [Way::More, Way::All, Way::Plain, Way::NamedMore, Way::NamedAll] {
+            let asked = Asked { id, ticks, way, edition };
+            let theirs = match way {
+                Way::More => second_reader::ask(file, id, ticks, Mark::MoreMayCome, their_edition),
+                Way::All => second_reader::ask(file, id, ticks, Mark::ThisIsAll, their_edition),
+                Way::Plain => second_reader::ask_plain(file, id, ticks, their_edition),
+                Way::NamedMore => second_reader::ask_named(file, id, ticks, Mark::MoreMayCome, their_edition),
+                Way::NamedAll => second_reader::ask_named(file, id, ticks, Mark::ThisIsAll, their_edition),
+            }
+            .map(|answer| numbers_of(&answer))
+            .map_err(pair);
+            let first = edition == nzd::Edition::One;
+            let ours = lent::numbers(file, |out| match way {
+                Way::More => ffi::ask(file, id, ticks, true, first, out),
+                Way::All => ffi::ask(file, id, ticks, false, first, out),
+                Way::Plain => ffi::ask_plain(file, id, ticks, first, out),
+                Way::NamedMore => ffi::ask_named(file, id, ticks, true, first, out),
+                Way::NamedAll => ffi::ask_named(file, id, ticks, false, first, out),
+            })?;
+            tally.same(&asked, file, ours, theirs)?;
+            let wrapped = match way {
+                Way::More => nzd::ask(file, id, ticks, nzd::Mark::MoreMayCome, edition),
+                Way::All => nzd::ask(file, id, ticks, nzd::Mark::ThisIsAll, edition),
+                Way::Plain => nzd::ask_plain(file, id, ticks, edition),
+                Way::NamedMore => nzd::ask_named(file, id, ticks, nzd::Mark::MoreMayCome, edition),
+                Way::NamedAll => nzd::ask_named(file, id, ticks, nzd::Mark::ThisIsAll, edition),
+            };
+            tally.same(&asked, file, wrapped_numbers(file, wrapped), theirs)?;
         }
-        .map(|answer| numbers_of(&answer))
-        .map_err(pair);
-        let ours = lent::numbers(file, |out| match way {
-            Way::More => ffi::ask(file, id, ticks, true, out),
-            Way::All => ffi::ask(file, id, ticks, false, out),
-            Way::Plain => ffi::ask_plain(file, id, ticks, out),
-            Way::NamedMore => ffi::ask_named(file, id, ticks, true, out),
-            Way::NamedAll => ffi::ask_named(file, id, ticks, false, out),
-        })?;
-        tally.same(&asked, file, ours, theirs)?;
-        let wrapped = match way {
-            Way::More => nzd::ask(file, id, ticks, nzd::Mark::MoreMayCome),
-            Way::All => nzd::ask(file, id, ticks, nzd::Mark::ThisIsAll),
-            Way::Plain => nzd::ask_plain(file, id, ticks),
-            Way::NamedMore => nzd::ask_named(file, id, ticks, nzd::Mark::MoreMayCome),
-            Way::NamedAll => nzd::ask_named(file, id, ticks, nzd::Mark::ThisIsAll),
-        };
-        tally.same(&asked, file, wrapped_numbers(file, wrapped), theirs)?;
     }
     Ok(())
 }

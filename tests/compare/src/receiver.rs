@@ -4,12 +4,12 @@
 use crate::lent;
 use crate::local;
 use crate::locations;
-use crate::questions::{numbers_of, wrapped_numbers, Question, Way};
+use crate::questions::{numbers_of, wrapped_numbers, Question, Way, EDITIONS};
 use crate::tally::{Difference, Outcome, Tally};
 use crate::whole::{error_pair, pair};
 use nzd::ffi;
 use second_reader::generate::Prng;
-use second_reader::{Mark, Refusal};
+use second_reader::{Edition, Mark, Refusal};
 
 /// What a buffer holds before the first call, and what stands beside it.
 const FOUND: u8 = 0xa7;
@@ -106,27 +106,31 @@ impl<'a> Receivers<'a> {
         let (r, lent, buffer, theirs) = (self.ours, self.lent(), &self.buffer, &self.theirs);
         let ours = (r, lent);
         let held = &buffer[..theirs.held.min(buffer.len())];
-        for way in [Way::More, Way::All, Way::Plain, Way::NamedMore, Way::NamedAll] {
-            let said = theirs
-                .ask(buffer, |held| match way {
-                    Way::More => second_reader::ask(held, id, *ticks, Mark::MoreMayCome),
-                    Way::All => second_reader::ask(held, id, *ticks, Mark::ThisIsAll),
-                    Way::Plain => second_reader::ask_plain(held, id, *ticks),
-                    Way::NamedMore => second_reader::ask_named(held, id, *ticks, Mark::MoreMayCome),
-                    Way::NamedAll => second_reader::ask_named(held, id, *ticks, Mark::ThisIsAll),
-                })
-                .map(|answer| numbers_of(&answer))
-                .map_err(pair);
-            let what = format!("a receiver of{}: {:?} at {ticks}, {way:?}", self.calls, id.escape_ascii().to_string());
-            tally.same(&what, held, ask_ours(ours, id, *ticks, way)?, said)?;
-            let wrapped = match way {
-                Way::More => self.wrapped.ask(id, *ticks, nzd::Mark::MoreMayCome),
-                Way::All => self.wrapped.ask(id, *ticks, nzd::Mark::ThisIsAll),
-                Way::Plain => self.wrapped.ask_plain(id, *ticks),
-                Way::NamedMore => self.wrapped.ask_named(id, *ticks, nzd::Mark::MoreMayCome),
-                Way::NamedAll => self.wrapped.ask_named(id, *ticks, nzd::Mark::ThisIsAll),
-            };
-            tally.same(&what, held, wrapped_numbers(self.wrapped.held(), wrapped), said)?;
+        for (edition, their_edition) in EDITIONS {
+            for way in [Way::More, Way::All, Way::Plain, Way::NamedMore, Way::NamedAll] {
+                let said = theirs
+                    .ask(buffer, |held| match way {
+                        Way::More => second_reader::ask(held, id, *ticks, Mark::MoreMayCome, their_edition),
+                        Way::All => second_reader::ask(held, id, *ticks, Mark::ThisIsAll, their_edition),
+                        Way::Plain => second_reader::ask_plain(held, id, *ticks, their_edition),
+                        Way::NamedMore => second_reader::ask_named(held, id, *ticks, Mark::MoreMayCome, their_edition),
+                        Way::NamedAll => second_reader::ask_named(held, id, *ticks, Mark::ThisIsAll, their_edition),
+                    })
+                    .map(|answer| numbers_of(&answer))
+                    .map_err(pair);
+                let name = id.escape_ascii().to_string();
+                let what = format!("a receiver of{}: {name:?} at {ticks}, {way:?}, edition {edition:?}", self.calls);
+                let first = edition == nzd::Edition::One;
+                tally.same(&what, held, ask_ours(ours, id, *ticks, way, first)?, said)?;
+                let wrapped = match way {
+                    Way::More => self.wrapped.ask(id, *ticks, nzd::Mark::MoreMayCome, edition),
+                    Way::All => self.wrapped.ask(id, *ticks, nzd::Mark::ThisIsAll, edition),
+                    Way::Plain => self.wrapped.ask_plain(id, *ticks, edition),
+                    Way::NamedMore => self.wrapped.ask_named(id, *ticks, nzd::Mark::MoreMayCome, edition),
+                    Way::NamedAll => self.wrapped.ask_named(id, *ticks, nzd::Mark::ThisIsAll, edition),
+                };
+                tally.same(&what, held, wrapped_numbers(self.wrapped.held(), wrapped), said)?;
+            }
         }
         let said = theirs
             .ask(buffer, |held| second_reader::map_local(held, id, local))
@@ -180,13 +184,14 @@ fn ask_ours(
     id: &[u8],
     ticks: i64,
     way: Way,
+    first_edition: bool,
 ) -> Result<Outcome<[i64; 7]>, Difference> {
     lent::numbers(buffer, |out| match way {
-        Way::More => ffi::receiver_ask(r, buffer, id, ticks, true, out),
-        Way::All => ffi::receiver_ask(r, buffer, id, ticks, false, out),
-        Way::Plain => ffi::receiver_ask_plain(r, buffer, id, ticks, out),
-        Way::NamedMore => ffi::receiver_ask_named(r, buffer, id, ticks, true, out),
-        Way::NamedAll => ffi::receiver_ask_named(r, buffer, id, ticks, false, out),
+        Way::More => ffi::receiver_ask(r, buffer, id, ticks, true, first_edition, out),
+        Way::All => ffi::receiver_ask(r, buffer, id, ticks, false, first_edition, out),
+        Way::Plain => ffi::receiver_ask_plain(r, buffer, id, ticks, first_edition, out),
+        Way::NamedMore => ffi::receiver_ask_named(r, buffer, id, ticks, true, first_edition, out),
+        Way::NamedAll => ffi::receiver_ask_named(r, buffer, id, ticks, false, first_edition, out),
     })
 }
 
@@ -246,8 +251,8 @@ fn by_hand(tally: &mut Tally, file: &[u8], (id, ticks): &Question, prng: &mut Pr
     let theirs = second_reader::Receiver { held: r.held, place: r.place };
     let what = format!("the state {r:?}");
     for ticks in [*ticks, i64::MAX] {
-        let said = theirs.ask(file, |held| second_reader::ask_plain(held, id, ticks)).map_err(pair);
-        let ours = ask_ours((r, file), id, ticks, Way::Plain)?;
+        let said = theirs.ask(file, |held| second_reader::ask_plain(held, id, ticks, Edition::Two)).map_err(pair);
+        let ours = ask_ours((r, file), id, ticks, Way::Plain, false)?;
         tally.same(&what, file, ours, said.map(|answer| numbers_of(&answer)))?;
     }
     let said = theirs.ask(file, second_reader::version_text).map_err(pair);

@@ -30,8 +30,14 @@ pub fn read_aliases(data: &[u8], pool: &Pool) -> Result<Vec<(u32, u32)>, u8> {
 }
 
 /// The interval that holds `ticks`, of the zone with the ID `name` or else of the zone that the alias `name` leads to. `more` says that
-/// more bytes may come.
-pub fn ask_named<'a>(file: &'a [u8], name: &[u8], ticks: i64, more: bool) -> Result<Answer<'a>, Refusal> {
+/// more bytes may come, `first_edition` that a fixed zone's ID is given for its name.
+pub fn ask_named<'a>(
+    file: &'a [u8],
+    name: &[u8],
+    ticks: i64,
+    more: bool,
+    first_edition: bool,
+) -> Result<Answer<'a>, Refusal> {
     if !(FIRST..=LAST).contains(&ticks) {
         return Err(Refusal { number: INSTANT_RANGE, place: 0 });
     }
@@ -52,7 +58,7 @@ pub fn ask_named<'a>(file: &'a [u8], name: &[u8], ticks: i64, more: bool) -> Res
         let refuse = |number| field.refuse(number);
         match id {
             1 => {
-                let mut find = Find::new(ticks);
+                let mut find = Find::new(ticks, first_edition);
                 if zone_of(field.data, &pool, name, &mut find).map_err(refuse)? {
                     return Ok(find.answer(&pool));
                 }
@@ -68,7 +74,7 @@ pub fn ask_named<'a>(file: &'a [u8], name: &[u8], ticks: i64, more: bool) -> Res
                 let data = follow(name, &pairs, &zones, &pool).map_err(refuse)?;
                 let mut cursor = Cursor::new(data);
                 let id = cursor.pool_number(pool.count()).map_err(refuse)?;
-                let mut find = Find::new(ticks);
+                let mut find = Find::new(ticks, first_edition);
                 read_rest(cursor, id, pool.count(), &mut find).map_err(refuse)?;
                 return Ok(find.answer(&pool));
             }

@@ -88,12 +88,13 @@ pub struct Answer<'a> {
     pub end: i64,
 }
 
-/// The interval of the zone `id` that holds `ticks`. `more` says that more bytes may come.
-pub fn ask<'a>(file: &'a [u8], id: &[u8], ticks: i64, more: bool) -> Result<Answer<'a>, Refusal> {
+/// The interval of the zone `id` that holds `ticks`. `more` says that more bytes may come, `first_edition` that
+/// a fixed zone's ID is given for its name.
+pub fn ask<'a>(file: &'a [u8], id: &[u8], ticks: i64, more: bool, first_edition: bool) -> Result<Answer<'a>, Refusal> {
     if !(FIRST..=LAST).contains(&ticks) {
         return Err(Refusal { number: number::INSTANT_RANGE, place: 0 });
     }
-    let mut find = Find::new(ticks);
+    let mut find = Find::new(ticks, first_edition);
     let pool = find_zone(file, id, more, &mut find)?;
     Ok(find.answer(&pool))
 }

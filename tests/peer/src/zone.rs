@@ -23,9 +23,15 @@ pub trait Visit {
     #[inline]
     fn transition(&mut self, _value: i64, _previous: i64, _before: usize, _after: usize) {}
 
-    /// A listed interval, or the only one of a fixed zone.
+    /// A listed interval.
     #[inline]
     fn interval(&mut self, _interval: Interval) {}
+
+    /// The only interval of a fixed zone with this ID.
+    #[inline]
+    fn fixed(&mut self, _id: u32, interval: Interval) {
+        self.interval(interval);
+    }
 
     /// The end of the last interval, and the tail that holds from there on.
     #[inline]
@@ -42,7 +48,7 @@ pub fn read_rest(mut cursor: Cursor, id: u32, pool_count: u32, visit: &mut impl 
         1 => {
             let wall = cursor.offset()?;
             let name = if cursor.left() == 0 { id } else { cursor.pool_number(pool_count)? };
-            visit.interval(Interval { start: START_OF_TIME, name, wall, savings: 0 });
+            visit.fixed(id, Interval { start: START_OF_TIME, name, wall, savings: 0 });
             visit.end(END_OF_TIME, None);
         }
         2 => read_listed(&mut cursor, pool_count, visit)?,
@@ -109,14 +115,16 @@ fn read_transition(cursor: &mut Cursor, previous: i64, visit: &mut impl Visit) -
 /// Finds the interval that holds an instant.
 pub struct Find {
     ticks: i64,
+    /// Whether a fixed zone's ID is given for its name.
+    first_edition: bool,
     held: Interval,
     end: i64,
 }
 
 impl Find {
-    pub fn new(ticks: i64) -> Find {
+    pub fn new(ticks: i64, first_edition: bool) -> Find {
         let held = Interval { start: START_OF_TIME, name: 0, wall: 0, savings: 0 };
-        Find { ticks, held, end: END_OF_TIME }
+        Find { ticks, first_edition, held, end: END_OF_TIME }
     }
 
     /// The answer, once the zone is read.
@@ -135,6 +143,12 @@ impl Visit for Find {
         } else if self.end == END_OF_TIME {
             self.end = interval.start;
         }
+    }
+
+    #[inline]
+    fn fixed(&mut self, id: u32, interval: Interval) {
+        let name = if self.first_edition { id } else { interval.name };
+        self.interval(Interval { name, ..interval });
     }
 
     #[inline]

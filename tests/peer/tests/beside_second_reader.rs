@@ -5,7 +5,7 @@ use second_reader::generate::{
 };
 use second_reader::locations::LocationField;
 use second_reader::transition::{Transition, FIRST, LAST};
-use second_reader::{Mark, Refusal};
+use second_reader::{Edition, Mark, Refusal};
 use std::collections::BTreeSet;
 use std::ops::Range;
 
@@ -66,15 +66,21 @@ fn number_of(said: &Said) -> u8 {
 
 fn same_question(file: &[u8], id: &[u8], ticks: i64, seen: &mut Seen) {
     let shown = &file[..file.len().min(2000)];
-    for mark in [Mark::MoreMayCome, Mark::ThisIsAll] {
-        let more = mark == Mark::MoreMayCome;
-        let asked = expected(second_reader::ask(file, id, ticks, mark));
+    for (mark, edition) in [
+        (Mark::MoreMayCome, Edition::One),
+        (Mark::ThisIsAll, Edition::One),
+        (Mark::MoreMayCome, Edition::Two),
+        (Mark::ThisIsAll, Edition::Two),
+    ] {
+        let (more, first) = (mark == Mark::MoreMayCome, edition == Edition::One);
+        let asked = expected(second_reader::ask(file, id, ticks, mark, edition));
         seen.asked.insert(number_of(&asked));
-        assert_eq!(given(file, peer::ask(file, id, ticks, more)), asked, "{shown:02x?}, {id:?} at {ticks}, {mark:?}");
-        let named = expected(second_reader::ask_named(file, id, ticks, mark));
+        let ours = given(file, peer::ask(file, id, ticks, more, first));
+        assert_eq!(ours, asked, "{shown:02x?}, {id:?} at {ticks}, {mark:?}, {edition:?}");
+        let named = expected(second_reader::ask_named(file, id, ticks, mark, edition));
         seen.named.insert(number_of(&named));
-        let ours = given(file, peer::ask_named(file, id, ticks, more));
-        assert_eq!(ours, named, "{shown:02x?}, the name {id:?} at {ticks}, {mark:?}");
+        let ours = given(file, peer::ask_named(file, id, ticks, more, first));
+        assert_eq!(ours, named, "{shown:02x?}, the name {id:?} at {ticks}, {mark:?}, {edition:?}");
     }
 }
 

@@ -4,7 +4,7 @@ use crate::cases;
 use crate::Done;
 use second_reader::generate;
 use second_reader::{ask, ask_named, file, lines, location, map_local, normalize, rewrite, version_text};
-use second_reader::{Answer, LocationField, Mark, Pin, Refusal};
+use second_reader::{Answer, Edition, LocationField, Mark, Pin, Refusal};
 use std::ffi::{OsStr, OsString};
 use std::fs;
 use std::io::{ErrorKind, Read};
@@ -34,10 +34,10 @@ pub(crate) fn run(arguments: &[OsString]) -> Result<Done, Misuse> {
             let bytes = read(file)?;
             Ok(done(file::read_file(&bytes).map(|_| b"0".to_vec())))
         }
-        // The plain question.
-        (Some("ask"), [file, zone, ticks]) => ask_file(ask, file, zone, ticks, Mark::MoreMayCome),
-        (Some("ask"), [file, zone, ticks, mark]) => ask_file(ask, file, zone, ticks, marked(mark)?),
-        (Some("named"), [file, name, ticks, mark]) => ask_file(ask_named, file, name, ticks, marked(mark)?),
+        (Some("ask"), [file, zone, ticks, rest @ ..]) => ask_file(ask, [file, zone, ticks], rest),
+        (Some("named"), [file, name, ticks, rest @ ..]) if !rest.is_empty() => {
+            ask_file(ask_named, [file, name, ticks], rest)
+        }
         (Some("local"), [file, zone, local]) => {
             let bytes = read(file)?;
             let found = map_local(&bytes, zone.as_encoded_bytes(), number(local)?);
@@ -107,12 +107,28 @@ fn marked(word: &OsStr) -> Result<Mark, Misuse> {
     }
 }
 
-/// A question, marked or named.
-type Question = fn(&[u8], &[u8], i64, Mark) -> Result<Answer, Refusal>;
+fn edition(word: &OsStr) -> Result<Edition, Misuse> {
+    match word.to_str() {
+        Some("1") => Ok(Edition::One),
+        Some("2") => Ok(Edition::Two),
+        _ => Err(Misuse::Words("the edition is neither 1 nor 2".to_string())),
+    }
+}
 
-fn ask_file(question: Question, file: &OsStr, id: &OsStr, ticks: &OsStr, mark: Mark) -> Result<Done, Misuse> {
+/// A question, marked or named.
+type Question = fn(&[u8], &[u8], i64, Mark, Edition) -> Result<Answer, Refusal>;
+
+/// Asks for an ID at an instant. The words behind them are the mark, without which it is the plain question, and the edition,
+/// without which it is 2.
+fn ask_file(question: Question, [file, id, ticks]: [&OsStr; 3], rest: &[&OsStr]) -> Result<Done, Misuse> {
+    let (mark, edition) = match rest {
+        [] => (Mark::MoreMayCome, Edition::Two),
+        [mark] => (marked(mark)?, Edition::Two),
+        [mark, word] => (marked(mark)?, edition(word)?),
+        _ => return Err(Misuse::Usage),
+    };
     let bytes = read(file)?;
-    let asked = question(&bytes, id.as_encoded_bytes(), number(ticks)?, mark);
+    let asked = question(&bytes, id.as_encoded_bytes(), number(ticks)?, mark, edition);
     Ok(done(asked.map(|answer| {
         let Answer { wall, savings, standard, start, end, .. } = answer;
         let mut text = format!("{wall} {savings} {standard} {start} {end} ").into_bytes();

@@ -7,7 +7,7 @@ use crate::locations::{read_locations, Location, LocationField};
 use crate::number::{Number, Refusal};
 use crate::pool::{read_pool, Pool};
 use crate::transition::{in_range, Transition};
-use crate::zone::{read_zone, Zone};
+use crate::zone::{read_zone, Rest, Zone};
 use std::collections::BTreeSet;
 use std::ops::Range;
 
@@ -46,6 +46,15 @@ impl Mark {
             Mark::ThisIsAll => Number::NotFound,
         }
     }
+}
+
+/// 02, Ask 11: "Questions take an edition, 1 or 2, and no third can be named".
+#[derive(Clone, Copy, Debug, PartialEq, Eq)]
+pub enum Edition {
+    /// "Under 1 a fixed zone's name is its ID whatever follows".
+    One,
+    /// "under 2 it is as today"
+    Two,
 }
 
 /// "An answer carries wall offset, savings, the name as a part of the lent bytes, and the interval's start and end." 02,
@@ -221,24 +230,29 @@ pub fn check(bytes: &[u8]) -> (u8, u64) {
 /// The marked question: the interval of `zone` that holds `ticks`.
 ///
 /// "A question checks field 0 and every zone in full, up to and with the first that has the asked ID, and doesn't
-/// look past it."
-pub fn ask(bytes: &[u8], zone: &[u8], ticks: i64, mark: Mark) -> Result<Answer, Refusal> {
+/// look past it." What follows a fixed zone's offset is checked under both editions (reading 11.1).
+pub fn ask(bytes: &[u8], zone: &[u8], ticks: i64, mark: Mark, edition: Edition) -> Result<Answer, Refusal> {
     // "Order: 14; version; then fields in file order."
     if !in_range(ticks) {
         return Err(Number::InstantRange.at(0));
     }
     let (pool, zone) = find_zone(bytes, zone, mark)?;
-    Ok(answer(&pool, &zone, ticks))
+    Ok(answer(&pool, &zone, ticks, edition))
 }
 
 /// What a zone says of an instant in range.
-pub(crate) fn answer(pool: &Pool, zone: &Zone, ticks: i64) -> Answer {
+pub(crate) fn answer(pool: &Pool, zone: &Zone, ticks: i64, edition: Edition) -> Answer {
     let holding = zone.at(ticks);
+    let name = match (&zone.rest, edition) {
+        // Flag 1 only (reading 11.2), and the ID's own string (reading 11.3).
+        (Rest::Fixed { .. }, Edition::One) => zone.id,
+        _ => holding.interval.name,
+    };
     Answer {
         wall: holding.interval.wall,
         savings: holding.interval.savings,
         standard: holding.interval.standard(),
-        name: pool[holding.interval.name].clone(),
+        name: pool[name].clone(),
         start: holding.interval.start,
         end: holding.end,
     }
@@ -268,8 +282,8 @@ pub(crate) fn find_zone(bytes: &[u8], zone: &[u8], mark: Mark) -> Result<(Pool, 
 }
 
 /// 02, Ask 1: "From now on the plain question means \"more may come\"."
-pub fn ask_plain(bytes: &[u8], zone: &[u8], ticks: i64) -> Result<Answer, Refusal> {
-    ask(bytes, zone, ticks, Mark::MoreMayCome)
+pub fn ask_plain(bytes: &[u8], zone: &[u8], ticks: i64, edition: Edition) -> Result<Answer, Refusal> {
+    ask(bytes, zone, ticks, Mark::MoreMayCome, edition)
 }
 
 /// The tzdb version text, as a part of the lent bytes: "check all first; then 15 or 12", "for 12 on the version text,

@@ -25,7 +25,7 @@ pub mod rewrite;
 pub mod transition;
 pub mod zone;
 
-pub use file::{ask, ask_plain, check, version_text, Answer, Mark};
+pub use file::{ask, ask_plain, check, version_text, Answer, Edition, Mark};
 pub use lines::lines;
 pub use local::{map_local, LocalInstants};
 pub use locations::{location, LocationField, Pin};

@@ -1,6 +1,6 @@
 //! 01, "One whole file": the program's question lines and what it writes for them.
 
-use crate::file::{ask, Mark};
+use crate::file::{ask, Edition, Mark};
 use crate::number::Number;
 
 /// "zones.nzd (up to 65,536 bytes, longer gives `4 0` for each line, before all else"
@@ -59,7 +59,8 @@ fn line_output(file: &[u8], line: &[u8]) -> Vec<u8> {
         match parse_line(line) {
             None => Err(Number::BadLine.at(0)),
             Some(Question { ticks: None, .. }) => Err(Number::InstantRange.at(0)),
-            Some(Question { zone, ticks: Some(ticks), mark }) => ask(file, zone, ticks, mark),
+            // 02, Ask 11: "the program's lines mean 2".
+            Some(Question { zone, ticks: Some(ticks), mark }) => ask(file, zone, ticks, mark, Edition::Two),
         }
     };
     match answered {

@@ -11,8 +11,8 @@ const USAGE: &str = "\
 usage: second_reader COMMAND ...
 
   check FILE                           check a whole file: `0 0`, or number and place
-  ask FILE ZONE TICKS [part|all]       `0 WALL SAVINGS STANDARD START END NAME`; unmarked is part
-  named FILE NAME TICKS part|all       the same for a zone ID or an alias
+  ask FILE ZONE TICKS [part|all [1|2]] `0 WALL SAVINGS STANDARD START END NAME`; unmarked is part, the edition else 2
+  named FILE NAME TICKS part|all [1|2] the same for a zone ID or an alias
   local FILE ZONE LOCAL                instants of a local time: `0 COUNT EARLIEST LATEST`, or number and place
   location FILE 6|7 NUMBER             `0 LATITUDE LONGITUDE ZONE COMMENT COUNTRIES [NAME CODE]...`, texts as HEX@PLACE
   version FILE                         `0 TEXT`, or number and place

@@ -1,7 +1,7 @@
 //! 02, Ask 5: the question by a name that is a zone ID or an alias.
 
 use crate::aliases::{follow, read_aliases};
-use crate::file::{answer, read_version, Answer, Fields, Mark, ALIASES, POOL, VERSION_TEXT, ZONE};
+use crate::file::{answer, read_version, Answer, Edition, Fields, Mark, ALIASES, POOL, VERSION_TEXT, ZONE};
 use crate::number::{Number, Refusal};
 use crate::pool::{read_pool, Pool};
 use crate::transition::in_range;
@@ -12,7 +12,7 @@ use crate::zone::{read_zone, Zone};
 /// A zone with the asked ID answers as soon as its field is whole (reading 5.2). Else field 2 is checked, field 3 is checked
 /// whole, and the name is followed in it. "\"no such zone\" is given once an ID above 3 has begun or the whole of field 3
 /// lacks it."
-pub fn ask_named(bytes: &[u8], name: &[u8], ticks: i64, mark: Mark) -> Result<Answer, Refusal> {
+pub fn ask_named(bytes: &[u8], name: &[u8], ticks: i64, mark: Mark, edition: Edition) -> Result<Answer, Refusal> {
     if !in_range(ticks) {
         return Err(Number::InstantRange.at(0));
     }
@@ -31,7 +31,7 @@ pub fn ask_named(bytes: &[u8], name: &[u8], ticks: i64, mark: Mark) -> Result<An
             ZONE => {
                 let zone = read_zone(field.data, pool.len()).map_err(refuse)?;
                 if &bytes[pool[zone.id].clone()] == name {
-                    return Ok(answer(&pool, &zone, ticks));
+                    return Ok(answer(&pool, &zone, ticks, edition));
                 }
                 zones.push(zone);
             }
@@ -45,7 +45,7 @@ pub fn ask_named(bytes: &[u8], name: &[u8], ticks: i64, mark: Mark) -> Result<An
                 let pairs: Vec<(&[u8], &[u8])> =
                     pairs.iter().map(|&(key, target)| (string(key), string(target))).collect();
                 let zone = |name: &[u8]| zones.iter().find(|zone| string(zone.id) == name);
-                return follow(name, zone, &pairs).map(|zone| answer(&pool, zone, ticks)).map_err(refuse);
+                return follow(name, zone, &pairs).map(|zone| answer(&pool, zone, ticks, edition)).map_err(refuse);
             }
         }
     }

@@ -5,20 +5,20 @@ use mir.Facts.{toZ-ofZ}
 use Rattle.questions.specs.Question.{askPlain}
 use Rattle.replies.proofs.ReplyLaws.{gives-as}
 use Rattle.file_replies.specs.Small.{SmallAnswer}
-use Rattle.file_replies.specs.Functions.{answerReply}
+use Rattle.file_replies.specs.Functions.{editionOf, answerReply}
 use Rattle.capi.proofs.SmallLaws.{ask-small}
 use borrow.Author.Needs.{needs}
 use Rattle.capi.proofs.nzd_ask_plain.Statement.{statement}
 use Rattle.capi.proofs.nzd_ask_plain.Tie as tie
 
-asked : (c : tie.After-ask-plain) → c .ask-plain .result ≡ askPlain (now (c .before .before .before .args .file)) (now (c .before .before .before .args .id)) (c .before .before .before .args .ticks)
-asked c = rw (toZ-ofZ (c .before .before .before .fits .ticks)) at (c .ask-plain .ensures)
+asked : (c : tie.After-ask-plain) → c .ask-plain .result ≡ askPlain (now (c .before .before .before .before .args .file)) (now (c .before .before .before .before .args .id)) (c .before .before .before .before .args .ticks) (editionOf (c .before .before .before .before .args .first))
+asked c = rw (toZ-ofZ (c .before .before .before .before .fits .ticks), c .before .edition-of .ensures) at (c .ask-plain .ensures)
 
 give-answer-requires : tie.Need-give-answer-requires
-give-answer-requires c κs = subst⁻¹ SmallAnswer (asked (c .before)) (ask-small _ _ _ _ (omega (arith, c .before .before .before .before .good .0 .1)))
+give-answer-requires c κs = subst⁻¹ SmallAnswer (asked (c .before)) (ask-small _ _ _ _ _ (omega (arith, c .before .before .before .before .before .good .0 .1)))
 
 returns : tie.Need-returns
 returns c = gives-as _ _ _ _ _ (ap answerReply (asked (c .before .before))) (c .give-answer .ensures)
 
 pub nzd-ask-plain-spec : {M : Type 1} → statement M
-nzd-ask-plain-spec = tie.close (tie.spec (λ c κs. search needs) give-answer-requires returns)
+nzd-ask-plain-spec = tie.close (tie.spec (λ c κs. search needs) (λ c κs. search needs) give-answer-requires returns)

@@ -1,6 +1,6 @@
 use mathlib.Core.Path.{sym, ap, _∙_}
 use Rattle.zones.specs.declared.Answer.the-variants.{In}
-use Rattle.lookups.proofs.LookupLaws.{answer-is, before-tail, from-tail, tail-ok}
+use Rattle.lookups.proofs.LookupLaws.{answer-is, fixed-is, before-tail, from-tail, tail-ok}
 use borrow.Author.Needs.{needs}
 use Rattle.lookups.proofs.find.Statement.{statement}
 use Rattle.lookups.proofs.find.Tie as tie
@@ -8,7 +8,7 @@ use Rattle.lookups.proofs.find.Tie as tie
 returns : tie.Need-returns
 returns c =
     before-tail _ _ _ _ (c .before .if1 .taken) (c .held-until2 .ensures) ∙
-    answer-is _ _ _ _ _ (c .before .before .before .before .before .before .before .before .before .pre)
+    answer-is _ _ _ _ _ _ (c .before .before .before .before .before .before .before .before .before .pre)
     (sym (c .before .before .before .before .before .c2 .given .1) ∙
     c .before .before .before .before .before .before .before .read-zone .ensures)
 
@@ -21,24 +21,24 @@ in-tail-requires c κs = (
 
 returns-2 : tie.Need-returns-2
 returns-2 c =
-    answer-is _ _ _ _ _ (c .before .before .before .before .before .pre)
+    answer-is _ _ _ _ _ _ (c .before .before .before .before .before .pre)
     (sym (c .before .k .given .1) ∙ c .before .before .before .read-zone .ensures)
 
 returns-3 : tie.Need-returns-3
 returns-3 c =
-    answer-is _ _ _ _ _ (c .before .before .before .before .before .pre)
-    (sym (c .before .offset .given .1) ∙ c .before .before .before .read-zone .ensures)
+    fixed-is _ _ _ _ _ _ _ _ _ _ (c .before .before .before .before .before .before .pre)
+    (sym (c .before .before .id .given .1) ∙ c .before .before .before .before .read-zone .ensures) (c .fixed-name .ensures)
 
 returns-4 : tie.Need-returns-4
 returns-4 c =
     ap In (c .held-until .ensures) ∙
-    answer-is _ _ _ _ _ (c .before .before .before .before .before .before .pre)
+    answer-is _ _ _ _ _ _ (c .before .before .before .before .before .before .pre)
     (sym (c .before .before .c .given .1) ∙ c .before .before .before .before .read-zone .ensures)
 
 returns-5 : tie.Need-returns-5
 returns-5 c =
     from-tail _ _ _ _ (c .before .if1 .left) (c .in-tail .ensures) ∙
-    answer-is _ _ _ _ _ (c .before .before .before .before .before .before .before .before .before .pre)
+    answer-is _ _ _ _ _ _ (c .before .before .before .before .before .before .before .before .before .pre)
     (sym (c .before .before .before .before .before .c2 .given .1) ∙
     c .before .before .before .before .before .before .before .read-zone .ensures)
 
@@ -49,6 +49,7 @@ find-spec =
     (λ c κs. search needs)
     (λ c. search needs)
     (λ c. search needs)
+    (λ c κs. search needs)
     (λ c. search needs)
     (λ c κs. search needs)
     (λ c. search needs)

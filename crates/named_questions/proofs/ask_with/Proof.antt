@@ -12,7 +12,7 @@ answer-at-requires : tie.Need-answer-at-requires
 answer-at-requires c κs = (c .before .before .before .before .before .before .before .before .before .before .before .before .pre .0, ready _ _ _ (c .before .before .before .before .before .before .before .before .before .before .before .before .pre .1) (c .before .before .before .before .before .walk-named .ensures .1), c .before .before .before .before .before .before .before .before .before .before .before .before .pre .4, c .before .before .before .before .before .walk-named .ensures .0 .within)
 
 returns : tie.Need-returns
-returns c = c .answer-at .ensures ∙ named-outcome _ _ _ _ _ (c .before .before .before .before .before .before .walk-named .ensures .0)
+returns c = c .answer-at .ensures ∙ named-outcome _ _ _ _ _ _ (c .before .before .before .before .before .before .walk-named .ensures .0)
 
 pub ask-with-spec : {M : Type 1} → statement M
 ask-with-spec =

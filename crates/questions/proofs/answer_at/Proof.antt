@@ -24,25 +24,25 @@ answered-requires : tie.Need-answered-requires
 answered-requires c κs = (
   c .before .before .before .before .before .before .before .before .before .before .before .pre .1,
   subst (λ (n : ℕ). FoundOk n (c .before .before .x .given .0 .0)) (located-lies (c .before .before .before .before .before .before .before .before .before .before .before .pre .3) _ (c .before .before .before .before .before .before .before .l4 .given .1) .count-is)
-      (found-ok _ _ _ _ (c .before .before .before .before .before .before .before .before .before .before .before .pre .2) (sym (c .before .before .x .given .1) ∙ c .before .before .before .before .find .ensures)),
+      (found-ok _ _ _ _ _ (c .before .before .before .before .before .before .before .before .before .before .before .pre .2) (sym (c .before .before .x .given .1) ∙ c .before .before .before .before .find .ensures)),
   omega (arith, c .before .before .before .before .before .before .before .before .before .before .before .pre .0 .order, c .before .before .before .before .before .before .before .before .before .before .before .pre .0 .limit),
   simp (length-take, length-drop) (omega (arith, c .before .before .before .before .before .before .before .before .before .before .before .pre .0 .limit)),
 )
 
 returns : tie.Need-returns
-returns c = at-refused _ _ _ _ _ _ (c .before .l .given .1)
+returns c = at-refused _ _ _ _ _ _ _ (c .before .l .given .1)
 
 returns-2 : tie.Need-returns-2
-returns-2 c = at-cut _ _ _ _ _ (c .before .l2 .given .1)
+returns-2 c = at-cut _ _ _ _ _ _ (c .before .l2 .given .1)
 
 returns-3 : tie.Need-returns-3
-returns-3 c = at-end _ _ _ _ _ (c .before .l3 .given .1)
+returns-3 c = at-end _ _ _ _ _ _ (c .before .l3 .given .1)
 
 returns-4 : tie.Need-returns-4
-returns-4 c = at-denied _ _ _ _ _ (c .before .before .before .before .before .before .l4 .given .1) _ (sym (c .before .n .given .1) ∙ c .before .before .before .find .ensures)
+returns-4 c = at-denied _ _ _ _ _ _ (c .before .before .before .before .before .before .l4 .given .1) _ (sym (c .before .n .given .1) ∙ c .before .before .before .find .ensures)
 
 returns-5 : tie.Need-returns-5
-returns-5 c = ap Answered (c .answered .ensures) ∙ at-found _ _ _ _ _ (c .before .before .before .before .before .before .before .before .l4 .given .1) _ (sym (c .before .before .before .x .given .1) ∙ c .before .before .before .before .before .find .ensures)
+returns-5 c = ap Answered (c .answered .ensures) ∙ at-found _ _ _ _ _ _ (c .before .before .before .before .before .before .before .before .l4 .given .1) _ (sym (c .before .before .before .x .given .1) ∙ c .before .before .before .before .before .find .ensures)
 
 pub answer-at-spec : {M : Type 1} → statement M
 answer-at-spec =

@@ -15,7 +15,7 @@ answer-at-requires c κs = (
 )
 
 returns : tie.Need-returns
-returns c = c .answer-at .ensures ∙ ap (outcomeAt (c .before .before .before .before .before .before .before .before .before .args .t)) (sym (located-out (c .before .before .before .before .walk .ensures .0) .1))
+returns c = c .answer-at .ensures ∙ ap (outcomeAt (c .before .before .before .before .before .before .before .before .before .args .edition) (c .before .before .before .before .before .before .before .before .before .args .t)) (sym (located-out (c .before .before .before .before .walk .ensures .0) .1))
 
 pub ask-with-spec : {M : Type 1} → statement M
 ask-with-spec = tie.close (tie.spec (λ c κs. search needs) answer-at-requires (λ c. search needs) returns)

@@ -1,9 +1,9 @@
 //! 02, Ask 5: field 3 and the named question.
 
-use crate::common::{generated, hex, pair, worked};
+use crate::common::{ask, ask_named, generated, hex, pair, worked};
 use second_reader::generate::{damaged, names, Damage, FileContent, Prng, Size};
 use second_reader::transition::{FIRST, LAST};
-use second_reader::{ask, ask_named, check, Answer, Mark, Number, Refusal};
+use second_reader::{check, Answer, Mark, Number, Refusal};
 use std::collections::BTreeSet;
 
 const MARKS: [Mark; 2] = [Mark::MoreMayCome, Mark::ThisIsAll];

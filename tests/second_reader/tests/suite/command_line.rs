@@ -59,6 +59,13 @@ fn commands_on_files() {
     // Oslo, 2024-10-27 02:30 and 2024-03-31 02:30.
     prints(&["local", EUROPE, "Europe/Oslo", "17299962000000000"], "", "0 2 17299890000000000 17299926000000000\n", 0);
     prints(&["local", EUROPE, "Europe/Oslo", "17118522000000000"], "", "17 0\n", 1);
+    fs::write(dir.join("fixed"), crate::common::bytes_of("V P 0104 00013201 0303 010200")).expect("a file");
+    for (words, name) in [(vec!["part", "1"], "A"), (vec!["all", "2"], "B"), (vec!["part"], "B")] {
+        let said = format!("0 3600000 0 3600000 start end {name}\n");
+        let fixed = path("fixed");
+        prints(&[vec!["ask", &fixed, "A", "0"], words.clone()].concat(), "", &said, 0);
+        prints(&[vec!["named", &fixed, "C", "0"], words].concat(), "", &said, 0);
+    }
     fs::write(dir.join("pins"), crate::common::bytes_of("V P 0707 01 20 818d4f 00 0200")).expect("a file");
     prints(&["location", &path("pins"), "7", "0"], "", "20 13\n", 1);
     fs::write(dir.join("pins"), crate::common::bytes_of("V P 0709 01 20 ff8c4f 02 0001 0001 02 00")).expect("a file");
@@ -168,6 +175,9 @@ fn misuse_is_said_in_words() {
         &["ask", EUROPE, "Europe/Oslo"],
         &["ask", EUROPE, "Europe/Oslo", "x"],
         &["ask", EUROPE, "Europe/Oslo", "0", "some"],
+        &["ask", EUROPE, "Europe/Oslo", "0", "all", "3"],
+        &["ask", EUROPE, "Europe/Oslo", "0", "all", "1", "1"],
+        &["named", EUROPE, "Europe/Oslo", "0", "all", "0"],
         &["named", EUROPE, "Europe/Oslo", "0"],
         &["named", EUROPE, "Europe/Oslo", "0", "some"],
         &["local", EUROPE, "Europe/Oslo"],

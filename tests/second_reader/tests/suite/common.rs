@@ -2,8 +2,8 @@
 
 use second_reader::generate::{plan, random_content, FileContent, FilePlan, Forms, Prng, Size};
 use second_reader::transition::{FIRST, LAST};
-use second_reader::{ask, ask_named, ask_plain, check, lines, location, map_local, normalize, version_text};
-use second_reader::{Answer, LocationField, Mark, Pin, Refusal};
+use second_reader::{check, lines, location, map_local, normalize, version_text};
+use second_reader::{Answer, Edition, LocationField, Mark, Pin, Refusal};
 
 /// Bytes from hex digits; spaces are skipped.
 pub fn hex(text: &str) -> Vec<u8> {
@@ -24,6 +24,21 @@ pub fn zone_file(data: &str) -> Vec<u8> {
     let data = hex(data);
     let size = second_reader::codes::encode_count(data.len() as i64).expect("a size");
     [hex(A), vec![1], size, data].concat()
+}
+
+/// The marked question under edition 2.
+pub fn ask(bytes: &[u8], zone: &[u8], ticks: i64, mark: Mark) -> Result<Answer, Refusal> {
+    second_reader::ask(bytes, zone, ticks, mark, Edition::Two)
+}
+
+/// The plain question under edition 2.
+pub fn ask_plain(bytes: &[u8], zone: &[u8], ticks: i64) -> Result<Answer, Refusal> {
+    second_reader::ask_plain(bytes, zone, ticks, Edition::Two)
+}
+
+/// The named question under edition 2.
+pub fn ask_named(bytes: &[u8], name: &[u8], ticks: i64, mark: Mark) -> Result<Answer, Refusal> {
+    second_reader::ask_named(bytes, name, ticks, mark, Edition::Two)
 }
 
 /// Number and place of a question; 0 0 if it is answered.
@@ -113,17 +128,18 @@ fn called(call: &str, file: &[u8]) -> String {
             let mut out = vec![0xaa; room.parse().expect("a room")];
             shown(normalize(file, &mut out), |length| to_hex(&out[..length]))
         }
-        ["ask", id, ticks, mark] => {
+        ["ask", id, ticks, mark, edition @ ..] => {
             let (id, ticks) = (named_bytes(id), ticks_of(ticks));
             let asked = match marked(mark) {
-                Some(mark) => ask(file, id, ticks, mark),
-                None => ask_plain(file, id, ticks),
+                Some(mark) => second_reader::ask(file, id, ticks, mark, edition_of(edition)),
+                None => second_reader::ask_plain(file, id, ticks, edition_of(edition)),
             };
             shown(asked, |answer| answer_text(file, &answer))
         }
-        ["named", name, ticks, mark] => {
-            let mark = marked(mark).expect("a mark");
-            shown(ask_named(file, named_bytes(name), ticks_of(ticks), mark), |answer| answer_text(file, &answer))
+        ["named", name, ticks, mark, edition @ ..] => {
+            let (name, mark) = (named_bytes(name), marked(mark).expect("a mark"));
+            let asked = second_reader::ask_named(file, name, ticks_of(ticks), mark, edition_of(edition));
+            shown(asked, |answer| answer_text(file, &answer))
         }
         ["wall", id, local] => shown(map_local(file, named_bytes(id), ticks_of(local)), |found| {
             format!("{} {} {}", found.count, found.earliest, found.latest)
@@ -167,6 +183,15 @@ fn marked(word: &str) -> Option<Mark> {
         "all" => Some(Mark::ThisIsAll),
         "plain" => None,
         _ => panic!("{word} is no mark"),
+    }
+}
+
+/// Edition 2 where none is said.
+fn edition_of(words: &[&str]) -> Edition {
+    match words {
+        [] | ["2"] => Edition::Two,
+        ["1"] => Edition::One,
+        _ => panic!("{words:?} is no edition"),
     }
 }
 

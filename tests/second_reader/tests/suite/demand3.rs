@@ -1,16 +1,16 @@
-//! Demand 3 by brute force: every prefix, both marks, bytes added.
+//! Demand 3 by brute force: every prefix, both marks, both editions, bytes added.
 
 use crate::common::{generated, pair};
 use second_reader::generate::{damaged, instants, Damage, Prng, Size};
 use second_reader::transition::{FIRST, LAST};
-use second_reader::{ask, Mark, Number};
+use second_reader::{ask, Edition, Mark, Number};
 
 /// "If that gives anything but \"not yet\", then whatever bytes follow, the bytes so lengthened give the same answer
 /// or refusal, asked with more expected or as all there is." Gives the number of standing results seen.
-fn stands(file: &[u8], zone: &[u8], ticks: i64, prng: &mut Prng) -> usize {
+fn stands(file: &[u8], zone: &[u8], ticks: i64, edition: Edition, prng: &mut Prng) -> usize {
     let mut standing = 0;
     for length in 0..=file.len() {
-        let said = ask(&file[..length], zone, ticks, Mark::MoreMayCome);
+        let said = ask(&file[..length], zone, ticks, Mark::MoreMayCome, edition);
         if matches!(&said, Err(refusal) if refusal.number == Number::NotYet) {
             continue;
         }
@@ -22,7 +22,11 @@ fn stands(file: &[u8], zone: &[u8], ticks: i64, prng: &mut Prng) -> usize {
         for more in [&file[length..], &looks_like_a_zone, &any[0], &any[1]] {
             let longer = [&file[..length], more].concat();
             for mark in [Mark::MoreMayCome, Mark::ThisIsAll] {
-                assert_eq!(ask(&longer, zone, ticks, mark), said, "{longer:02x?} after {length}, {zone:?} {ticks}");
+                assert_eq!(
+                    ask(&longer, zone, ticks, mark, edition),
+                    said,
+                    "{longer:02x?} after {length}, {zone:?} {ticks}"
+                );
             }
         }
     }
@@ -44,10 +48,11 @@ fn what_was_said_stands() {
             asked.push((content.id(zone).to_vec(), ticks));
         }
         for (zone, ticks) in asked {
-            seen += stands(&file, &zone, ticks, &mut prng);
+            let edition = if prng.one_in(2) { Edition::One } else { Edition::Two };
+            seen += stands(&file, &zone, ticks, edition, &mut prng);
             // Files that pass a largest size are too long to take every prefix of.
             if bad.len() < 2000 {
-                seen += stands(&bad, &zone, ticks, &mut prng);
+                seen += stands(&bad, &zone, ticks, edition, &mut prng);
             }
         }
     }
@@ -78,11 +83,12 @@ fn parts_of_well_formed_files_give_exactly_what_they_must() {
                 ticks.extend([*prng.pick(&all), *prng.pick(&all)]);
             }
             for ticks in ticks {
-                let whole = ask(&file, &zone, ticks, Mark::ThisIsAll);
+                let edition = if prng.one_in(2) { Edition::One } else { Edition::Two };
+                let whole = ask(&file, &zone, ticks, Mark::ThisIsAll, edition);
                 assert_eq!(whole.is_ok(), field.is_some());
                 for length in 0..=file.len() {
-                    let part = ask(&file[..length], &zone, ticks, Mark::MoreMayCome);
-                    let all = ask(&file[..length], &zone, ticks, Mark::ThisIsAll);
+                    let part = ask(&file[..length], &zone, ticks, Mark::MoreMayCome, edition);
+                    let all = ask(&file[..length], &zone, ticks, Mark::ThisIsAll, edition);
                     // Where the part ends: in the version, in a field, or at an end.
                     let cut = extents.iter().find(|extent| extent.start < length && length < extent.end);
                     let place = match cut {
@@ -122,13 +128,15 @@ fn a_part_of_a_realistic_file() {
         let end = field.data_place + field.data.len();
         let id = &file[contents.pool[zone.id].clone()];
         let ticks = 17_118_468_000_000_000;
-        let whole = ask(&file, id, ticks, Mark::ThisIsAll);
-        assert!(whole.is_ok());
-        for length in [end - 1, end, end + 1] {
-            let said = ask(&file[..length], id, ticks, Mark::MoreMayCome);
-            match length < end {
-                true => assert_eq!(pair(&said), (1, field.place as u64)),
-                false => assert_eq!(said, whole),
+        for edition in [Edition::One, Edition::Two] {
+            let whole = ask(&file, id, ticks, Mark::ThisIsAll, edition);
+            assert!(whole.is_ok());
+            for length in [end - 1, end, end + 1] {
+                let said = ask(&file[..length], id, ticks, Mark::MoreMayCome, edition);
+                match length < end {
+                    true => assert_eq!(pair(&said), (1, field.place as u64)),
+                    false => assert_eq!(said, whole),
+                }
             }
         }
     }

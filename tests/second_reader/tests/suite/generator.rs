@@ -1,12 +1,12 @@
 //! The generator reaches every shape and every damage that it is meant to.
 
-use crate::common::{generated, part};
+use crate::common::{ask, generated, part};
 use second_reader::generate::plan::{FilePlan, Kind};
 use second_reader::generate::{case, damaged, instants, Damage, FileContent, Size};
 use second_reader::recurrence::{Mode, Rule};
 use second_reader::transition::{FIRST, LAST};
 use second_reader::zone::{Rest, Zone};
-use second_reader::{ask, calendar, check, lines, Mark, Transition};
+use second_reader::{calendar, check, lines, Mark, Transition};
 use std::collections::BTreeSet;
 
 type Seen = BTreeSet<String>;

@@ -5,7 +5,7 @@ use second_reader::generate::{instants, FileContent, FilePlan, Size};
 use second_reader::recurrence::Tail;
 use second_reader::transition::{FIRST, LAST};
 use second_reader::zone::{Rest, Zone};
-use second_reader::{Answer, Transition};
+use second_reader::{ask, Answer, Edition, Mark, Transition};
 use Transition::{EndOfTime, Finite, StartOfTime};
 
 /// All instants of a tail's rules, over all years that can matter.
@@ -88,10 +88,15 @@ fn answers_are_those_of_the_content() {
                 _ => None,
             };
             for ticks in instants(zone, &mut prng) {
-                let answer = ask_all(&file, content.id(zone), ticks).expect("an answer");
                 let (wall, savings, standard, name, start, end) = expected(zone, lists.as_ref(), ticks);
-                let wanted = Answer { wall, savings, standard, name: places[name].clone(), start, end };
-                assert_eq!(answer, wanted, "seed {seed}, {zone:?} at {ticks}");
+                for edition in [Edition::One, Edition::Two] {
+                    let answer = ask(&file, content.id(zone), ticks, Mark::ThisIsAll, edition).expect("an answer");
+                    // Under 1 a fixed zone shows its ID.
+                    let by_id = edition == Edition::One && matches!(zone.rest, Rest::Fixed { .. });
+                    let name = places[if by_id { zone.id } else { name }].clone();
+                    let wanted = Answer { wall, savings, standard, name, start, end };
+                    assert_eq!(answer, wanted, "seed {seed}, {zone:?} at {ticks}");
+                }
                 assert!(start <= Finite(ticks) && Finite(ticks) < end);
                 asked += 1;
             }

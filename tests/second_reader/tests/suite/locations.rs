@@ -1,10 +1,10 @@
 //! 02, Ask 8: fields 6 and 7.
 
-use crate::common::{bytes_of, generated, worked};
+use crate::common::{ask, ask_named, bytes_of, generated, worked};
 use second_reader::file::read_file;
 use second_reader::generate::{damaged, Damage, FileContent, Size};
 use second_reader::locations::{degrees, Location};
-use second_reader::{ask, ask_named, check, location, rewrite, version_text, LocationField, Mark, Pin, Refusal};
+use second_reader::{check, location, rewrite, version_text, LocationField, Mark, Pin, Refusal};
 use std::collections::BTreeSet;
 
 const FIELDS: [LocationField; 2] = [LocationField::Zone, LocationField::Zone1970];

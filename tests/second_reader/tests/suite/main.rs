@@ -6,6 +6,7 @@ mod codes;
 mod command_line;
 mod common;
 mod demand3;
+mod editions;
 mod generator;
 mod intervals;
 mod locations;

@@ -1,11 +1,11 @@
 //! 02, Ask 2: fixed zones without a name.
 
-use crate::common::{ask_all, asked, generated, hex, pair, worked};
+use crate::common::{ask, ask_all, asked, generated, hex, pair, worked};
 use second_reader::file::read_file;
 use second_reader::generate::{plan, Forms, Size};
 use second_reader::transition::{FIRST, LAST};
 use second_reader::zone::{Rest, Zone};
-use second_reader::{ask, check, lines, rewrite, Mark};
+use second_reader::{check, lines, rewrite, Mark};
 
 #[test]
 fn reading_2_1_absent_by_the_size() {

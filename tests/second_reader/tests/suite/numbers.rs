@@ -1,7 +1,7 @@
 //! Each number from 1 to 15 with its place, by the check, by questions with both marks and by the version text.
 
-use crate::common::{all, ask_all, asked, hex, pair, part, zone_file, A};
-use second_reader::{ask, ask_plain, check, rewrite, version_text, Mark};
+use crate::common::{all, ask, ask_all, ask_plain, asked, hex, pair, part, zone_file, A};
+use second_reader::{check, rewrite, version_text, Mark};
 
 /// One good zone "B" behind a pool of "A" and "B": the next field is at place 17.
 const B: &str = "00000000 0005 0201410142 0104 01013000";

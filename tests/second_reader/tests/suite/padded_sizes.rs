@@ -1,11 +1,11 @@
 //! 02, Ask 6: trailing zero groups in a field's size.
 
-use crate::common::{generated, worked};
+use crate::common::{ask, ask_named, generated, worked};
 use second_reader::codes::{encode_count, read_count, read_size};
 use second_reader::generate::plan::Kind;
 use second_reader::generate::{damaged, instants, plan, Damage, Forms, Prng, Size};
 use second_reader::rewrite::preferred;
-use second_reader::{ask, ask_named, check, Answer, Mark, Number, Refusal};
+use second_reader::{check, Answer, Mark, Number, Refusal};
 use std::collections::BTreeSet;
 
 #[test]

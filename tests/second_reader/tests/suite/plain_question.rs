@@ -1,9 +1,9 @@
 //! 02, Ask 1: the plain question expects more.
 
-use crate::common::{generated, pair, worked};
+use crate::common::{ask, ask_plain, generated, pair, worked};
 use second_reader::generate::{case, damaged, instants, Damage, Size};
 use second_reader::transition::LAST;
-use second_reader::{ask, ask_plain, lines, Mark};
+use second_reader::{lines, Mark};
 use std::collections::BTreeSet;
 
 #[test]

@@ -1,9 +1,9 @@
 //! The examples of the numbered points of `docs/DECISIONS.md`, each with the result that was chosen, and examples for entries that give none.
 //! Readings 26 to 31 are in `program.rs`, 33 to 35 in `codes.rs`.
 
-use crate::common::{all, ask_all, asked, hex, part, utc, zone_file, A};
+use crate::common::{all, ask, ask_all, asked, hex, part, utc, zone_file, A};
 use second_reader::transition::LAST;
-use second_reader::{ask, check, version_text, Answer, Mark, Refusal, Transition};
+use second_reader::{check, version_text, Answer, Mark, Refusal, Transition};
 
 fn with(text: &str) -> Vec<u8> {
     hex(&format!("{A} {text}"))

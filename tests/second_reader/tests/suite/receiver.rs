@@ -1,13 +1,10 @@
 //! 02, Ask 9: bytes in pieces.
 
-use crate::common::{bytes_of, generated, pair};
+use crate::common::{ask, ask_named, ask_plain, bytes_of, generated, pair};
 use second_reader::generate::{damaged, names, Damage, FilePlan, Prng, Size};
 use second_reader::receiver::unfinished;
 use second_reader::transition::{FIRST, LAST};
-use second_reader::{
-    ask, ask_named, ask_plain, location, map_local, rewrite, version_text, LocationField, Mark, Number, Receiver,
-    Refusal,
-};
+use second_reader::{location, map_local, rewrite, version_text, LocationField, Mark, Number, Receiver, Refusal};
 use std::collections::BTreeSet;
 
 /// The place after these bytes came as one piece, byte by byte, and in the words' own pieces.

@@ -1,10 +1,10 @@
 //! 02, Ask 7: the standard offset in every answer.
 
-use crate::common::{all, ask_all, generated, hex, part, worked, zone_file};
+use crate::common::{all, ask_all, ask_named, generated, hex, part, worked, zone_file};
 use second_reader::codes::encode_offset;
 use second_reader::generate::{instants, Size};
 use second_reader::zone::Rest;
-use second_reader::{ask_named, check, lines, Mark};
+use second_reader::{check, lines, Mark};
 
 #[test]
 fn reading_7_1_24_hours_are_outside() {

@@ -6,7 +6,8 @@
 //!
 //! Instants are ticks of 100 ns since 1970-01-01T00:00Z, which [`ticks_of_unix_seconds`] and [`ticks_of_system_time`]
 //! give; offsets and savings are milliseconds. A local time is ticks since 1970-01-01T00:00 as clocks of a zone show it;
-//! [`map_local`] gives the instants that read that way. [`locations`] gives the places of zones on the map.
+//! [`map_local`] gives the instants that read that way. [`intervals`] gives all intervals of a zone from an instant on.
+//! [`locations`] gives the places of zones on the map.
 //!
 //! ```
 //! // A file with one fixed zone, "UTC".
@@ -30,18 +31,20 @@ pub mod codes;
 mod error;
 #[doc(hidden)]
 pub mod ffi;
+mod intervals;
 mod local;
 mod locations;
 mod receiver;
 mod ticks;
 
 pub use error::{Error, Number};
+pub use intervals::{intervals, Intervals};
 pub use local::{map_local, LocalInstants};
 pub use locations::{location, locations, Countries, Country, Location, LocationField, Locations, Pin};
 pub use receiver::Receiver;
 #[cfg(feature = "std")]
 pub use ticks::ticks_of_system_time;
-pub use ticks::{ticks_of_unix_seconds, TICKS_PER_SECOND};
+pub use ticks::{ticks_of_unix_seconds, FIRST_INSTANT, LAST_INSTANT, TICKS_PER_SECOND};
 
 use error::decode;
 

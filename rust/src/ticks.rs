@@ -6,6 +6,12 @@
 /// How many ticks of 100 ns a second has.
 pub const TICKS_PER_SECOND: i64 = 10_000_000;
 
+/// The first instant that can be asked for: the first tick of year 1.
+pub const FIRST_INSTANT: i64 = -621_355_968_000_000_000;
+
+/// The last instant that can be asked for: the last tick of year 9999.
+pub const LAST_INSTANT: i64 = 2_534_023_007_999_999_999;
+
 /// The ticks of a count of seconds since 1970-01-01T00:00Z.
 ///
 /// ```

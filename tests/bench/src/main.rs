@@ -129,7 +129,7 @@ fn in_pieces() -> Result<(), String> {
 }
 
 /// First, middle and last zone at a listed instant; of the zones with a tail the same at an instant in it; a zone that
-/// isn't there. Then the same of local times, but for the absent zone.
+/// isn't there; all intervals of a zone. Then the same of local times, but for the absent zone.
 fn questions(content: &FileContent) -> Vec<(String, Work)> {
     let zones: Vec<&Zone> = content.zones.iter().collect();
     let has_tail = |zone: &&Zone| matches!(&zone.rest, Rest::Listed { tail: Some(_), .. });
@@ -167,6 +167,11 @@ fn questions(content: &FileContent) -> Vec<(String, Work)> {
     }
     let unnamed = Work::AskNamed { name: b"No/Such_Zone".to_vec(), ticks: LISTED, edition: Two };
     questions.push(("named question, absent name".to_string(), unnamed));
+    if let Some(zone) = with_tail.last() {
+        let id = content.id(zone).to_vec();
+        let what = format!("all intervals, last zone with a tail (`{}`)", String::from_utf8_lossy(&id));
+        questions.push((what, Work::Intervals { id }));
+    }
     questions.extend(locals);
     questions
 }

@@ -1,5 +1,5 @@
-//! What is measured: normalizing, with room and without, a question by ID or by name, a local time, a location, all countries of a field, or a file
-//! in pieces, by the library and by the peer.
+//! What is measured: normalizing, with room and without, a question by ID or by name, all intervals of a zone, a local time, a location, all
+//! countries of a field, or a file in pieces, by the library and by the peer.
 
 use crate::measure::Piece;
 use nzd::{Bound, Edition, LocationField, Mark};
@@ -20,6 +20,10 @@ pub enum Work {
         name: Vec<u8>,
         ticks: i64,
         edition: Edition,
+    },
+    /// All intervals of a zone from year 1 on, each asked for at the end of the one before.
+    Intervals {
+        id: Vec<u8>,
     },
     MapLocal {
         id: Vec<u8>,
@@ -83,6 +87,7 @@ impl Work {
                 let ours = said(nzd::ask_named(file, name, *ticks, Mark::ThisIsAll, *edition));
                 ours == peer_said(peer::ask_named(file, name, *ticks, false, *edition == Edition::One))
             }
+            Work::Intervals { id } => intervals(file, id) == peer_intervals(file, id),
             Work::MapLocal { id, local } => {
                 let numbers = |found: nzd::LocalInstants| match (found.earliest(), found.latest()) {
                     (Some(earliest), Some(latest)) => Ok((found.count(), earliest, latest)),
@@ -125,6 +130,10 @@ impl Work {
                     piece(move || peer::ask_named(black_box(file), black_box(name), *ticks, false, first)),
                 ]
             }
+            Work::Intervals { id } => [
+                piece(move || intervals(black_box(file), black_box(id))),
+                piece(move || peer_intervals(black_box(file), black_box(id))),
+            ],
             Work::MapLocal { id, local } => [
                 piece(move || nzd::map_local(black_box(file), black_box(id), *local)),
                 piece(move || peer::map_local(black_box(file), black_box(id), *local)),
@@ -158,6 +167,20 @@ impl Work {
 /// An output as long as the file, or none.
 fn output(file: &[u8], room: bool) -> Vec<u8> {
     vec![0; if room { file.len() } else { 0 }]
+}
+
+/// How many intervals a zone has that hold an instant, and the sum of their wall offsets.
+fn intervals(file: &[u8], id: &[u8]) -> (usize, i64) {
+    let all = nzd::intervals(file, id, nzd::FIRST_INSTANT, Mark::ThisIsAll, Edition::Two).filter_map(Result::ok);
+    all.fold((0, 0), |(number, sum), interval| (number + 1, sum + interval.wall_offset_ms))
+}
+
+fn peer_intervals(file: &[u8], id: &[u8]) -> (usize, i64) {
+    let (mut number, mut sum, mut ticks) = (0, 0, nzd::FIRST_INSTANT);
+    while let Ok(interval) = peer::ask(file, id, ticks, false, false) {
+        (number, sum, ticks) = (number + 1, sum + i64::from(interval.wall_offset_ms), interval.end);
+    }
+    (number, sum)
 }
 
 /// The place at the end of a file in pieces that the buffer has room for.

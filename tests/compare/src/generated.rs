@@ -6,6 +6,7 @@ use crate::locations;
 use crate::questions::{ask, other_ids, prefixes, Question};
 use crate::receiver::pieces;
 use crate::tally::{Difference, Tally};
+use crate::walks::walk;
 use crate::whole::{check, whole};
 use second_reader::generate::{
     damaged, instants, names, plan, random_content, Damage, FileContent, FilePlan, Forms, Prng, Size,
@@ -20,6 +21,10 @@ const MOST_INSTANTS: usize = 60;
 const MOST_LOCAL_TIMES: usize = 60;
 const FEW_LOCAL_TIMES: usize = 12;
 const MANY_OFFSETS: usize = 200;
+
+/// How many intervals of a zone are walked, but for one round in so many, whose walks go from first to last.
+const MOST_INTERVALS: usize = 40;
+const WHOLE_WALKS: u64 = 50;
 
 /// One well-formed file, two damaged ones of it, and a short one of any bytes.
 pub fn round(tally: &mut Tally, seed: u64, number: u64) -> Result<(), Difference> {
@@ -75,6 +80,17 @@ pub fn round(tally: &mut Tally, seed: u64, number: u64) -> Result<(), Difference
     // A preferred file gives itself.
     if let Ok(preferred) = second_reader::rewrite::preferred(&good.bytes()) {
         whole(tally, &preferred)?;
+    }
+    walks(tally, &content, &good.bytes(), number.is_multiple_of(WHOLE_WALKS), &mut prng)
+}
+
+/// The intervals of every zone, from the first or from some instant on.
+fn walks(tally: &mut Tally, content: &FileContent, file: &[u8], all: bool, prng: &mut Prng) -> Result<(), Difference> {
+    let most = if all { usize::MAX } else { MOST_INTERVALS };
+    for zone in &content.zones {
+        let some = instants(zone, prng);
+        let first = if all || prng.one_in(2) { FIRST } else { *prng.pick(&some) };
+        walk(tally, file, content.id(zone), first, most, prng)?;
     }
     Ok(())
 }

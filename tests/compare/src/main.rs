@@ -18,6 +18,7 @@ mod questions;
 mod receiver;
 mod sweeps;
 mod tally;
+mod walks;
 mod whole;
 
 use second_reader::generate::Prng;

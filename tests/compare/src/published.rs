@@ -4,6 +4,7 @@ use crate::local::{map, times};
 use crate::locations;
 use crate::questions::{ask, other_ids, prefixes, Question};
 use crate::tally::{Difference, Tally};
+use crate::walks::walk;
 use crate::whole::{check, whole};
 use second_reader::file::{read_file, Contents};
 use second_reader::generate::{instants, plan, FileContent, Forms, Prng};
@@ -37,6 +38,8 @@ pub fn file(tally: &mut Tally, file: &[u8], prng: &mut Prng) -> Result<(), Diffe
             for ticks in &all {
                 ask(tally, &short, id, *ticks)?;
             }
+            walk(tally, &short, id, FIRST, usize::MAX, prng)?;
+            walk(tally, file, id, *prng.pick(&all), 4, prng)?;
             let locals = times(zone, id, usize::MAX, prng);
             for (_, local) in &locals {
                 map(tally, &short, id, *local)?;

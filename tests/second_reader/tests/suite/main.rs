@@ -11,6 +11,7 @@ mod generator;
 mod intervals;
 mod locations;
 mod nameless;
+mod no_gap;
 mod normalizing;
 mod numbers;
 mod padded_sizes;

@@ -1,0 +1,3 @@
+pub mod Renewal
+pub mod Gapless
+pub mod Walk

@@ -65,7 +65,7 @@ enum nzd_number {
     NZD_OUTPUT_TOO_SHORT = 15,    /* the output, or the buffer of a receiver */
     NZD_NO_INSTANT = 17,          /* no instant reads as the local time, as where clocks went forward over it */
     NZD_TOO_MANY_STEPS = 18,      /* the eighth target of an alias is again only an alias */
-    NZD_SECOND_ALIAS = 19,        /* a second alias with the same bytes in field 3 */
+    NZD_SECOND_ALIAS = 19,        /* a second alias with the same bytes in field 3, or a second key in a dictionary */
     NZD_BAD_LOCATION = 20         /* a location's latitude or longitude is out of its range, or its number of countries
                                      is negative */
 };
@@ -154,6 +154,15 @@ uint64_t nzd_ask_plain(const uint8_t *file, size_t n, const uint8_t *id, size_t 
  */
 uint64_t nzd_ask_named(const uint8_t *file, size_t n, const uint8_t *name, size_t name_n, int64_t ticks, bool more,
                        bool first_edition, struct nzd_answer *out);
+
+/*
+ * Asks by name over a dictionary of the older edition (the resource data of Noda Time 1.0), lent whole, in the place of
+ * field 3 of a whole file. After 14 the file is checked, all of it, its own field 3 too, which is then not used. A zone ID
+ * is answered without a look at the dictionary; for any other name all of that is checked, and then the name is looked up in it
+ * as by nzd_ask_named. Places in it are 0: those of its faults, of 12 and of 18. What follows it is ignored.
+ */
+uint64_t nzd_ask_named_old(const uint8_t *file, size_t n, const uint8_t *older, size_t older_n, const uint8_t *name,
+                           size_t name_n, int64_t ticks, bool first_edition, struct nzd_answer *out);
 
 /* The instants at which clocks of a zone show a local time. */
 struct nzd_local {
@@ -334,6 +343,39 @@ uint64_t nzd_write_text(const uint8_t *t, size_t t_n, uint8_t *out, size_t out_n
  */
 uint64_t nzd_write_transition(uint8_t kind, int64_t ticks, int64_t previous, bool finite, uint8_t *out,
                               size_t out_n);
+
+/*
+ * The codes of the older edition, the resource data of Noda Time 1.0, as those above: preferred forms only, 7 for any
+ * other.
+ */
+
+/* A count, 0 to 2147483647. */
+uint64_t nzd_old_read_count(const uint8_t *s, size_t n, struct nzd_value *out);
+uint64_t nzd_old_write_count(uint64_t v, uint8_t *out, size_t out_n);
+
+/* An offset in milliseconds, -86399999 to 86399999. */
+uint64_t nzd_old_read_offset(const uint8_t *s, size_t n, struct nzd_value *out);
+uint64_t nzd_old_write_offset(int64_t ms, uint8_t *out, size_t out_n);
+
+/* A string: its length as a count, and its bytes, as a text. */
+uint64_t nzd_old_read_string(const uint8_t *s, size_t n, struct nzd_text *out);
+uint64_t nzd_old_write_string(const uint8_t *t, size_t t_n, uint8_t *out, size_t out_n);
+
+/*
+ * A dictionary: a count, and so many pairs of strings, key and value. Its value is how many entries it has: they are parts
+ * of s, behind the count. 19 at the second of two equal keys, before its value. Takes time for the bytes where the keys
+ * are in the order of their bytes; each key that is not goes through the entries before it.
+ */
+uint64_t nzd_old_read_dictionary(const uint8_t *s, size_t n, struct nzd_value *out);
+
+/*
+ * Writes the dictionary of the first `count` pairs of strings in pairs, one behind the other without a count before them;
+ * each string is its length as an older count, and its bytes. 7 for a count above 2147483647, then the first fault of a
+ * pair as nzd_old_read_dictionary finds it, 19 among them, then 15. The length, which may be too large for a result, goes
+ * to length.
+ */
+uint64_t nzd_old_write_dictionary(uint64_t count, const uint8_t *pairs, size_t pairs_n, uint8_t *out, size_t out_n,
+                                  uint64_t *length);
 
 #ifdef __cplusplus
 }

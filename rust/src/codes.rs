@@ -133,7 +133,7 @@ pub fn write_transition(value: Bound, previous: Option<i64>, out: &mut [u8]) -> 
 }
 
 /// A code that gives a value and a length.
-fn number(read: impl FnOnce(&mut [i64; 2]) -> u64) -> Result<(i64, usize), Error> {
+pub(crate) fn number(read: impl FnOnce(&mut [i64; 2]) -> u64) -> Result<(i64, usize), Error> {
     let mut out = [0; 2];
     decode(read(&mut out))?;
     let [value, length] = out;

@@ -43,6 +43,17 @@ mod c {
             first_edition: bool,
             out: *mut [i64; 7],
         ) -> u64;
+        pub fn nzd_ask_named_old(
+            file: *const u8,
+            n: usize,
+            older: *const u8,
+            older_n: usize,
+            name: *const u8,
+            name_n: usize,
+            ticks: i64,
+            first_edition: bool,
+            out: *mut [i64; 7],
+        ) -> u64;
         pub fn nzd_ask_plain(
             file: *const u8,
             n: usize,
@@ -154,6 +165,21 @@ mod c {
             out: *mut u8,
             out_n: usize,
         ) -> u64;
+        pub fn nzd_old_read_count(s: *const u8, n: usize, out: *mut [i64; 2]) -> u64;
+        pub fn nzd_old_read_offset(s: *const u8, n: usize, out: *mut [i64; 2]) -> u64;
+        pub fn nzd_old_read_string(s: *const u8, n: usize, out: *mut [i64; 2]) -> u64;
+        pub fn nzd_old_read_dictionary(s: *const u8, n: usize, out: *mut [i64; 2]) -> u64;
+        pub fn nzd_old_write_count(v: u64, out: *mut u8, out_n: usize) -> u64;
+        pub fn nzd_old_write_offset(ms: i64, out: *mut u8, out_n: usize) -> u64;
+        pub fn nzd_old_write_string(t: *const u8, t_n: usize, out: *mut u8, out_n: usize) -> u64;
+        pub fn nzd_old_write_dictionary(
+            count: u64,
+            pairs: *const u8,
+            pairs_n: usize,
+            out: *mut u8,
+            out_n: usize,
+            length: *mut [u64; 1],
+        ) -> u64;
     }
 }
 
@@ -165,6 +191,30 @@ pub fn ask(file: &[u8], id: &[u8], ticks: i64, more: bool, first_edition: bool, 
 /// `nzd_ask_named`.
 pub fn ask_named(file: &[u8], name: &[u8], ticks: i64, more: bool, first_edition: bool, out: &mut [i64; 7]) -> u64 {
     unsafe { c::nzd_ask_named(file.as_ptr(), file.len(), name.as_ptr(), name.len(), ticks, more, first_edition, out) }
+}
+
+/// `nzd_ask_named_old`.
+pub fn ask_named_old(
+    file: &[u8],
+    older: &[u8],
+    name: &[u8],
+    ticks: i64,
+    first_edition: bool,
+    out: &mut [i64; 7],
+) -> u64 {
+    unsafe {
+        c::nzd_ask_named_old(
+            file.as_ptr(),
+            file.len(),
+            older.as_ptr(),
+            older.len(),
+            name.as_ptr(),
+            name.len(),
+            ticks,
+            first_edition,
+            out,
+        )
+    }
 }
 
 /// `nzd_ask_plain`.
@@ -336,4 +386,44 @@ pub fn write_text(t: &[u8], out: &mut [u8]) -> u64 {
 /// `nzd_write_transition`.
 pub fn write_transition(kind: u8, ticks: i64, previous: i64, finite: bool, out: &mut [u8]) -> u64 {
     unsafe { c::nzd_write_transition(kind, ticks, previous, finite, out.as_mut_ptr(), out.len()) }
+}
+
+/// `nzd_old_read_count`.
+pub fn old_read_count(s: &[u8], out: &mut [i64; 2]) -> u64 {
+    unsafe { c::nzd_old_read_count(s.as_ptr(), s.len(), out) }
+}
+
+/// `nzd_old_read_offset`.
+pub fn old_read_offset(s: &[u8], out: &mut [i64; 2]) -> u64 {
+    unsafe { c::nzd_old_read_offset(s.as_ptr(), s.len(), out) }
+}
+
+/// `nzd_old_read_string`.
+pub fn old_read_string(s: &[u8], out: &mut [i64; 2]) -> u64 {
+    unsafe { c::nzd_old_read_string(s.as_ptr(), s.len(), out) }
+}
+
+/// `nzd_old_read_dictionary`.
+pub fn old_read_dictionary(s: &[u8], out: &mut [i64; 2]) -> u64 {
+    unsafe { c::nzd_old_read_dictionary(s.as_ptr(), s.len(), out) }
+}
+
+/// `nzd_old_write_count`.
+pub fn old_write_count(v: u64, out: &mut [u8]) -> u64 {
+    unsafe { c::nzd_old_write_count(v, out.as_mut_ptr(), out.len()) }
+}
+
+/// `nzd_old_write_offset`.
+pub fn old_write_offset(ms: i64, out: &mut [u8]) -> u64 {
+    unsafe { c::nzd_old_write_offset(ms, out.as_mut_ptr(), out.len()) }
+}
+
+/// `nzd_old_write_string`.
+pub fn old_write_string(t: &[u8], out: &mut [u8]) -> u64 {
+    unsafe { c::nzd_old_write_string(t.as_ptr(), t.len(), out.as_mut_ptr(), out.len()) }
+}
+
+/// `nzd_old_write_dictionary`.
+pub fn old_write_dictionary(count: u64, pairs: &[u8], out: &mut [u8], length: &mut [u64; 1]) -> u64 {
+    unsafe { c::nzd_old_write_dictionary(count, pairs.as_ptr(), pairs.len(), out.as_mut_ptr(), out.len(), length) }
 }

@@ -34,6 +34,7 @@ pub mod ffi;
 mod intervals;
 mod local;
 mod locations;
+pub mod older;
 mod receiver;
 mod ticks;
 
@@ -200,6 +201,33 @@ pub fn ask_named(
     let mut out = [0; 7];
     let (more, first) = (mark == Mark::MoreMayCome, edition == Edition::One);
     decode(ffi::ask_named(file, name.as_ref(), ticks, more, first, &mut out))?;
+    Ok(answer(file, out))
+}
+
+/// Asks by name over a dictionary of the [`older`] edition, which stands for the aliases of a whole file. The file is checked first, its own
+/// aliases too, which are then not used; a zone's ID is answered without a look at the dictionary.
+///
+/// ```
+/// use nzd::{Edition, Mark, Number};
+///
+/// // A zone "A" and an alias "B" of it, and a dictionary in which "X" leads to "A".
+/// let file = b"\0\0\0\0\x00\x05\x02\x01A\x01B\x01\x03\x00\x01\x30\x03\x03\x01\x01\x00";
+/// let older = b"\xf1\xf1X\xf1A";
+/// let answer = nzd::ask(file, "A", 0, Mark::ThisIsAll, Edition::Two)?;
+/// assert_eq!(nzd::ask_named_old(file, older, "X", 0, Edition::Two)?, answer);
+/// assert_eq!(nzd::ask_named_old(file, older, "B", 0, Edition::Two).unwrap_err().number, Number::NotFound);
+/// assert_eq!(nzd::ask_named_old(file, b"", "A", 0, Edition::Two)?.name_str(), "A");
+/// # Ok::<(), nzd::Error>(())
+/// ```
+pub fn ask_named_old<'a>(
+    file: &'a [u8],
+    older: &[u8],
+    name: impl AsRef<[u8]>,
+    ticks: i64,
+    edition: Edition,
+) -> Result<Answer<'a>, Error> {
+    let mut out = [0; 7];
+    decode(ffi::ask_named_old(file, older, name.as_ref(), ticks, edition == Edition::One, &mut out))?;
     Ok(answer(file, out))
 }
 

@@ -33,14 +33,14 @@ all-new f e [] n a = all-also n all-none
 all-new f e (g ∷ pre) n a = all-also (all-head a) (all-new f e pre n (all-tail a))
 
 -- one entry more, with a new key
-last-apart : (pre : Dictionary) (e : Entry) → among (e .key) (keys pre) ≡ false → Apart pre → Apart (pre ++ (e ∷ []))
+pub last-apart : (pre : Dictionary) (e : Entry) → among (e .key) (keys pre) ≡ false → Apart pre → Apart (pre ++ (e ∷ []))
 last-apart [] e n h = (all-none, tt)
 last-apart (f ∷ pre) e n h =
     let u = unlike (e .key) f pre n in
     (all-new f e pre (u .0) (h .0), last-apart pre e (u .1) (h .1))
 
 -- where all keys are apart, an entry's is new
-apart-new : (pre : Dictionary) (e : Entry) (es : Dictionary) → Apart (pre ++ e ∷ es) → among (e .key) (keys pre) ≡ false
+pub apart-new : (pre : Dictionary) (e : Entry) (es : Dictionary) → Apart (pre ++ e ∷ es) → among (e .key) (keys pre) ≡ false
 unfolding among keys
 apart-new [] e es h = refl
 apart-new (f ∷ pre) e es h = go (equal (f .key) (e .key)) refl (apart-new pre e es (h .1))

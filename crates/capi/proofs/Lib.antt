@@ -5,3 +5,4 @@ pub mod PutLaws
 pub mod RewriteLaws
 pub mod Walk
 pub mod LocationLaws
+pub mod OldLaws

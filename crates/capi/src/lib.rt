@@ -9,6 +9,12 @@ ghost use Rattle.texts.specs.Text.{readText, textForm};
 ghost use Rattle.field_checks.specs.Check.{versionOf};
 ghost use Rattle.questions.specs.Question.{ask as askOf, askPlain};
 ghost use Rattle.named_fields.specs.Named.{askNamed};
+ghost use Rattle.old_counts.specs.OldCount.{readOldCount, oldCountForm};
+ghost use Rattle.old_offsets.specs.OldOffset.{readOldOffset, oldOffsetForm};
+ghost use Rattle.old_texts.specs.OldText.{readOldText, oldTextForm};
+ghost use Rattle.old_dictionaries.specs.OldDictionary.{readOldDictionary, oldDictionaryForm};
+ghost use Rattle.old_named_questions.specs.OldNamed.{askNamedOld};
+ghost use Rattle.old_replies.specs.Functions.{dictionaryReply, PutsLong};
 ghost use Rattle.receivers.specs.Receive.{fresh, Adds};
 ghost use Rattle.replies.specs.Reply.{Gives, Puts};
 ghost use Rattle.replies.specs.Functions.{readReply, numberReply, textReply, momentReply, previousOf, integerForm};
@@ -76,6 +82,23 @@ pub extern "C" fn nzd_ask_named(
     let mark = file_replies::mark_of(more);
     let edition = file_replies::edition_of(first);
     let a = named_questions::ask_named(file, name, ticks, mark, edition);
+    file_replies::give_answer(a, out)
+}
+
+// The named question over an older dictionary.
+#[no_mangle]
+pub extern "C" fn nzd_ask_named_old(
+    file: &[u8],
+    older: &[u8],
+    name: &[u8],
+    ticks: i64,
+    first: bool,
+    out: &mut [i64; 7],
+) -> u64
+    ensures { λ r. ⌜ Gives (answerReply (askNamedOld (now (file .entry)) (now (older .entry)) (now (name .entry)) ticks (editionOf first))) (now (out .entry)) r (now (out .exit)) ⌝ }
+{
+    let edition = file_replies::edition_of(first);
+    let a = old_named_questions::ask_named_old(file, older, name, ticks, edition);
     file_replies::give_answer(a, out)
 }
 
@@ -365,4 +388,73 @@ pub extern "C" fn nzd_write_transition(
     let m = moment_replies::moment_of(kind, ticks);
     let w = transitions::write_moment(p, m, out);
     replies::written(w)
+}
+
+#[no_mangle]
+pub extern "C" fn nzd_old_read_count(s: &[u8], out: &mut [i64; 2]) -> u64
+    ensures { λ r. ⌜ Gives (readReply (readOldCount (now (s .entry)))) (now (out .entry)) r (now (out .exit)) ⌝ }
+{
+    let c = old_counts::read_count(s);
+    replies::give_read(c, out)
+}
+
+#[no_mangle]
+pub extern "C" fn nzd_old_read_offset(s: &[u8], out: &mut [i64; 2]) -> u64
+    ensures { λ r. ⌜ Gives (numberReply (readOldOffset (now (s .entry)))) (now (out .entry)) r (now (out .exit)) ⌝ }
+{
+    let c = old_offsets::read_offset(s);
+    replies::give_number(c, out)
+}
+
+#[no_mangle]
+pub extern "C" fn nzd_old_read_string(s: &[u8], out: &mut [i64; 2]) -> u64
+    ensures { λ r. ⌜ Gives (textReply (readOldText (now (s .entry)))) (now (out .entry)) r (now (out .exit)) ⌝ }
+{
+    let t = old_texts::read_text(s);
+    replies::give_text(t, out)
+}
+
+#[no_mangle]
+pub extern "C" fn nzd_old_read_dictionary(s: &[u8], out: &mut [i64; 2]) -> u64
+    ensures { λ r. ⌜ Gives (dictionaryReply (readOldDictionary (now (s .entry)))) (now (out .entry)) r (now (out .exit)) ⌝ }
+{
+    let f = old_dictionaries::read_dictionary(s);
+    old_replies::give_dictionary(f, out)
+}
+
+#[no_mangle]
+pub extern "C" fn nzd_old_write_count(v: u64, out: &mut [u8]) -> u64
+    ensures { λ r. ⌜ Puts (oldCountForm v) (now (out .entry)) r (now (out .exit)) ⌝ }
+{
+    let w = old_counts::write_count(v, out);
+    replies::written(w)
+}
+
+#[no_mangle]
+pub extern "C" fn nzd_old_write_offset(ms: i64, out: &mut [u8]) -> u64
+    ensures { λ r. ⌜ Puts (oldOffsetForm ms) (now (out .entry)) r (now (out .exit)) ⌝ }
+{
+    let w = old_offsets::write_offset(ms, out);
+    replies::written(w)
+}
+
+#[no_mangle]
+pub extern "C" fn nzd_old_write_string(t: &[u8], out: &mut [u8]) -> u64
+    ensures { λ r. ⌜ Puts (oldTextForm (now (t .entry))) (now (out .entry)) r (now (out .exit)) ⌝ }
+{
+    let w = old_texts::write_text(t, out);
+    replies::written(w)
+}
+
+#[no_mangle]
+pub extern "C" fn nzd_old_write_dictionary(
+    count: u64,
+    pairs: &[u8],
+    out: &mut [u8],
+    length: &mut [u64; 1],
+) -> u64
+    ensures { λ r. ⌜ PutsLong (oldDictionaryForm count (now (pairs .entry))) (now (out .entry)) (now (length .entry)) r (now (out .exit)) (now (length .exit)) ⌝ }
+{
+    let w = old_dictionaries::write_dictionary(count, pairs, out);
+    old_replies::give_length(w, length)
 }

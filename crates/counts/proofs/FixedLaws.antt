@@ -4,7 +4,7 @@ use mathlib.Core.List.{List, [], _∷_, _++_}
 use Prim.Native.Nat.{ℕ, zero, suc, _+_, _*_, _-_, _/_, _%_, _^_, _≤_, _<_}
 use native.Mathlib.Omega.{arith}
 use native.Mathlib.Numerals.{add-one}
-use native.Mathlib.Nat.{one-le-pow, pow-suc, mul-le-mul-right, mul-le-mul-left, div-eq-of-lt-le}
+use native.Mathlib.Nat.{one-le-pow, pow-suc, mul-le-mul-right, mul-le-mul-left, mul-le-mul, div-eq-of-lt-le, div-add-mod'}
 use lib.Dec.{leb, lit≤}
 use lib.Arith.{mod-mul}
 use lib.ListN.{length, getD, drop, length-append}
@@ -14,7 +14,7 @@ use Rattle.base.specs.declared.Read.{Read}
 use Rattle.base.specs.declared.Read.the-variants.{Value, Refused}
 use Rattle.base.proofs.Tests.{pick-holds}
 use Rattle.base.proofs.Parts.{Bytes}
-use Rattle.counts.specs.Fixed.{fixedFrom, readFixed, fixedBytes}
+use Rattle.counts.specs.Fixed.{fixedFrom, readFixed, fixedBytes, prefixed}
 pub use Rattle.counts.specs.Facts.{Between, FixedRead}
 
 -- the loop that reads them: i of n bytes are read, which give v
@@ -97,3 +97,32 @@ pub read-fixed-written : (n high v : ℕ) (rest : List ℕ) → readFixed n high
 read-fixed-written n high v rest =
     rw (le-leb n (length (fixedBytes n v ++ rest)) (simp (length-append, length-fixed) (omega arith)))
     (ap (λ (w : ℕ). Value w n) (fixed-written n high v rest))
+
+-- a number behind a prefix, whose first byte has the bits of high: it is read back, whatever follows, and is the written form of what it gives
+pub prefixed-written : (n high v : ℕ) (rest : List ℕ) → v / 256 ^ n ≡ high → readFixed n high (fixedBytes n v ++ rest) ≡ Value v n
+prefixed-written n high v rest e =
+    let g : high * 256 ^ n + v % 256 ^ n ≡ v = rw e at (div-add-mod' v (256 ^ n)) in
+    rw (read-fixed-written n high v rest, g)
+
+pub prefixed-form : (n prefix high : ℕ) (s : List ℕ) → Bytes s → n ≤ length s
+    → (prefix + high) ∷ s ≡ prefixed n prefix (fixedFrom n high s) ++ drop n s
+prefixed-form n prefix high s h l =
+    let q = fixed-between n high s h l in
+    let d : fixedFrom n high s / 256 ^ n ≡ high = div-eq-of-lt-le (256 ^ n) (q .low) (q .below) in
+    rw d (ap (λ (x : List ℕ). (prefix + high) ∷ x) (fixed-form n high s h l))
+
+pub length-prefixed : (n prefix v : ℕ) → length (prefixed n prefix v) ≡ n + 1
+length-prefixed n prefix v = rw (length-fixed n v) (omega arith)
+
+-- the widths of forms of at most three bytes behind the first
+three : (n : ℕ) → n ≤ 3 → 256 ^ n ≤ 16777216
+three zero h = lit≤ tt
+three (suc zero) h = lit≤ tt
+three (suc (suc zero)) h = lit≤ tt
+three (suc (suc (suc zero))) h = lit≤ tt
+three (suc (suc (suc (suc n)))) h = absurd (omega arith)
+
+pub width : (n high wide : ℕ) → n ≤ 3 → high < wide → (high + 1) * 256 ^ n ≤ wide * 16777216
+width n high wide hn hh =
+    let a : high + 1 ≤ wide = omega arith in
+    mul-le-mul a (three n hn)

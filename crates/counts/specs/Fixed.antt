@@ -21,3 +21,7 @@ readFixed n high s = pick (leb n (length s)) (Value (fixedFrom n high s) n) (Ref
 unfoldable pub fixedBytes : ℕ → ℕ → List ℕ
 fixedBytes zero v = []
 fixedBytes (suc n) v = (v / 256 ^ n % 256) ∷ fixedBytes n v
+
+-- v behind a prefix: the bits of v above its n low bytes, added to the prefix, then these bytes
+abbrev pub prefixed : ℕ → ℕ → ℕ → List ℕ
+prefixed n prefix v = (prefix + v / 256 ^ n) ∷ fixedBytes n v

@@ -3,10 +3,10 @@
 use mathlib.Core.Path.{_≡_, refl, ap, sym, _∙_, subst, subst⁻¹}
 use mathlib.Core.List.{List, [], _∷_, _++_}
 use mathlib.Core.Bool.{Bool, true, false}
-use Prim.Native.Nat.{ℕ, zero, suc, _+_, _*_, _-_, _/_, _%_, _^_, _≤_, _<_}
+use Prim.Native.Nat.{ℕ, suc, _+_, _*_, _-_, _/_, _%_, _^_, _≤_, _<_}
 use native.Mathlib.Omega.{arith}
 use native.Mathlib.Numerals.{add-one}
-use native.Mathlib.Nat.{one-le-pow, mul-le-mul, div-eq-of-lt-le, div-lt-iff-lt-mul, div-add-mod'}
+use native.Mathlib.Nat.{one-le-pow, mul-le-mul, div-lt-iff-lt-mul}
 use lib.Dec.{ltb, leb, eqb, lit≤}
 use lib.IntN.{ℤ}
 use lib.ListN.{length, getD, take, drop}
@@ -15,8 +15,8 @@ use Rattle.base.specs.declared.Read.{Read}
 use Rattle.base.specs.declared.Read.the-variants.{Value, Refused}
 use Rattle.base.proofs.Tests.{pick-holds, both-left, both-right}
 use Rattle.base.proofs.Parts.{Bytes, part-from}
-use Rattle.counts.specs.Fixed.{fixedFrom, readFixed, fixedBytes}
-use Rattle.counts.proofs.FixedLaws.{fixed-between, fixed-form, length-fixed, read-fixed-written}
+use Rattle.counts.specs.Fixed.{fixedFrom, readFixed, fixedBytes, prefixed}
+use Rattle.counts.proofs.FixedLaws.{prefixed-written, prefixed-form, length-prefixed}
 use Rattle.signed.specs.declared.Number.the-variants.{Value as Signed}
 use Rattle.signed.specs.Number.{number}
 use Rattle.signed.specs.OffsetSum.{sumOf, millisecondsOf}
@@ -25,19 +25,7 @@ use Rattle.signed.proofs.IntegerLaws.{sum-milliseconds, milliseconds-sum, sum-r
 use Rattle.offsets.specs.Offset.{inDay, offsetOf, inUnits, readSum, writeSum, readOffset}
 pub use Rattle.offsets.specs.Facts.{Fine, Level, SumRead, SumWritten, SumSize, OffsetRead}
 
--- the widths of the forms
-three : (n : ℕ) → n ≤ 3 → 256 ^ n ≤ 16777216
-three zero h = lit≤ tt
-three (suc zero) h = lit≤ tt
-three (suc (suc zero)) h = lit≤ tt
-three (suc (suc (suc zero))) h = lit≤ tt
-three (suc (suc (suc (suc n)))) h = absurd (omega arith)
-
-pub width : (n high : ℕ) → n ≤ 3 → high < 32 → (high + 1) * 256 ^ n ≤ 536870912
-width n high hn hh =
-    let a : high + 1 ≤ 32 = omega arith in
-    mul-le-mul a (three n hn)
-
+-- a number of units of a form fits
 pub product : (v unit : ℕ) → v < 536870912 → unit ≤ 60000 → v * unit < 2 ^ 64
 product v unit hv hu =
     let a : v ≤ 536870912 = omega arith in
@@ -125,7 +113,7 @@ offset-level {n} {p} {unit} {coarser} l (b ∷ s) r h lo hi e =
 
 -- P of what is read, from P of each form
 module _ (P : Read → Type 0) (refused : (k : ℕ) → P (Refused k)) where
-  offset-holds : (n coarser sum : ℕ) → (Fine coarser sum → P (Value sum n)) → P (offsetOf n coarser sum)
+  pub offset-holds : (n coarser sum : ℕ) → (Fine coarser sum → P (Value sum n)) → P (offsetOf n coarser sum)
   offset-holds n coarser sum f =
       pick-holds P (inDay sum) (λ t. pick-holds P (eqb (sum % coarser) 0) (λ _. refused 7) (λ u. f (record {
         least = leb-true 1 sum (both-left (leb 1 sum) (leb sum 172799999) t);
@@ -187,13 +175,11 @@ level-form : {n p unit coarser : ℕ} → Level n p unit coarser → (b : ℕ) (
     → Fine coarser (fixedFrom n (b % 32) r * unit) → SumWritten (b ∷ r) (fixedFrom n (b % 32) r * unit) (n + 1)
 level-form {n} {p} {unit} {coarser} l b r hs lo hi w f =
     let v : ℕ = fixedFrom n (b % 32) r in
-    let q = fixed-between n (b % 32) r hs w in
-    let d : v / 256 ^ n ≡ b % 32 = div-eq-of-lt-le (256 ^ n) (q .low) (q .below) in
     let a : p % 32 ≡ 0 = l .aligned in
-    let h : p + v / 256 ^ n ≡ b = rw d (omega arith) in
+    let h : p + b % 32 ≡ b = omega arith in
     record {
-      form = rw (l .writes v f, h, add-one) (ap (λ (x : List ℕ). b ∷ x) (fixed-form n (b % 32) r hs w));
-      size = rw (l .writes v f, add-one) (ap suc (sym (length-fixed n v)));
+      form = rw (l .writes v f, add-one) (subst (λ (x : ℕ). x ∷ r ≡ prefixed n p v ++ drop n r) h (prefixed-form n p (b % 32) r hs w));
+      size = rw (l .writes v f) (sym (length-prefixed n p v));
     }
 
 is-sum-written : (s : List ℕ) → Bytes s → IsSumWritten s (readSum s)
@@ -225,9 +211,8 @@ level-back {n} {p} {unit} {coarser} l v rest h f =
     let m : q < 32 = div-lt-iff-lt-mul (one-le-pow n 256 (lit≤ tt)) .1 h in
     let a : p % 32 ≡ 0 = l .aligned in
     let e : (p + q) % 32 ≡ q = omega arith in
-    let g : (p + q) % 32 * 256 ^ n + v % 256 ^ n ≡ v = rw e (div-add-mod' v (256 ^ n)) in
-    rw (l .writes v f, l .reads (p + q) (fixedBytes n v ++ rest) (omega arith) (omega arith), read-fixed-written n ((p + q) % 32) v rest, g, fine-of (n + 1) coarser (v * unit) f)
-    (ap (Value (v * unit)) (rw (length-fixed n v, add-one)))
+    rw (l .writes v f, l .reads (p + q) (fixedBytes n v ++ rest) (omega arith) (omega arith), prefixed-written n ((p + q) % 32) v rest (sym e), fine-of (n + 1) coarser (v * unit) f)
+    (ap (Value (v * unit)) (sym (length-prefixed n p v)))
 
 pub sum-written : (sum : ℕ) (rest : List ℕ) → 1 ≤ sum → sum ≤ 172799999 → Back sum rest
 sum-written sum rest lo hi = half (eqb (sum % 1800000) 0) refl

@@ -1,10 +1,10 @@
 -- What the laws say of an offset that is read or written. To be believed.
 use mathlib.Core.Path.{_≡_}
 use mathlib.Core.List.{List, _∷_, _++_}
-use Prim.Native.Nat.{ℕ, _+_, _*_, _/_, _%_, _^_, _≤_, _<_}
+use Prim.Native.Nat.{ℕ, _+_, _*_, _%_, _≤_, _<_}
 use lib.IntN.{ℤ}
 use lib.ListN.{length, drop}
-use Rattle.counts.specs.Fixed.{readFixed, fixedBytes}
+use Rattle.counts.specs.Fixed.{readFixed, prefixed}
 use Rattle.signed.specs.OffsetSum.{sumOf}
 use Rattle.offsets.specs.Offset.{inUnits, readSum, writeSum}
 
@@ -19,7 +19,7 @@ pub record Level (n p unit coarser : ℕ) : Type 0 where
   pub most : n ≤ 3
   pub aligned : p % 32 ≡ 0
   pub reads : (b : ℕ) (s : List ℕ) → p ≤ b → b < p + 32 → readSum (b ∷ s) ≡ inUnits unit coarser (readFixed n (b % 32) s)
-  pub writes : (v : ℕ) → Fine coarser (v * unit) → writeSum (v * unit) ≡ (p + v / 256 ^ n) ∷ fixedBytes n v
+  pub writes : (v : ℕ) → Fine coarser (v * unit) → writeSum (v * unit) ≡ prefixed n p v
 
 -- a sum that s gives in n bytes
 pub record SumRead (s : List ℕ) (sum n : ℕ) : Type 0 where

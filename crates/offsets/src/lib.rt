@@ -10,7 +10,7 @@ ghost use Rattle.counts.specs.Fixed.{readFixed, fixedBytes};
 ghost use Rattle.offsets.specs.Offset.{offsetOf, inUnits, readSum, sumForm, readOffset, offsetForm};
 
 // A sum in its range that no earlier form, in units of `coarser`, can carry.
-fn offset_of(n: usize, coarser: u64, sum: u64) -> Read
+pub fn offset_of(n: usize, coarser: u64, sum: u64) -> Read
     requires { ⌜ 0 < coarser ⌝ }
     ensures { λ r. ⌜ r ≡ offsetOf n coarser sum ⌝ }
 {

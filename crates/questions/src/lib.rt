@@ -82,7 +82,7 @@ fn ask_long(s: &[u8], d: usize, e: usize, id: &[u8], t: u64, edition: Edition) -
 }
 
 // The question without its mark, at an instant in range.
-fn ask_at(s: &[u8], id: &[u8], t: u64, edition: Edition) -> Outcome
+pub fn ask_at(s: &[u8], id: &[u8], t: u64, edition: Edition) -> Outcome
     requires { ⌜ Finite t ⌝ }
     ensures { λ r. ⌜ r ≡ outcomeOf (walk (question edition (now (id .entry)) t) noPool (now (s .entry))) ⌝ }
 {

@@ -1,3 +1,4 @@
+pub mod SizedLaws
 pub mod TextLaws
 pub mod TextWriteLaws
 pub mod RefusalLaws

@@ -2,13 +2,21 @@
 use mathlib.Core.Path.{_≡_}
 use mathlib.Core.List.{List, _++_}
 use mathlib.Core.Bool.{true}
-use Prim.Native.Nat.{ℕ, _+_, _≤_}
+use Prim.Native.Nat.{ℕ, _+_, _-_, _≤_}
 use lib.ListN.{length, take, drop}
+use Rattle.base.specs.declared.Read.{Read}
 use Rattle.base.specs.declared.Read.the-variants.{Value}
 use Rattle.counts.specs.Count.{readCount}
 use Rattle.utf8.specs.Utf8.{utf8}
 use Rattle.texts.specs.Text.{writeText}
 use mathlib.Core.Logic.{_⊎_}
+
+-- a text of n bytes behind a bytes of its length, whatever code g that length is read from
+pub record Sized (s : List ℕ) (g : Read) (a n : ℕ) : Type 0 where
+  pub code : g ≡ Value n a
+  pub small : n ≤ 1024
+  pub room : n ≤ length s - a
+  pub valid : utf8 (take n (drop a s)) ≡ true
 
 -- where the bytes of a text that reads lie, and what they are
 pub record Held (s : List ℕ) (a n : ℕ) : Type 0 where

@@ -8,7 +8,8 @@ ghost use mathlib.Core.Bool.{true};
 ghost use Rattle.base.specs.Writing.{bytes, Writes};
 ghost use Rattle.utf8.specs.Utf8.{utf8};
 ghost use Rattle.utf8.specs.Ascii.{ascii};
-ghost use Rattle.texts.specs.Text.{readText, textBytes, writeText, textForm};
+ghost use Rattle.base.specs.declared.Read.the-variants.{Value};
+ghost use Rattle.texts.specs.Text.{textSized, readText, textBytes, writeText, textForm};
 
 // What reading a text from the front of some bytes finds.
 pub enum Text {
@@ -18,31 +19,36 @@ pub enum Text {
     Refused(u8),
 }
 
-// The text at the front of s, of which the first `plain` bytes are known to be ASCII: what lies in them is not looked at again.
+// The text of n bytes behind the a bytes of its length at the front of s, of which the first `plain` bytes are known to be ASCII: what lies
+// in them is not looked at again.
+pub fn text_behind(s: &[u8], a: usize, n: usize, plain: usize) -> Text
+    requires { ⌜ (a ≤ length (now s)) × (ascii (take plain (now s)) ≡ true) ⌝ }
+    ensures { λ r. ⌜ r ≡ textSized (now (s .entry)) (Value n a) ⌝ }
+{
+    if 1024 < n {
+        return Text::Refused(4);
+    }
+    if s.len() - a < n {
+        return Text::Refused(9);
+    }
+    let e = a + n;
+    if e <= plain {
+        return Text::Part(a, n);
+    }
+    if utf8::is_utf8(&s[a..e]) {
+        return Text::Part(a, n);
+    }
+    Text::Refused(8)
+}
+
+// The text at the front of s, of which the first `plain` bytes are known to be ASCII.
 pub fn read_text_in(s: &[u8], plain: usize) -> Text
     requires { ⌜ ascii (take plain (now s)) ≡ true ⌝ }
     ensures { λ r. ⌜ r ≡ readText (now (s .entry)) ⌝ }
 {
-    let g = counts::read_count(s);
-    match g {
+    match counts::read_count(s) {
         Read::Refused(k) => Text::Refused(k),
-        Read::Value(v, a) => {
-            let n = v as usize;
-            if 1024 < n {
-                return Text::Refused(4);
-            }
-            if s.len() - a < n {
-                return Text::Refused(9);
-            }
-            let e = a + n;
-            if e <= plain {
-                return Text::Part(a, n);
-            }
-            if utf8::is_utf8(&s[a..e]) {
-                return Text::Part(a, n);
-            }
-            Text::Refused(8)
-        }
+        Read::Value(n, a) => text_behind(s, a, n as usize, plain),
     }
 }
 

@@ -10,7 +10,7 @@ mod work;
 use files::{content, in_ticks, padded, Grown, GROWING};
 use measure::{measure, FEW_SAMPLES, SAMPLES};
 use nzd::Edition::{One, Two};
-use second_reader::generate::FileContent;
+use second_reader::generate::{dictionary, Entries, FileContent};
 use second_reader::zone::{Rest, Zone};
 use std::process::ExitCode;
 use work::{asked_after_each, from_the_front, Work};
@@ -172,6 +172,23 @@ fn questions(content: &FileContent) -> Vec<(String, Work)> {
         let what = format!("all intervals, last zone with a tail (`{}`)", String::from_utf8_lossy(&id));
         questions.push((what, Work::Intervals { id }));
     }
+    // The file's links and zone IDs as an older dictionary has them, in the order of their bytes and in the reverse order.
+    let mut entries: Entries =
+        zones.iter().map(|zone| (content.id(zone).to_vec(), content.id(zone).to_vec())).collect();
+    let string = |number: usize| content.pool[number].clone();
+    entries.extend(content.aliases.iter().flatten().map(|&(key, target)| (string(key), string(target))));
+    entries.sort();
+    entries.dedup_by(|second, first| second.0 == first.0);
+    let older = dictionary(&entries);
+    entries.reverse();
+    let reversed = dictionary(&entries);
+    questions
+        .push((format!("older dictionary of {} entries", entries.len()), Work::OldDictionary { older: older.clone() }));
+    questions
+        .push(("older dictionary, keys in the reverse order".to_string(), Work::OldDictionary { older: reversed }));
+    let name = pairs.last().map_or(b"No/Such_Zone".to_vec(), |(key, _)| string(*key));
+    let what = format!("named question over an older dictionary (`{}`)", String::from_utf8_lossy(&name));
+    questions.push((what, Work::AskNamedOld { older, name, ticks: LISTED }));
     questions.extend(locals);
     questions
 }

@@ -25,6 +25,16 @@ pub enum Work {
     Intervals {
         id: Vec<u8>,
     },
+    /// A name over an older dictionary.
+    AskNamedOld {
+        older: Vec<u8>,
+        name: Vec<u8>,
+        ticks: i64,
+    },
+    /// The older dictionary alone, without the file.
+    OldDictionary {
+        older: Vec<u8>,
+    },
     MapLocal {
         id: Vec<u8>,
         local: i64,
@@ -88,6 +98,15 @@ impl Work {
                 ours == peer_said(peer::ask_named(file, name, *ticks, false, *edition == Edition::One))
             }
             Work::Intervals { id } => intervals(file, id) == peer_intervals(file, id),
+            Work::AskNamedOld { older, name, ticks } => {
+                let ours = said(nzd::ask_named_old(file, older, name, *ticks, Edition::Two));
+                ours == peer_said(peer::ask_named_old(file, older, name, *ticks, false))
+            }
+            Work::OldDictionary { older } => {
+                let ours = nzd::older::read_dictionary(older).map(|(entries, length)| (entries.len(), length));
+                let theirs = peer::old_dictionary(older).map(|(entries, length)| (entries.len(), length));
+                ours.map_err(|error| error.number.value()) == theirs
+            }
             Work::MapLocal { id, local } => {
                 let numbers = |found: nzd::LocalInstants| match (found.earliest(), found.latest()) {
                     (Some(earliest), Some(latest)) => Ok((found.count(), earliest, latest)),
@@ -133,6 +152,16 @@ impl Work {
             Work::Intervals { id } => [
                 piece(move || intervals(black_box(file), black_box(id))),
                 piece(move || peer_intervals(black_box(file), black_box(id))),
+            ],
+            Work::AskNamedOld { older, name, ticks } => [
+                piece(move || {
+                    nzd::ask_named_old(black_box(file), black_box(older), black_box(name), *ticks, Edition::Two)
+                }),
+                piece(move || peer::ask_named_old(black_box(file), black_box(older), black_box(name), *ticks, false)),
+            ],
+            Work::OldDictionary { older } => [
+                piece(move || nzd::older::read_dictionary(black_box(older)).map(|(_, length)| length)),
+                piece(move || peer::old_dictionary(black_box(older)).map(|(_, length)| length)),
             ],
             Work::MapLocal { id, local } => [
                 piece(move || nzd::map_local(black_box(file), black_box(id), *local)),

@@ -57,7 +57,7 @@ fn read_all(tally: &mut Tally, s: &[u8], previous: Previous) -> Result<(), Diffe
     read_transition(tally, s, previous)
 }
 
-fn read_number<T: Into<i64>>(
+pub fn read_number<T: Into<i64>>(
     tally: &mut Tally,
     what: &str,
     s: &[u8],
@@ -104,7 +104,7 @@ fn read_transition(tally: &mut Tally, s: &[u8], previous: Previous) -> Result<()
 }
 
 /// Writes with every room from none to more than enough; `theirs` is the code.
-fn write(
+pub fn write(
     tally: &mut Tally,
     what: &str,
     theirs: Result<Vec<u8>, Number>,

@@ -3,13 +3,14 @@
 use crate::cases::padded;
 use crate::local::{map, times};
 use crate::locations;
+use crate::older;
 use crate::questions::{ask, other_ids, prefixes, Question};
 use crate::receiver::pieces;
 use crate::tally::{Difference, Tally};
 use crate::walks::walk;
 use crate::whole::{check, whole};
 use second_reader::generate::{
-    damaged, instants, names, plan, random_content, Damage, FileContent, FilePlan, Forms, Prng, Size,
+    damaged, instants, names, plan, random_content, random_entries, Damage, FileContent, FilePlan, Forms, Prng, Size,
 };
 use second_reader::transition::{FIRST, LAST};
 
@@ -44,6 +45,8 @@ pub fn round(tally: &mut Tally, seed: u64, number: u64) -> Result<(), Difference
         for (id, ticks) in &asked {
             ask(tally, &file, id, *ticks)?;
         }
+        let few: Vec<Question> = (0..6).map(|_| prng.pick(&asked).clone()).collect();
+        older::dictionaries(tally, &file, &random_entries(&content, &mut prng), &few, &mut prng)?;
         let locals = local_times(&content, &asked, &mut prng);
         for (id, local) in &locals {
             map(tally, &file, id, *local)?;

@@ -13,6 +13,7 @@ mod generated;
 mod lent;
 mod local;
 mod locations;
+mod older;
 mod published;
 mod questions;
 mod receiver;
@@ -72,6 +73,7 @@ fn compare(tally: &mut Tally, options: &Options, files: &[(String, Vec<u8>)]) ->
     }
     let code_rounds = if let Until::Rounds(rounds) = options.until { rounds } else { ROUNDS };
     codes::all(tally, &mut prng, code_rounds).map_err(named("a small code"))?;
+    older::all(tally, &mut prng, code_rounds).map_err(named("an older code"))?;
     let start = Instant::now();
     for round in 1.. {
         let enough = match options.until {

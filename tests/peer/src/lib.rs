@@ -13,6 +13,7 @@ mod ids;
 mod local;
 mod locations;
 mod normalize;
+mod older;
 mod pool;
 mod receiver;
 mod tail;
@@ -23,6 +24,7 @@ pub use aliases::ask_named;
 pub use local::LocalInstants;
 pub use locations::{location, Countries, Location};
 pub use normalize::normalize;
+pub use older::{ask_named_old, old_dictionary};
 pub use receiver::{unfinished, Receiver};
 pub use whole::version_text;
 

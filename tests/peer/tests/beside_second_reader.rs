@@ -1,7 +1,8 @@
 //! The peer beside the second reader: equal numbers, places, answers and preferred files.
 
 use second_reader::generate::{
-    damaged, instants, local_times, names, plan, random_content, Damage, FileContent, Forms, Prng, Size,
+    damaged, damaged_dictionary, dictionary, instants, local_times, names, plan, random_content, random_entries,
+    Damage, FileContent, Forms, Prng, Size,
 };
 use second_reader::locations::LocationField;
 use second_reader::transition::{Transition, FIRST, LAST};
@@ -302,4 +303,34 @@ fn pieces() {
             assert_eq!(receiver.add(&mut buffer, &[0]), Err(peer::Refusal { number: 15, place: 0 }));
         }
     }
+}
+
+#[test]
+fn older_dictionaries() {
+    let (mut read, mut asked) = (BTreeSet::new(), BTreeSet::new());
+    for seed in 0..2000 {
+        let mut prng = Prng::new(seed);
+        let content = random_content(&mut prng, Size::Small);
+        let whole = plan(&content, &mut Forms::Any(&mut prng));
+        let kind = *prng.pick(&Damage::ALL);
+        let file = if prng.one_in(4) { damaged(&whole, kind, &mut prng) } else { whole.bytes() };
+        let entries = random_entries(&content, &mut prng);
+        for older in [dictionary(&entries), damaged_dictionary(&entries, &mut prng)] {
+            let theirs = second_reader::old::read_dictionary(&older)
+                .map(|(entries, length)| (entries.into_iter().map(|(k, v)| (&older[k], &older[v])).collect(), length))
+                .map_err(|number| number.value());
+            read.insert(theirs.as_ref().map_or_else(|number| *number, |_| 0));
+            assert_eq!(peer::old_dictionary(&older), theirs, "{older:02x?}");
+            for (name, ticks) in questions(&content, &mut prng, 5) {
+                for (first, edition) in [(true, Edition::One), (false, Edition::Two)] {
+                    let theirs = expected(second_reader::ask_named_old(&file, &older, &name, ticks, edition));
+                    asked.insert(number_of(&theirs));
+                    let ours = given(&file, peer::ask_named_old(&file, &older, &name, ticks, first));
+                    assert_eq!(ours, theirs, "{older:02x?}, {name:?}");
+                }
+            }
+        }
+    }
+    assert_eq!(read, BTreeSet::from([0, 4, 7, 8, 9, 19]));
+    assert!(asked.is_superset(&BTreeSet::from([0, 4, 7, 8, 9, 12, 14, 18, 19])), "{asked:?}");
 }

@@ -5,7 +5,7 @@ use crate::Done;
 use second_reader::codes;
 use second_reader::recurrence::{parse_rule, parse_tail};
 use second_reader::transition::in_range;
-use second_reader::{calendar, Number, Receiver, Transition};
+use second_reader::{calendar, old, Number, Receiver, Transition};
 use std::ffi::OsStr;
 use std::fmt::Display;
 
@@ -81,6 +81,20 @@ fn read_code(words: &[&str]) -> Case {
             let given = bytes(hex)?;
             read_line(codes::read_text(&given), |part| to_hex(&given[part]))
         }
+        ["old-count", hex] => read_line(old::read_count(&bytes(hex)?), plain),
+        ["old-offset", hex] => read_line(old::read_offset(&bytes(hex)?), plain),
+        ["old-string", hex] => {
+            let given = bytes(hex)?;
+            read_line(old::read_string(&given), |part| to_hex(&given[part]))
+        }
+        ["old-dictionary", hex] => {
+            let given = bytes(hex)?;
+            read_line(old::read_dictionary(&given), |entries| {
+                let mut words = vec![entries.len().to_string()];
+                words.extend(entries.into_iter().flat_map(|(key, value)| [to_hex(&given[key]), to_hex(&given[value])]));
+                words.join(" ")
+            })
+        }
         _ => Err("these words make no code to read".to_string()),
     }
 }
@@ -98,6 +112,14 @@ fn write_code(words: &[&str]) -> Case {
         ["offset", value] => codes::write_offset(number(value)?, &mut out),
         ["transition", value, before] => codes::write_transition(transition(value)?, previous(before)?, &mut out),
         ["text", hex] => codes::write_text(&bytes(hex)?, &mut out),
+        ["old-count", value] => old::write_count(number(value)?, &mut out),
+        ["old-offset", value] => old::write_offset(number(value)?, &mut out),
+        ["old-string", hex] => old::write_string(&bytes(hex)?, &mut out),
+        ["old-dictionary", texts @ ..] if texts.len() % 2 == 0 => {
+            let texts: Vec<Vec<u8>> = texts.iter().map(|hex| bytes(hex)).collect::<Result<_, _>>()?;
+            let entries: Vec<(&[u8], &[u8])> = texts.chunks(2).map(|pair| (&pair[0][..], &pair[1][..])).collect();
+            old::write_dictionary(&entries, &mut out)
+        }
         _ => return Err("these words make no code to write".to_string()),
     };
     Ok(written.map(|length| format!("0 {length} {}", to_hex(&out[..length]))))

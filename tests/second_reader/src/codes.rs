@@ -243,7 +243,7 @@ pub fn encode_text(text: &[u8]) -> Result<Vec<u8>, Number> {
 }
 
 /// Puts a code at the front of `out` and gives its length: "then 15", with "all lent output as found".
-fn put(code: &[u8], out: &mut [u8]) -> Result<usize, Number> {
+pub(crate) fn put(code: &[u8], out: &mut [u8]) -> Result<usize, Number> {
     out.get_mut(..code.len()).ok_or(Number::OutputShort)?.copy_from_slice(code);
     Ok(code.len())
 }

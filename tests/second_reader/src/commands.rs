@@ -3,7 +3,9 @@
 use crate::cases;
 use crate::Done;
 use second_reader::generate;
-use second_reader::{ask, ask_named, file, lines, location, map_local, normalize, rewrite, version_text};
+use second_reader::{
+    ask, ask_named, ask_named_old, file, lines, location, map_local, normalize, rewrite, version_text,
+};
 use second_reader::{Answer, Edition, LocationField, Mark, Pin, Refusal};
 use std::ffi::{OsStr, OsString};
 use std::fs;
@@ -37,6 +39,12 @@ pub(crate) fn run(arguments: &[OsString]) -> Result<Done, Misuse> {
         (Some("ask"), [file, zone, ticks, rest @ ..]) => ask_file(ask, [file, zone, ticks], rest),
         (Some("named"), [file, name, ticks, rest @ ..]) if !rest.is_empty() => {
             ask_file(ask_named, [file, name, ticks], rest)
+        }
+        (Some("named-old"), [file, dictionary, name, ticks, rest @ ..]) if rest.len() < 2 => {
+            let edition = rest.first().map_or(Ok(Edition::Two), |word| edition(word))?;
+            let (bytes, dictionary) = (read(file)?, read(dictionary)?);
+            let asked = ask_named_old(&bytes, &dictionary, name.as_encoded_bytes(), number(ticks)?, edition);
+            Ok(answered(&bytes, asked))
         }
         (Some("local"), [file, zone, local]) => {
             let bytes = read(file)?;
@@ -128,13 +136,16 @@ fn ask_file(question: Question, [file, id, ticks]: [&OsStr; 3], rest: &[&OsStr])
         _ => return Err(Misuse::Usage),
     };
     let bytes = read(file)?;
-    let asked = question(&bytes, id.as_encoded_bytes(), number(ticks)?, mark, edition);
-    Ok(done(asked.map(|answer| {
+    Ok(answered(&bytes, question(&bytes, id.as_encoded_bytes(), number(ticks)?, mark, edition)))
+}
+
+fn answered(bytes: &[u8], asked: Result<Answer, Refusal>) -> Done {
+    done(asked.map(|answer| {
         let Answer { wall, savings, standard, start, end, .. } = answer;
         let mut text = format!("{wall} {savings} {standard} {start} {end} ").into_bytes();
         text.extend(&bytes[answer.name]);
         text
-    })))
+    }))
 }
 
 /// Latitude and longitude, zone ID, comment, and how many countries with each name and code.

@@ -13,6 +13,7 @@ usage: second_reader COMMAND ...
   check FILE                           check a whole file: `0 0`, or number and place
   ask FILE ZONE TICKS [part|all [1|2]] `0 WALL SAVINGS STANDARD START END NAME`; unmarked is part, the edition else 2
   named FILE NAME TICKS part|all [1|2] the same for a zone ID or an alias
+  named-old FILE DICTIONARY NAME TICKS [1|2]  the same over a dictionary of the older edition, as all there is
   local FILE ZONE LOCAL                instants of a local time: `0 COUNT EARLIEST LATEST`, or number and place
   location FILE 6|7 NUMBER             `0 LATITUDE LONGITUDE ZONE COMMENT COUNTRIES [NAME CODE]...`, texts as HEX@PLACE
   version FILE                         `0 TEXT`, or number and place
@@ -30,6 +31,7 @@ usage: second_reader COMMAND ...
 
 KIND is count, signed, offset, transition or text; only transition has PREVIOUS (none, start, end or ticks).
 A transition's VALUE is start, end or ticks, a text's is hex; `-` is no bytes. Offsets are milliseconds.
+The older edition's are old-count, old-offset, old-string and old-dictionary, whose VALUE is keys and values in hex.
 code, rule, tail and date without arguments read the same words from standard input, one case a line.
 Exit status: 0 done, 1 refused with a number, 2 misuse or a file that can't be read or written.
 ";

@@ -3,9 +3,9 @@ use native.Mathlib.Omega.{arith}
 use mathlib.Core.Path.{ap, sym, _∙_}
 use Prim.Native.Nat.{_<_}
 use denote.Ref.{now}
-use Rattle.counts.proofs.FixedLaws.{FixedRead, fixed-read, fixed-between}
+use Rattle.counts.proofs.FixedLaws.{FixedRead, fixed-read, fixed-between, width}
 use Rattle.offsets.specs.Offset.{inUnits}
-use Rattle.offsets.proofs.OffsetLaws.{width, product}
+use Rattle.offsets.proofs.OffsetLaws.{product}
 use Rattle.offsets.proofs.in_units.Statement.{statement}
 use Rattle.offsets.proofs.in_units.Tie as tie
 
@@ -18,10 +18,10 @@ small : (c : tie.After-v) → c .v .given .0 .0 < 536870912
 small c =
     let a = c .before .before .before .before .args in
     let b = fixed-between (a .n) (a .high) (now (a .s)) (λ i. omega (arith, c .before .before .before .shared-slice-known .given i)) (number c .within) in
-    omega (arith, number c .value, b .below, width (a .n) (a .high) (omega arith) (omega arith))
+    omega (arith, number c .value, b .below, width (a .n) (a .high) 32 (omega arith) (omega arith))
 
 read-fixed-requires : tie.Need-read-fixed-requires
-read-fixed-requires c κs = let a = c .before .args in omega (arith, width (a .n) (a .high) (omega arith) (omega arith))
+read-fixed-requires c κs = let a = c .before .args in omega (arith, width (a .n) (a .high) 32 (omega arith) (omega arith))
 
 add-offset-of : tie.Need-add-offset-of
 add-offset-of c = omega (arith, number (c .before) .size)

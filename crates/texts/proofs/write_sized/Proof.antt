@@ -2,7 +2,9 @@ use native.Mathlib.Omega.{arith}
 use Rattle.counts.proofs.CountLaws.{count-size as size-of-count}
 use denote.Ref.{now}
 use lib.ListN.{length}
-use Rattle.texts.proofs.TextWriteLaws.{text-full, text-left}
+use Rattle.counts.specs.Count.{writeCount}
+use Rattle.texts.proofs.SizedLaws.{sized-full, sized-left}
+use Rattle.texts.proofs.TextWriteLaws.{length-written}
 use borrow.Author.Needs.{needs}
 use Rattle.texts.proofs.write_sized.Statement.{statement}
 use Rattle.texts.proofs.write_sized.Tie as tie
@@ -11,10 +13,12 @@ add-if1 : tie.Need-add-if1
 add-if1 c = omega (arith, size-of-count (length (now (c .before .before .before .args .t))) .most)
 
 returns : tie.Need-returns
-returns c = text-full (now (c .before .before .before .before .args .t)) (now (c .before .before .before .before .args .out)) _ (c .before .before .before .before .pre) (c .before .count-size .ensures) (c .if1 .taken)
+returns c = sized-full (writeCount (length (now (c .before .before .before .before .args .t)))) (now (c .before .before .before .before .args .t)) (now (c .before .before .before .before .args .out)) _ (c .before .count-size .ensures) (c .if1 .taken)
 
 returns-2 : tie.Need-returns-2
-returns-2 c = text-left (now (c .before .before .before .before .before .before .before .before .before .before .before .before .args .t)) (now (c .before .before .before .before .before .before .before .before .before .before .before .before .args .out)) _ (c .before .before .before .before .before .before .before .before .before .before .before .before .pre) (c .before .before .before .before .before .before .before .before .before .count-size .ensures) (c .before .before .before .before .before .before .before .before .if1 .left) _ (c .before .before .before .before .before .before .write-count .ensures .1) _ (c .before .before .copy .ensures .1)
+returns-2 c =
+    sized-left (writeCount (length (now (c .before .before .before .before .before .before .before .before .before .before .before .before .args .t)))) (now (c .before .before .before .before .before .before .before .before .before .before .before .before .args .t)) (now (c .before .before .before .before .before .before .before .before .before .before .before .before .args .out)) _ (c .before .before .before .before .before .before .before .before .before .count-size .ensures) (c .before .before .before .before .before .before .before .before .if1 .left) _
+    (length-written _ _ _ (c .before .before .before .before .before .before .before .before .before .before .before .before .pre) (c .before .before .before .before .before .before .write-count .ensures .1)) _ (c .before .before .copy .ensures .1)
 
 pub write-sized-spec : {M : Type 1} → statement M
 write-sized-spec =

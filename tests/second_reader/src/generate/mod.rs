@@ -2,12 +2,14 @@
 
 pub mod content;
 pub mod damage;
+pub mod dictionary;
 pub mod plan;
 pub mod prng;
 pub mod questions;
 
 pub use content::{random_content, random_tail, FileContent, Size};
 pub use damage::{damaged, Damage};
+pub use dictionary::{damaged_dictionary, dictionary, random_entries, Entries};
 pub use plan::{plan, FilePlan, Forms};
 pub use prng::Prng;
 pub use questions::{instants, local_times, names, question_lines};

@@ -66,6 +66,13 @@ fn commands_on_files() {
         prints(&[vec!["ask", &fixed, "A", "0"], words.clone()].concat(), "", &said, 0);
         prints(&[vec!["named", &fixed, "C", "0"], words].concat(), "", &said, 0);
     }
+    fs::write(dir.join("older"), crate::common::bytes_of("f1f158f141")).expect("a file");
+    for (words, name) in [(vec!["X", "0", "1"], "A"), (vec!["X", "0"], "B"), (vec!["A", "0", "2"], "B")] {
+        let (fixed, older) = (path("fixed"), path("older"));
+        let said = format!("0 3600000 0 3600000 start end {name}\n");
+        prints(&[vec!["named-old", &fixed, &older], words].concat(), "", &said, 0);
+    }
+    prints(&["named-old", &path("fixed"), &path("older"), "C", "0"], "", "12 0\n", 1);
     fs::write(dir.join("pins"), crate::common::bytes_of("V P 0707 01 20 818d4f 00 0200")).expect("a file");
     prints(&["location", &path("pins"), "7", "0"], "", "20 13\n", 1);
     fs::write(dir.join("pins"), crate::common::bytes_of("V P 0709 01 20 ff8c4f 02 0001 0001 02 00")).expect("a file");
@@ -132,6 +139,17 @@ fn single_codes() {
     prints(&["code", "write", "transition", "start", "none", "9"], "", "0 1 00\n", 0);
     prints(&["code", "write", "text", "ff", "9"], "", "8 0\n", 1);
     prints(&["code", "write", "text", "-", "9"], "", "0 1 00\n", 0);
+    prints(&["code", "read", "old-count", "00"], "", "0 1 15\n", 0);
+    prints(&["code", "read", "old-offset", "840000"], "", "0 3 1000\n", 0);
+    prints(&["code", "read", "old-string", "f341c3a9ff"], "", "0 4 41c3a9\n", 0);
+    prints(&["code", "read", "old-dictionary", "f2f141f142f0f141ff"], "", "0 8 2 41 42 - 41\n", 0);
+    prints(&["code", "read", "old-dictionary", "f2f141f142f141"], "", "19 0\n", 1);
+    prints(&["code", "write", "old-count", "15", "1"], "", "0 1 00\n", 0);
+    prints(&["code", "write", "old-offset", "-1", "5"], "", "0 5 fdffffffff\n", 0);
+    prints(&["code", "write", "old-string", "-", "0"], "", "15 0\n", 1);
+    prints(&["code", "write", "old-dictionary", "41", "42", "-", "41", "8"], "", "0 8 f2f141f142f0f141\n", 0);
+    prints(&["code", "write", "old-dictionary", "41", "42", "41", "ff", "0"], "", "19 0\n", 1);
+    prints(&["code", "write", "old-dictionary", "1"], "", "0 1 f0\n", 0);
     let list = "read count EA02\nwrite offset 86400000 4\nread transition 8001 start\n";
     prints(&["code"], list, "0 2 362\n7 0\n7 0\n", 0);
 }
@@ -186,6 +204,9 @@ fn misuse_is_said_in_words() {
         &["location", EUROPE, "6", "-1"],
         &["normalize", EUROPE, "x"],
         &["normalize", EUROPE, "x", "-1"],
+        &["named-old", EUROPE, EUROPE, "X"],
+        &["named-old", EUROPE, EUROPE, "X", "0", "3"],
+        &["code", "write", "old-dictionary", "41", "9"],
         &["receive"],
         &["receive", "4", "0"],
         &["receive", "99999999"],

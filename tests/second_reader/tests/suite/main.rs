@@ -14,6 +14,7 @@ mod nameless;
 mod no_gap;
 mod normalizing;
 mod numbers;
+mod old_resource;
 mod padded_sizes;
 mod plain_question;
 mod program;

@@ -1,0 +1,3 @@
+pub mod OldCountLaws
+pub mod OldCountWriteLaws
+pub mod Vectors

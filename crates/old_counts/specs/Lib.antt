@@ -1,0 +1,2 @@
+pub mod OldCount
+pub mod Facts

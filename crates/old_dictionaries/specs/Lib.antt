@@ -1,0 +1,4 @@
+pub mod OldDictionary
+pub mod Pairs
+pub mod View
+pub mod Facts

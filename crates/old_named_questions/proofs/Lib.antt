@@ -1,0 +1,4 @@
+pub mod TargetLaws
+pub mod FollowLaws
+pub mod AskLaws
+pub mod Vectors

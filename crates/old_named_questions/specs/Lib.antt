@@ -1,0 +1,2 @@
+pub mod OldNamed
+pub mod View

@@ -1,0 +1,3 @@
+pub mod OldOffsetLaws
+pub mod OldOffsetWriteLaws
+pub mod Vectors

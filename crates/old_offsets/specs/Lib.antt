@@ -1,0 +1,2 @@
+pub mod OldOffset
+pub mod Facts

@@ -1,0 +1,2 @@
+pub mod OldTextLaws
+pub mod Vectors

@@ -1,0 +1,2 @@
+pub mod OldText
+pub mod Facts

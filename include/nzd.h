@@ -5,8 +5,9 @@
  *
  * Results. Every function gives a result r: nzd_number_of(r) is a number of enum nzd_number, and nzd_place_of(r) the
  * place of a refusal (a number other than 0): the place in the file of the faulty field's ID byte, or the bytes' end
- * where no field has begun; 0 for 3, 14, 15 and 17, for a version that is cut, and for every refusal of a small code. On
- * 0, nzd_length_of(r) is the length where a length is said below, else 0. Later versions may give further numbers.
+ * where no field has begun; 0 for 3, 14, 15, 17 and 21, for a version that is cut, for an empty table, for a closed file
+ * that is too large, and for every refusal of a small code. On 0, nzd_length_of(r) is the length where a length is said
+ * below, else 0. Later versions may give further numbers.
  *
  * Output. Output is written on 0 only, and no further than said; all other lent memory stays as found.
  *
@@ -17,14 +18,16 @@
  * Texts (zone IDs, names, the version text) are UTF-8 and not NUL-terminated: each is a place and a length. A place
  * counts from the pointer that was lent.
  *
- * Memory. A pointer and the length behind it name that many readable (out: writable) bytes. Where the length is 0 the
- * pointer is not followed and may be null. A pointer to a struct is never null. out overlaps nothing else that is lent.
+ * Memory. A pointer and the length behind it name that many readable (out: writable) bytes, or numbers where it points to
+ * int64_t. Where the length is 0 the pointer is not followed and may be null. A pointer to a struct, or to one number, is
+ * never null. out, count and record overlap nothing else that is lent.
  * No function keeps a pointer, allocates, or has state, so any number of threads may call them. A receiver's state is
  * yours.
  *
- * Stack, measured and not proved: up to 80 KB for nzd_normalize, 72 KB for nzd_version_text and nzd_location, 64 KB for
- * nzd_ask_named, 43 KB for nzd_map_local, 40 KB for nzd_ask and nzd_ask_plain, as much for the same of a receiver, below
- * 1 KB for nzd_receiver_add and a small code.
+ * Stack, measured and not proved (tests/bench/stack/run): up to 296 KB for nzd_close_pool, 80 KB for nzd_normalize, 72 KB
+ * for nzd_version_text, nzd_location, nzd_ask_named_old and nzd_difference, 64 KB for nzd_ask_named, 43 KB for
+ * nzd_map_local, 40 KB for nzd_ask, nzd_ask_plain, nzd_replay and nzd_interval_starts, as much for the same of a receiver,
+ * below 1 KB for nzd_find_start, nzd_receiver_add and a small code.
  */
 #ifndef NZD_H
 #define NZD_H
@@ -47,8 +50,8 @@ enum nzd_number {
     NZD_NOT_YET = 1,              /* more may come, and the asked zone has not been seen whole */
     NZD_CUT_SHORT = 2,            /* this is all, and the bytes end in the version or in a field */
     NZD_WRONG_VERSION = 3,        /* the version is not 0 */
-    NZD_TOO_LARGE = 4,            /* a field that ends past 4,194,304, more than 8,192 pool strings, 1,024 bytes a
-                                     string or 4,096 intervals a zone */
+    NZD_TOO_LARGE = 4,            /* a field that ends past 4,194,304, in a closed file too; more than 8,192 pool strings,
+                                     1,024 bytes a string or 4,096 intervals a zone */
     NZD_FIELD_ORDER = 5,          /* a field ID is lower than the one before, or 0 or 2 to 7 stands a second time */
     NZD_FIRST_FIELD = 6,          /* the first field is not ID 0, or a whole-file check finds no field */
     NZD_BAD_CODE = 7,             /* a count, size, offset or transition code that is not allowed; a value without a
@@ -58,16 +61,18 @@ enum nzd_number {
     NZD_BAD_INTERVAL = 10,        /* interval count 0, a start or end that is not allowed, or a standard offset of 24
                                      hours or more either way */
     NZD_BAD_RECURRENCE = 11,      /* a recurrence or a tail sum is out of its ranges */
-    NZD_NOT_FOUND = 12,           /* no such zone, no zone or alias of an alias' target, no version text, or no such
-                                     location */
+    NZD_NOT_FOUND = 12,           /* no such zone, no zone or alias of an alias' target, no version text, no such
+                                     location, or no entry in a table */
     NZD_SECOND_ZONE = 13,         /* a second zone with the same ID (never given by a question) */
     NZD_INSTANT_OUT_OF_RANGE = 14,/* the asked instant is outside years 1 to 9999 */
-    NZD_OUTPUT_TOO_SHORT = 15,    /* the output, or the buffer of a receiver */
+    NZD_OUTPUT_TOO_SHORT = 15,    /* the output, a list or a table among them, or the buffer of a receiver */
     NZD_NO_INSTANT = 17,          /* no instant reads as the local time, as where clocks went forward over it */
     NZD_TOO_MANY_STEPS = 18,      /* the eighth target of an alias is again only an alias */
     NZD_SECOND_ALIAS = 19,        /* a second alias with the same bytes in field 3, or a second key in a dictionary */
-    NZD_BAD_LOCATION = 20         /* a location's latitude or longitude is out of its range, or its number of countries
+    NZD_BAD_LOCATION = 20,        /* a location's latitude or longitude is out of its range, or its number of countries
                                      is negative */
+    NZD_BAD_TRACE = 21,           /* a part of the trace leaves it, or a record's name leaves the names */
+    NZD_UNREAD_FIELD = 22         /* closing up the pool of a file with a field 4, 5 or above 7 */
 };
 
 /* The number of a result. */
@@ -100,7 +105,7 @@ static inline const char *nzd_words(unsigned number) {
     case NZD_BAD_DATA: return "an unknown flag, or data that ends early or is left over";
     case NZD_BAD_INTERVAL: return "an interval count, start, end or standard offset is not allowed";
     case NZD_BAD_RECURRENCE: return "a recurrence or tail sum is out of range";
-    case NZD_NOT_FOUND: return "no such zone, version text or location";
+    case NZD_NOT_FOUND: return "no such zone, version text or location, or an empty table";
     case NZD_SECOND_ZONE: return "a second zone has the same ID";
     case NZD_INSTANT_OUT_OF_RANGE: return "the instant is outside years 1 to 9999";
     case NZD_OUTPUT_TOO_SHORT: return "the output, or the buffer of a receiver, is too short";
@@ -108,6 +113,8 @@ static inline const char *nzd_words(unsigned number) {
     case NZD_TOO_MANY_STEPS: return "an alias leads over more than eight others, or in a circle";
     case NZD_SECOND_ALIAS: return "a second alias has the same name";
     case NZD_BAD_LOCATION: return "a location is out of its ranges";
+    case NZD_BAD_TRACE: return "a part of the trace leaves it, or a name leaves the names";
+    case NZD_UNREAD_FIELD: return "a field that is not read stands in the way of closing up the pool";
     default: return "a number that this header does not know";
     }
 }
@@ -240,6 +247,63 @@ uint64_t nzd_version_text(const uint8_t *file, size_t n, struct nzd_text *out);
  * with an out_n of 0 it is the check alone: 15 says that the file is well formed.
  */
 uint64_t nzd_normalize(const uint8_t *file, size_t n, uint8_t *out, size_t out_n);
+
+/*
+ * Checks a whole file, and writes it with its pool closed up to the front of out: pool strings that no field mentions are
+ * dropped, the most mentioned stand first, ties in their old order, and every mention has the new number. The fields' sizes
+ * are in their shortest form; all else is copied. Every question answers as before, places aside. nzd_length_of(r) is the
+ * length of the closed file, which can be more than n: the mentions of one field may take more bytes than before, and its
+ * size then too. The first fault of the file and its place come first, whatever out_n; then 22 at the ID byte of the first
+ * field 4, 5 or above 7, since what that mentions is not known; then 4 at place 0 if the closed file would be longer than
+ * 4,194,304 bytes; then 15 if out is shorter than it.
+ */
+uint64_t nzd_close_pool(const uint8_t *file, size_t n, uint8_t *out, size_t out_n);
+
+/*
+ * Lists the stretches of the instants from first to before last at which two files differ in a zone: in wall offset,
+ * savings or the bytes of the name, as nzd_ask without more and first_edition gives them. id is the zone's ID, any bytes. A
+ * stretch can't be made longer: it goes on where what differs changes. Each is two numbers of out, its first instant and its
+ * end, which is not in it, in time order, and *count gets how many stretches there are. So out, of out_n numbers, has room for
+ * out_n / 2 stretches; numbers behind the last stretch stay as found. The bytes of both files are all there is, and what
+ * follows the zone is not looked at. 14 comes before all else, if first or last is out of range; then the refusals of that
+ * nzd_ask on file, then on other, and the result doesn't tell which; then 15 exactly if out is too short. Where last is not
+ * after first there is no stretch.
+ */
+uint64_t nzd_difference(const uint8_t *file, size_t n, const uint8_t *other, size_t other_n, const uint8_t *id, size_t id_n,
+                        int64_t first, int64_t last, int64_t *out, size_t out_n, int64_t *count);
+
+/*
+ * Replays a trace: *record gets the number, from 0, of its first record whose shown offset is not the file's, or whose
+ * question the file refuses, 14 among the refusals; -1 if there is none. Each record is asked as by nzd_ask without more
+ * and first_edition. A trace has a header of four numbers of four bytes: how many records, where they start in the trace, how
+ * many bytes of names, where these start. A record is 20 bytes: its instant in ticks (eight bytes, signed), where its zone's
+ * ID starts in the names (four), how many bytes that has (four), and the wall offset shown, in milliseconds (four, signed).
+ * All are high byte first. 21 comes first, if header, records or names start or end past the trace's end, or the ID of any
+ * record past that of the names, even when empty. A trace without records gives -1 whatever the file.
+ */
+uint64_t nzd_replay(const uint8_t *file, size_t n, const uint8_t *trace, size_t trace_n, int64_t *record);
+
+/*
+ * For repeated lookups: fills the front of out with the starts of a zone's listed intervals in ticks, in time order. The
+ * first is NZD_START_OF_TIME, and a fixed zone has no other. The start of the yearly rules behind the list is no entry. *count
+ * gets how many entries there are; those behind them stay as found. The refusals of nzd_ask without more come first, 14 aside;
+ * then 15 if out is shorter than the table.
+ */
+uint64_t nzd_interval_starts(const uint8_t *file, size_t n, const uint8_t *id, size_t id_n, int64_t *out, size_t out_n,
+                             int64_t *count);
+
+struct nzd_search {
+    int64_t entry; /* the number of the entry left, from 0 */
+    int64_t looks; /* how many entries were looked at: on a table of n at most the least k with 2 to the k not below n */
+};
+
+/*
+ * Halves a table: while more than one entry is left, looks at the entry half its length in, rounded down, and keeps it and
+ * what follows if it is not after instant, else what comes before. On an ascending table whose first entry is not after
+ * instant the entry left is the last that is not; any other table, and any instant, gets what the rule gives. 12 at place 0
+ * for an empty table.
+ */
+uint64_t nzd_find_start(const int64_t *table, size_t table_n, int64_t instant, struct nzd_search *out);
 
 /*
  * A receiver, for a file that arrives in pieces. It is three plain numbers in memory that you own, over a buffer that you

@@ -3,7 +3,7 @@
 //! All `unsafe` of this crate is here. The C functions ask only that a pointer and its length name valid memory, and
 //! that nothing else names what is written; a slice or an array says both. So each function here is safe for every
 //! argument. The structs of `include/nzd.h` are arrays here: their numbers in a row; but for the receiver, which some
-//! functions take by value.
+//! functions take by value. A list of stretches is numbers in a row there, and [`numbers_of`] makes it so.
 
 #![allow(unsafe_code)]
 
@@ -17,6 +17,22 @@ pub struct Receiver {
     pub place: usize,
     /// The ID of the field before it, 0 if there is none.
     pub prev: usize,
+}
+
+/// The instants from one on, in ticks, up to another, which isn't one of them.
+#[derive(Clone, Copy, Debug, Default, PartialEq, Eq, Hash)]
+#[repr(C)]
+pub struct Stretch {
+    /// The first instant.
+    pub first: i64,
+    /// The end: the instant behind the last.
+    pub end: i64,
+}
+
+/// The numbers of lent stretches in a row: of each its first instant and its end.
+pub fn numbers_of(stretches: &mut [Stretch]) -> &mut [i64] {
+    // A stretch is two numbers without padding, and any two numbers are one.
+    unsafe { core::slice::from_raw_parts_mut(stretches.as_mut_ptr().cast(), 2 * stretches.len()) }
 }
 
 mod c {
@@ -82,6 +98,31 @@ mod c {
         pub fn nzd_next_country(file: *const u8, n: usize, view: *mut [u64; 4], out: *mut [u64; 4]) -> bool;
         pub fn nzd_version_text(file: *const u8, n: usize, out: *mut [i64; 2]) -> u64;
         pub fn nzd_normalize(file: *const u8, n: usize, out: *mut u8, out_n: usize) -> u64;
+        pub fn nzd_close_pool(file: *const u8, n: usize, out: *mut u8, out_n: usize) -> u64;
+        pub fn nzd_difference(
+            file: *const u8,
+            n: usize,
+            other: *const u8,
+            other_n: usize,
+            id: *const u8,
+            id_n: usize,
+            first: i64,
+            last: i64,
+            out: *mut i64,
+            out_n: usize,
+            count: *mut [i64; 1],
+        ) -> u64;
+        pub fn nzd_replay(file: *const u8, n: usize, trace: *const u8, trace_n: usize, record: *mut [i64; 1]) -> u64;
+        pub fn nzd_interval_starts(
+            file: *const u8,
+            n: usize,
+            id: *const u8,
+            id_n: usize,
+            out: *mut i64,
+            out_n: usize,
+            count: *mut [i64; 1],
+        ) -> u64;
+        pub fn nzd_find_start(table: *const i64, table_n: usize, instant: i64, out: *mut [i64; 2]) -> u64;
         pub fn nzd_receiver_reset(r: *mut Receiver);
         pub fn nzd_receiver_add(
             r: *mut Receiver,
@@ -245,6 +286,55 @@ pub fn version_text(file: &[u8], out: &mut [i64; 2]) -> u64 {
 /// `nzd_normalize`.
 pub fn normalize(file: &[u8], out: &mut [u8]) -> u64 {
     unsafe { c::nzd_normalize(file.as_ptr(), file.len(), out.as_mut_ptr(), out.len()) }
+}
+
+/// `nzd_close_pool`.
+pub fn close_pool(file: &[u8], out: &mut [u8]) -> u64 {
+    unsafe { c::nzd_close_pool(file.as_ptr(), file.len(), out.as_mut_ptr(), out.len()) }
+}
+
+/// `nzd_difference`.
+pub fn difference(
+    file: &[u8],
+    other: &[u8],
+    id: &[u8],
+    first: i64,
+    last: i64,
+    out: &mut [i64],
+    count: &mut [i64; 1],
+) -> u64 {
+    unsafe {
+        c::nzd_difference(
+            file.as_ptr(),
+            file.len(),
+            other.as_ptr(),
+            other.len(),
+            id.as_ptr(),
+            id.len(),
+            first,
+            last,
+            out.as_mut_ptr(),
+            out.len(),
+            count,
+        )
+    }
+}
+
+/// `nzd_replay`.
+pub fn replay(file: &[u8], trace: &[u8], record: &mut [i64; 1]) -> u64 {
+    unsafe { c::nzd_replay(file.as_ptr(), file.len(), trace.as_ptr(), trace.len(), record) }
+}
+
+/// `nzd_interval_starts`.
+pub fn interval_starts(file: &[u8], id: &[u8], out: &mut [i64], count: &mut [i64; 1]) -> u64 {
+    unsafe {
+        c::nzd_interval_starts(file.as_ptr(), file.len(), id.as_ptr(), id.len(), out.as_mut_ptr(), out.len(), count)
+    }
+}
+
+/// `nzd_find_start`.
+pub fn find_start(table: &[i64], instant: i64, out: &mut [i64; 2]) -> u64 {
+    unsafe { c::nzd_find_start(table.as_ptr(), table.len(), instant, out) }
 }
 
 /// `nzd_receiver_reset`.

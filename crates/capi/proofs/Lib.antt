@@ -6,3 +6,4 @@ pub mod RewriteLaws
 pub mod Walk
 pub mod LocationLaws
 pub mod OldLaws
+pub mod ToolLaws

@@ -15,14 +15,17 @@ ghost use Rattle.old_texts.specs.OldText.{readOldText, oldTextForm};
 ghost use Rattle.old_dictionaries.specs.OldDictionary.{readOldDictionary, oldDictionaryForm};
 ghost use Rattle.old_named_questions.specs.OldNamed.{askNamedOld};
 ghost use Rattle.old_replies.specs.Functions.{dictionaryReply, PutsLong};
+ghost use Rattle.halving.specs.Halving.{findStart};
+ghost use Rattle.replay.specs.Reports.{replay as replayOf};
 ghost use Rattle.receivers.specs.Receive.{fresh, Adds};
 ghost use Rattle.replies.specs.Reply.{Gives, Puts};
 ghost use Rattle.replies.specs.Functions.{readReply, numberReply, textReply, momentReply, previousOf, integerForm};
 ghost use Rattle.file_replies.specs.Functions.{markOf, answerReply, versionReply, editionOf};
-ghost use Rattle.capi_contracts.specs.Functions.{MapsLocal, kindForm, StepsView, Normalizes};
+ghost use Rattle.capi_contracts.specs.Functions.{MapsLocal, kindForm, StepsView, Normalizes, FillsStarts, ListsDifference, ClosesPool};
 ghost use Rattle.capi_contracts.specs.Received.{askReceived, askPlainReceived, askNamedReceived, locationReceived, MapsReceived, versionReceived, NormalizesReceived};
 ghost use Rattle.file_locations.specs.ByField.{locationBy};
 ghost use Rattle.location_replies.specs.Locations.{GivesLocation};
+ghost use Rattle.tool_replies.specs.Functions.{searchReply, reportReply};
 
 // The check of a whole file, and its preferred form.
 #[no_mangle]
@@ -152,6 +155,64 @@ pub extern "C" fn nzd_version_text(file: &[u8], out: &mut [i64; 2]) -> u64
 {
     let t = checks::version_text(file);
     file_replies::give_version(t, out)
+}
+
+// Where two whole files differ in one zone, over a window of instants: two numbers a stretch.
+#[no_mangle]
+pub extern "C" fn nzd_difference(
+    file: &[u8],
+    other: &[u8],
+    id: &[u8],
+    first: i64,
+    last: i64,
+    out: &mut [i64],
+    count: &mut [i64; 1],
+) -> u64
+    ensures { λ r. ⌜ ListsDifference (now (file .entry)) (now (other .entry)) (now (id .entry)) first last (now (out .entry)) (now (count .entry)) r (now (out .exit)) (now (count .exit)) ⌝ }
+{
+    let x = differences::difference(file, other, id, first, last, out);
+    tool_replies::give_listing(x, count)
+}
+
+// The first record of a trace that a file contradicts.
+#[no_mangle]
+pub extern "C" fn nzd_replay(file: &[u8], trace: &[u8], out: &mut [i64; 1]) -> u64
+    ensures { λ r. ⌜ Gives (reportReply (replayOf (now (file .entry)) (now (trace .entry)))) (now (out .entry)) r (now (out .exit)) ⌝ }
+{
+    let x = replay::replay(file, trace);
+    tool_replies::give_report(x, out)
+}
+
+// The listed interval starts of a zone.
+#[no_mangle]
+pub extern "C" fn nzd_interval_starts(
+    file: &[u8],
+    id: &[u8],
+    out: &mut [i64],
+    count: &mut [i64; 1],
+) -> u64
+    ensures { λ r. ⌜ FillsStarts (now (file .entry)) (now (id .entry)) (now (out .entry)) (now (count .entry)) r (now (out .exit)) (now (count .exit)) ⌝ }
+{
+    let x = starts::fill_starts(file, id, out);
+    tool_replies::give_filling(x, count)
+}
+
+// The entry of a table that halving leaves for an instant.
+#[no_mangle]
+pub extern "C" fn nzd_find_start(table: &[i64], instant: i64, out: &mut [i64; 2]) -> u64
+    ensures { λ r. ⌜ Gives (searchReply (findStart (now (table .entry)) instant)) (now (out .entry)) r (now (out .exit)) ⌝ }
+{
+    let x = halving::find_start(table, instant);
+    tool_replies::give_search(x, out)
+}
+
+// A whole file with its pool closed up.
+#[no_mangle]
+pub extern "C" fn nzd_close_pool(file: &[u8], out: &mut [u8]) -> u64
+    ensures { λ r. ⌜ ClosesPool (now (file .entry)) (now (out .entry)) r (now (out .exit)) ⌝ }
+{
+    let x = closing::close_pool(file, out);
+    tool_replies::closed_result(x)
 }
 
 // Empties a receiver.

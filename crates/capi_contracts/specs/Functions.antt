@@ -1,20 +1,27 @@
 -- What each C function says, by the definitions of the crates below. To be believed: what programs in C are told.
-use Prim.Native.Nat.{ℕ}
+use Prim.Native.Nat.{ℕ, _/_}
 use mathlib.Core.Bool.{Bool}
 use mathlib.Core.List.{List}
 use mathlib.Core.Path.{_≡_}
 use lib.IntN.{ℤ}
-use lib.ListN.{getD}
+use lib.ListN.{length, getD}
 use Rattle.base.specs.Writing.{Form}
 use Rattle.transitions.specs.Transition.{momentForm}
+use Rattle.frames.specs.Machine.{walk}
+use Rattle.answers.specs.Answers.{noPool}
+use Rattle.locate.specs.Asked.{holder}
 use Rattle.rewrite.specs.Preferred.{rewriteOf, outputOf}
 use Rattle.wall_times.specs.WallTime.{MapsTo}
 use Rattle.wall_times.specs.declared.Mapping.{Mapping}
+use Rattle.starts.specs.Table.{filledAt, tableAt}
+use Rattle.differences.specs.Difference.{differences, difference, filled}
+use Rattle.closed_files.specs.File.{closeOf, outputOf as closedOutput}
 use Rattle.replies.specs.Reply.{Gives}
 use Rattle.replies.specs.Functions.{previousOf, momentOf}
 use Rattle.location_lookup.specs.Country.{nextOf}
 use Rattle.file_replies.specs.Functions.{rewrittenResult, mappingReply}
 use Rattle.location_replies.specs.Locations.{GivesCountry}
+use Rattle.tool_replies.specs.Functions.{fillingReply, listingReply, closedResult}
 
 -- the result r and the output e at the return of normalizing f, where the output was d: "one operation that gives the check's refusal, or
 -- rewrites". "A rewrite gives its length and leaves later output bytes as found."
@@ -28,6 +35,23 @@ pub record MapsLocal (f id : List ℕ) (local : ℤ) (d : List ℤ) (r : ℕ) (e
   pub mapping : Mapping
   pub maps : MapsTo f id local mapping
   pub gives : Gives (mappingReply mapping) d r e
+
+-- the result r, the table e and the count n at the return of filling a table of starts, where table and count were d and c: "one call fills a lent
+-- table with one zone's listed interval starts", "whatever fills lent room gives how many entries .., later ones as found"
+pub record FillsStarts (f id : List ℕ) (d c : List ℤ) (r : ℕ) (e n : List ℤ) : Type 0 where
+  pub gives : Gives (fillingReply (filledAt (walk (holder id) noPool f) d)) c r n
+  pub table : e ≡ tableAt (walk (holder id) noPool f) d
+
+-- the result r, the list e and the count n at the return of a difference of two files, where list and count were d and c: "list in time order, by
+-- first instant and end, each stretch"
+pub record ListsDifference (f g id : List ℕ) (first last : ℤ) (d c : List ℤ) (r : ℕ) (e n : List ℤ) : Type 0 where
+  pub gives : Gives (listingReply (difference f g id first last (length d / 2))) c r n
+  pub list : e ≡ filled (difference f g id first last (length d / 2)) (differences f g id first last) d
+
+-- the result r and the output e at the return of closing up the pool of f, where the output was d: "gives how many .. bytes, later ones as found"
+pub record ClosesPool (f d : List ℕ) (r : ℕ) (e : List ℕ) : Type 0 where
+  pub result : r ≡ closedResult (closeOf f d)
+  pub output : e ≡ closedOutput f d
 
 -- a step of the view c over the file f, whatever its numbers are: where the field's data start and end, the place of the next country in them, and
 -- how many are left

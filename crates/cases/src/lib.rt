@@ -1,6 +1,6 @@
 // What the programs of stored cases share: numbers that a line spells, bytes that it spells in parts, and what is written.
 use libc::STDOUT_FILENO;
-ghost use Prim.Native.Nat.{_<_};
+ghost use Prim.Native.Nat.{_≤_, _<_};
 ghost use Rattle.io.specs.Counts.{Counts};
 
 pub fn say(word: &[u8]) {
@@ -50,6 +50,16 @@ pub fn say_bytes(s: &[u8]) {
     hex::print(s);
 }
 
+// Each number of s, a space before it.
+pub fn say_numbers(s: &[i64]) {
+    let mut i: usize = 0;
+    while i < s.len() {
+        say(b" ");
+        say_integer(s[i]);
+        i += 1;
+    }
+}
+
 // A refusal's number and place.
 pub fn say_refusal(n: u8, place: usize) {
     say_number(n as u64);
@@ -80,6 +90,14 @@ pub fn natural(s: &[u8]) -> u64 {
         i += 1;
     }
     v
+}
+
+// The number that the k-th word of line spells, no larger than most.
+pub fn room(line: &[u8], k: usize, most: usize) -> usize
+    ensures { λ r. ⌜ r ≤ most ⌝ }
+{
+    let n = natural(hex::text(line, k)) as usize;
+    if n < most { n } else { most }
 }
 
 // The integer that s spells, with a minus if it is negative; 0 for one past 64 bits.

@@ -78,7 +78,7 @@ number-suffix Zone1970 = bind-suffix (parse readZigzag) judgeNumber (code-suffix
     judged (pos n) = got-suffix n
     judged (negsuc n) = λ s a r e. bad-got e
 
-many-length : {A : Type 0} (f : Unit {0} → List ℕ → Parsed A) (n : ℕ) (s : List ℕ) (xs : List A) (r : List ℕ) → many f noState n tt s ≡ got xs r
+pub many-length : {A : Type 0} (f : Unit {0} → List ℕ → Parsed A) (n : ℕ) (s : List ℕ) (xs : List A) (r : List ℕ) → many f noState n tt s ≡ got xs r
     → length xs ≡ n
 unfolding many
 many-length f zero s xs r e = let z : [] ≡ xs = got-value e in rw (← z)

@@ -3,19 +3,15 @@
 use mathlib.Core.Path.{_≡_, refl, sym, ap, _∙_, subst, subst⁻¹}
 use mathlib.Core.Bool.{false}
 use mathlib.Core.List.{List, [], _∷_}
-use Prim.Native.Nat.{ℕ, _+_, _≤_, _<_}
+use Prim.Native.Nat.{ℕ, _≤_, _<_}
 use native.Mathlib.Omega.{arith}
 use lib.IntN.{ℤ}
-use lib.ListN.{length, take, drop, getD}
-use borrow.Author.Tests.{le-leb}
+use lib.ListN.{length, getD}
 use Rattle.base.specs.Run.{next}
 use Rattle.base.specs.Parsed.{got}
 use Rattle.base.specs.Moment.{Finite}
-use Rattle.base.proofs.Parts.{part-of-part}
 use Rattle.signed.specs.Instant.{instantOf}
 use Rattle.pool.specs.Pool.{stringsOf}
-use Rattle.pool.specs.Index.{spanOf}
-use Rattle.pool.proofs.StringLaws.{span-inside, span-string}
 use Rattle.zones.specs.Content.{Zone}
 use Rattle.zones.specs.Editions.{under}
 use Rattle.zones.specs.Lookup.{inZone}
@@ -33,7 +29,8 @@ use Rattle.base.proofs.AllLaws.{all-head, all-tail, all-map, all-left}
 use Rattle.frames.proofs.ChainLaws.{listing-chain, chain-fields, chain-split}
 use Rattle.frames.proofs.PassLaws.{pass-first, pass-head, lockstep}
 use Rattle.frames.proofs.PartLaws.{walk-ended, walk-answer}
-use Rattle.answers.specs.Answers.{numberOf, Pool, noPool, answered, nameOf}
+use Rattle.answers.specs.Answers.{numberOf, Pool, noPool, answered}
+use Rattle.answers.proofs.NameLaws.{Located, name-is}
 use Rattle.locate.specs.Asked.{says}
 use Rattle.questions.specs.Question.{answerAt, question, finish}
 use Rattle.signed.proofs.IntegerLaws.{instant-finite}
@@ -46,11 +43,6 @@ use Rattle.questions.proofs.NameLaws.{by-kept}
 use Rattle.demands.proofs.Standard.{standard-right}
 use Rattle.demands.proofs.Lone.{none-before}
 use Rattle.demands.proofs.Exact.{asks, passed, begin-alike}
-
--- the pool's data is a part of the file
-record Located (f : List ℕ) (y : Pool) : Type 0 where
-  within : y .start + length (y .body) ≤ length f
-  part : y .body ≡ take (length (y .body)) (drop (y .start) f)
 
 record Beside (f : List ℕ) (ts : List (List ℕ)) (x : Memory) (y : Pool) : Type 0 where
   alike : Alike ts x y
@@ -72,18 +64,6 @@ go-on f ts id ed t x x′ y g k r e =
 known : (f : List ℕ) (ts : List (List ℕ)) (id : List ℕ) (gs : List Field) → All (Passed ts id) gs → All (FieldOf f) gs → All (Known f ts id) gs
 known f ts id [] a b = all-none
 known f ts id (g ∷ gs) a b = all-also (record { passes = all-head a; is-field = all-head b }) (known f ts id gs (all-tail a) (all-tail b))
-
--- the name of an answer is the string of the file's pool
-name-is : (f : List ℕ) (y : Pool) (i : Interval) → Located f y → i .name < length (stringsOf (y .body))
-    → nameOf f (answered y i) ≡ getD (stringsOf (y .body)) (i .name) []
-name-is f y i l h =
-    let d = y .body in
-    let k = i .name in
-    let s = span-inside d k h in
-    rw (le-leb (y .start + spanOf d k .at + spanOf d k .len) (length f) (omega (arith, s, l .within)))
-    (sym (part-of-part f (y .start) (length d) (spanOf d k .at) (spanOf d k .len) s)
-    ∙ ap (λ (b : List ℕ). take (spanOf d k .len) (drop (spanOf d k .at) b)) (sym (l .part))
-    ∙ span-string d k h)
 
 -- of the asked zone
 pub right : (ed : Edition) (f id : List ℕ) (z : ℤ) (g : Field) → WellFormed f → (a : Asked f id g) → InRange z → Right ed f id z (a .has .zone)

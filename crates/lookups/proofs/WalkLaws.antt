@@ -75,6 +75,7 @@ module _ (t : ℕ) (s : List ℕ) (p : Parsed (List Interval)) (f : List Interva
 
   pub record Scanned (c : Scan) (e : ℕ) : Type 0 where
     pub list : List Interval
+    pub read : p ≡ got list (drop e s)
     pub goes : bind p f ≡ f list (drop e s)
     pub scans : c ≡ scanned t list
 
@@ -86,7 +87,7 @@ module _ (t : ℕ) (s : List ℕ) (p : Parsed (List Interval)) (f : List Interva
       go (got is r) o k =
           let x : scanned t is ≡ c = cc in
           let y : r ≡ drop e s = cc in
-          record { list = is; goes = ap (λ (q : Parsed (List Interval)). bind q f) o ∙ ap (f is) y; scans = sym x }
+          record { list = is; read = o ∙ ap (got is) y; goes = ap (λ (q : Parsed (List Interval)). bind q f) o ∙ ap (f is) y; scans = sym x }
       go (bad n) o k = bad-got k
 
 -- behind the intervals that c stands for

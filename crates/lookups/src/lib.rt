@@ -111,7 +111,8 @@ fn held_until(c: Scan, end: u64) -> Found
     }
 }
 
-fn in_tail(t: u64, n: NamedTail) -> Found
+// The interval of a tail that holds the instant t.
+pub fn in_tail(t: u64, n: NamedTail) -> Found
     requires { ⌜ Finite t × TailOk (n .tail) ⌝ }
     ensures { λ r. ⌜ r ≡ inTail t n ⌝ }
 {

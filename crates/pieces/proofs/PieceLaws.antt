@@ -1,9 +1,10 @@
 -- A transition and what follows it, at a place of the data. Assumes nothing.
 use mathlib.Core.Path.{_≡_, refl, sym, ap, _∙_}
-use mathlib.Core.List.{List, []}
+use mathlib.Core.List.{List, [], _++_}
 use Prim.Native.Nat.{ℕ, zero, suc, _+_, _*_, _-_, _≤_}
 use native.Mathlib.Omega.{arith}
-use lib.ListN.{length, take, drop, getD, length-drop, drop-of-length-le}
+use lib.ListN.{length, take, drop, getD, length-append, length-drop, drop-of-length-le}
+use lib.Seq.{take-append-seam}
 use borrow.Author.Tests.{ne-eqb, eq-eqb}
 use Rattle.base.specs.Parsed.{got, behindCode, parse}
 use Rattle.base.specs.declared.Read.{Read}
@@ -64,8 +65,14 @@ end-at s n place v e h =
 pub end-no : (s : List ℕ) (n place k : ℕ) → Stands s (pieceEnd n (drop place s)) (no k) → EndAt s n place (length s)
 end-no s n place k h = record { within = omega arith; means = λ w q j. bad-got (sym (h .means) ∙ j) }
 
+-- what stands before the last part
+pub up-to-front : (xs ys : List ℕ) → bytesUpTo (xs ++ ys) ys ≡ xs
+up-to-front xs ys =
+    let n : length (xs ++ ys) - length ys ≡ length xs = rw length-append (omega arith) in
+    rw n (take-append-seam xs ys)
+
 -- the bytes between two places
-up-to-places : (s : List ℕ) (a e : ℕ) → a ≤ length s → e ≤ length s → bytesUpTo (drop a s) (drop e s) ≡ take (e - a) (drop a s)
+pub up-to-places : (s : List ℕ) (a e : ℕ) → a ≤ length s → e ≤ length s → bytesUpTo (drop a s) (drop e s) ≡ take (e - a) (drop a s)
 up-to-places s a e h k =
     let n : length (drop a s) - length (drop e s) ≡ e - a = rw (length-drop, length-drop) (omega arith) in
     rw n

@@ -5,13 +5,6 @@
 // The stored output comes from tests/make/receiver_cases.py.
 use libc::STDIN_FILENO;
 use receivers::Receiver;
-ghost use Prim.Native.Nat.{_≤_};
-
-fn least(a: usize, b: usize) -> usize
-    ensures { λ r. ⌜ (r ≤ a) × (r ≤ b) ⌝ }
-{
-    if a < b { a } else { b }
-}
 
 fn show(r: Receiver, number: u64) {
     if number != 0 {
@@ -56,8 +49,7 @@ fn run_calls(line: &[u8], buffer: &mut [u8]) {
 }
 
 fn run_line(line: &[u8], buf: &mut [u8]) {
-    let n = cases::natural(hex::text(line, 0)) as usize;
-    let room = least(n, buf.len());
+    let room = cases::room(line, 0, buf.len());
     run_calls(line, &mut buf[..room]);
 }
 

@@ -4,8 +4,8 @@ use mathlib.Core.List.{List, [], _∷_, _++_}
 use mathlib.Core.Logic.{_⊎_, inl, inr}
 use Prim.Native.Nat.{ℕ, _+_, _-_, _≤_}
 use native.Mathlib.Omega.{arith}
-use lib.ListN.{length, drop, length-append, length-drop}
-use lib.Seq.{take-append-seam, drop-append-seam}
+use lib.ListN.{length, drop, length-drop}
+use lib.Seq.{drop-append-seam}
 use Rattle.base.specs.Parsed.{Parsed, got, behindCode, parse, parseByte}
 use Rattle.base.specs.declared.Read.{Read}
 use Rattle.base.specs.declared.Read.the-variants.{Value, Refused}
@@ -18,7 +18,6 @@ use Rattle.offsets.specs.Offset.{readSum, writeSum}
 use Rattle.offsets.proofs.OffsetLaws.{sum-read, sum-form, sum-written}
 use Rattle.transitions.specs.Transition.{readMoment, writeMoment}
 use Rattle.transitions.proofs.MomentLaws.{moment-read, moment-written, Preferred, Longer, renewed, never-longer}
-use Rattle.pieces.specs.Content.{bytesUpTo}
 
 -- what p read from the front of s before r, as a, and that it reads the same in front of any bytes
 pub record Front {A : Type 0} (p : List ℕ → Parsed A) (s : List ℕ) (a : A) (r : List ℕ) : Type 0 where
@@ -98,9 +97,3 @@ moment-renewed prev s m r b e = go (readMoment prev s) refl e
         } in
         subst (λ (y : ℕ). Renewed prev s y r) i (subst (λ (y : List ℕ). Renewed prev s w y) j z)
     go (Refused n) h k = bad-got k
-
--- what stands before the last part
-pub up-to-front : (xs ys : List ℕ) → bytesUpTo (xs ++ ys) ys ≡ xs
-up-to-front xs ys =
-    let n : length (xs ++ ys) - length ys ≡ length xs = rw length-append (omega arith) in
-    rw n (take-append-seam xs ys)

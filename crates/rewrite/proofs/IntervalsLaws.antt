@@ -16,7 +16,8 @@ use Rattle.places.specs.Name.{judgeName, parseName}
 use Rattle.intervals.specs.Interval.{standardSum, judgeStandard, afterWall, afterName, parseDetails, rises, afterStart, parseInterval, startOf}
 use Rattle.intervals.specs.declared.Interval.{Interval}
 use Rattle.pieces.specs.Content.{Piece, bytesUpTo, parseWall, pieceEnd, afterMoment, parsePiece, parsePieces, printPieces}
-use Rattle.rewrite.proofs.CodeLaws.{Front, count-front, sum-front, Renewed, moment-renewed, up-to-front}
+use Rattle.pieces.proofs.PieceLaws.{up-to-front}
+use Rattle.rewrite.proofs.CodeLaws.{Front, count-front, sum-front, Renewed, moment-renewed}
 
 -- a pool number that was read
 pub record NameFront (pool : ℕ) (s : List ℕ) (k : ℕ) (r : List ℕ) : Type 0 where

@@ -7,7 +7,7 @@ pub mod PassMovedLaws
 pub mod ZoneMovedLaws
 pub mod Rewriting
 pub mod ReadyLaws
-pub mod FieldLaws
+pub mod VersionLaws
 pub mod ShortestLaws
 pub mod Example
 pub mod AbsenceLaws

@@ -51,15 +51,15 @@ module _ (i : ℕ) (d more : List ℕ) where
   pub printed-size : length bytesOf ≡ headFor (length d) + length d + length more
   printed-size = simp (length-append) (omega arith)
 
-  printed-rest : drop (headFor (length d) + length d) bytesOf ≡ more
+  pub printed-rest : drop (headFor (length d) + length d) bytesOf ≡ more
   printed-rest = drop-at (i ∷ (writeCount (length d) ++ d)) more (headFor (length d) + length d) (simp (length-append) (omega arith))
 
-  printed-data : take (length d) (drop (headFor (length d)) bytesOf) ≡ d
+  pub printed-data : take (length d) (drop (headFor (length d)) bytesOf) ≡ d
   printed-data =
       rw (append-assoc (writeCount (length d)) d more, drop-at (i ∷ writeCount (length d)) (d ++ more) (headFor (length d)) (omega arith))
       (take-append-seam d more)
 
-  printed-whole : (at : ℕ) (seen : Bool) (prev : ℕ) → 0 < at → order seen prev i ≡ 0 → i ≤ 255
+  pub printed-whole : (at : ℕ) (seen : Bool) (prev : ℕ) → 0 < at → order seen prev i ≡ 0 → i ≤ 255
       → at + (headFor (length d) + length d) ≤ largest → frame 255 at seen prev bytesOf ≡ Whole i (headFor (length d)) (length d)
   printed-whole at seen prev a o l m =
       headed-whole 255 at seen prev bytesOf i (headFor (length d)) (length d)
@@ -83,7 +83,7 @@ moved-past f g at o k l =
     omega (arith, count-mono (length (preferredData (g .id) (g .body))) (length (g .body)) (k .shorter), w .least, o .starts, o .ends, k .shorter)
 
 -- at the bytes' end
-no-more : (at : ℕ) (seen : Bool) (prev : ℕ) → 0 < at → frame 255 at seen prev [] ≡ End
+pub no-more : (at : ℕ) (seen : Bool) (prev : ℕ) → 0 < at → frame 255 at seen prev [] ≡ End
 unfolding frame field
 no-more at seen prev l = rw (ne-eqb at 0 (λ z. omega arith))
 
@@ -127,7 +127,7 @@ module _ (f : List ℕ) (b : Bytes f) where
       record { in-file = omega (arith, rec .in-file); in-limit = omega (arith, rec .in-limit) }
 
 -- "Version: four zero bytes"
-version-first : (xs : List ℕ) → listing 255 (0 ∷ 0 ∷ 0 ∷ 0 ∷ xs) ≡ scan (length (0 ∷ 0 ∷ 0 ∷ 0 ∷ xs)) 255 4 false 0 xs
+pub version-first : (xs : List ℕ) → listing 255 (0 ∷ 0 ∷ 0 ∷ 0 ∷ xs) ≡ scan (length (0 ∷ 0 ∷ 0 ∷ 0 ∷ xs)) 255 4 false 0 xs
 unfolding listing scan frame version zeros
 version-first xs = rw (le-leb 4 (length (0 ∷ 0 ∷ 0 ∷ 0 ∷ xs)) (omega arith))
 

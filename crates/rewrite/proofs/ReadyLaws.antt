@@ -1,8 +1,8 @@
 -- What the check of a file has shown, and the walk over its fields. Assumes nothing.
-use mathlib.Core.Path.{_≡_, refl, sym, ap, _∙_, subst⁻¹}
+use mathlib.Core.Path.{_≡_, refl, sym, ap, _∙_, subst, subst⁻¹}
 use mathlib.Core.Bool.{Bool, true, false}
 use mathlib.Core.List.{List, [], _∷_, _++_, append-nil, append-assoc}
-use Prim.Native.Nat.{ℕ, _+_, _-_, _≤_, _<_}
+use Prim.Native.Nat.{ℕ, _+_, _≤_, _<_}
 use native.Mathlib.Omega.{arith}
 use lib.ListN.{length, length-append}
 use lib.Dec.{leb}
@@ -31,8 +31,10 @@ use Rattle.field_checks.specs.File.{AsZone}
 use Rattle.check_steps.specs.Flags.{ZoneFlagged, AllFlagged, FlagsChecked}
 use Rattle.field_checks.proofs.WellFormedLaws.{good-well-formed}
 use Rattle.field_checks.proofs.ZoneIdLaws.{zones-read}
-use Rattle.rewrite.specs.View.{Readable, Rewritable, IsField, partOf}
-use Rattle.rewrite.specs.declared.Extent.{Extent}
+use Rattle.whole_fields.specs.View.{IsField, partOf}
+use Rattle.whole_fields.specs.declared.Extent.{Extent}
+use Rattle.whole_fields.proofs.FieldLaws.{turned, none-left}
+use Rattle.rewrite.specs.View.{Readable, Rewritable}
 use Rattle.rewrite.proofs.ZoneLaws.{zone-kept}
 use Rattle.rewrite.proofs.KeptLaws.{field-bytes}
 use Rattle.rewrite.proofs.Rewriting.{never-longer, preferred-limit}
@@ -79,11 +81,8 @@ walking-start f flags r = record { rest = fields f; covers = r .covers; readable
 
 pub walking-done : (f flags : List ℕ) (at : ℕ) (done : List ℕ) → Walking f flags at done → length f ≤ at → printFields (content f) ≡ done
 unfolding contents printFields
-walking-done f flags at done w l = go (w .rest) (w .covers) (w .all)
-  where
-    go : (gs : List Field) → Covers f at gs → printFields (content f) ≡ done ++ printFields (contents gs) → printFields (content f) ≡ done
-    go [] c e = e ∙ append-nil done
-    go (g ∷ gs) c e = absurd (omega (arith, c .0, c .1 .starts, c .1 .ends, c .1 .within))
+walking-done f flags at done w l =
+    w .all ∙ ap (λ (gs : List Field). done ++ printFields (contents gs)) (none-left f at (w .rest) (w .covers) l) ∙ append-nil done
 
 pub walking-sum : (f flags : List ℕ) (at : ℕ) (done : List ℕ) → Walking f flags at done → length done ≤ length (printFields (content f))
 walking-sum f flags at done w = rw (w .all, length-append) (omega arith)
@@ -99,32 +98,27 @@ pub record Turn (f flags : List ℕ) (at : ℕ) (done : List ℕ) (r : Extent) :
 pub walking-turn : (f flags : List ℕ) (at : ℕ) (done : List ℕ) (r : Extent) → Walking f flags at done → at < length f → IsField f at r
     → Turn f flags at done r
 unfolding contents printFields
-walking-turn f flags at done r w l i = go (w .rest) (w .covers) (w .readable) (w .all)
-  where
-    go : (gs : List Field) → Covers f at gs → All (Readable flags) gs → printFields (content f) ≡ done ++ printFields (contents gs)
-        → Turn f flags at done r
-    go [] c a e = absurd (omega arith)
-    go (g ∷ gs) c a e =
-        let o : FieldOf f g = c .1 in
-        let m = i .means g o (c .0) in
-        let n : r .end - r .start ≡ length (g .body) = omega (arith, m .1, m .2, o .ends) in
-        let p : partOf f r ≡ g .body = rw (n, m .1) (sym (o .bytes)) in
-        record {
-          ordered = omega (arith, m .1, m .2, o .ends);
-          farther = omega (arith, m .2, o .ends, o .starts, c .0);
-          within = omega (arith, m .2, o .within);
-          readable = λ z. subst⁻¹ (Told flags) p (all-head a (sym (m .0) ∙ z));
-          next = record {
-            rest = gs;
-            covers = subst⁻¹ (λ (q : ℕ). Covers f q gs) (m .2) (c .2);
-            readable = all-tail a;
-            all =
-                e
-                ∙ sym (append-assoc done (printField (fieldWith (g .id) (g .body))) (printFields (contents gs)))
-                ∙ ap (λ (x : List ℕ). (done ++ printField (fieldWith (g .id) x)) ++ printFields (contents gs)) (sym p)
-                ∙ ap (λ (j : ℕ). (done ++ printField (fieldWith j (partOf f r))) ++ printFields (contents gs)) (sym (m .0));
-          };
-        }
+walking-turn f flags at done r w l i =
+    let u = turned f at (w .rest) r (w .covers) l i in
+    let g : Field = u .field in
+    let a : All (Readable flags) (g ∷ u .others) = subst (All (Readable flags)) (u .split) (w .readable) in
+    record {
+      ordered = u .ordered;
+      farther = omega (arith, u .farther, u .ordered);
+      within = u .within;
+      readable = λ z. subst⁻¹ (Told flags) (u .body) (all-head a (sym (u .id) ∙ z));
+      next = record {
+        rest = u .others;
+        covers = u .covers;
+        readable = all-tail a;
+        all =
+            w .all
+            ∙ ap (λ (gs : List Field). done ++ printFields (contents gs)) (u .split)
+            ∙ sym (append-assoc done (printField (fieldWith (g .id) (g .body))) (printFields (contents (u .others))))
+            ∙ ap (λ (x : List ℕ). (done ++ printField (fieldWith (g .id) x)) ++ printFields (contents (u .others))) (sym (u .body))
+            ∙ ap (λ (j : ℕ). (done ++ printField (fieldWith j (partOf f r))) ++ printFields (contents (u .others))) (sym (u .id));
+      };
+    }
 
 -- what is done and the field that follows, in an output with room for the file
 pub turn-two : {f flags : List ℕ} {at : ℕ} {done : List ℕ} {r : Extent} → Turn f flags at done r → (d : List ℕ) → length (printFields (content f)) ≤ length d

@@ -23,7 +23,8 @@ use Rattle.zones.proofs.SoundLaws.{zone-sound}
 use Rattle.pieces.specs.Content.{Piece, Content, plain, bytesUpTo, parseHead, afterHead, parseContent, contentOf, parsePieces, printPieces, print}
 use Rattle.pieces.specs.Content.{afterId as afterName, afterFlag as behindFlag, afterCount as behindCount}
 use Rattle.rewrite.specs.Kept.{ZoneKept}
-use Rattle.rewrite.proofs.CodeLaws.{Front, count-front, byte-front, up-to-front}
+use Rattle.pieces.proofs.PieceLaws.{up-to-front}
+use Rattle.rewrite.proofs.CodeLaws.{Front, count-front, byte-front}
 use Rattle.rewrite.proofs.IntervalsLaws.{NameFront, name-front, list-kept}
 
 content-is : (d : List ℕ) (c : Content) → parseContent d ≡ got c [] → contentOf 1 d ≡ c

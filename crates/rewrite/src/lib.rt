@@ -1,15 +1,14 @@
 // The preferred form of a whole file. The file is checked, which also tells of each zone whether it is in its preferred form; then the fields are
 // written one behind the other, each by a callee that is lent the output from the present place on. A zone that is preferred is not read again.
-use base::Read;
 use field_checks::Verdict;
 ghost use mathlib.Core.Path.{_≡_};
 ghost use mathlib.Core.List.{[], _∷_};
-ghost use Prim.Native.Nat.{_≤_, _<_};
+ghost use Prim.Native.Nat.{_≤_};
 ghost use lib.ListN.{length};
 ghost use lib.Dec.{leb};
 ghost use Rattle.pieces.specs.View.{Put};
 ghost use Rattle.rewrite.specs.Preferred.{content, printFields, preferred, rewriteOf, outputOf};
-ghost use Rattle.rewrite.specs.View.{Rewritable, IsField};
+ghost use Rattle.rewrite.specs.View.{Rewritable};
 
 // What normalizing gives.
 pub enum Rewritten {
@@ -17,36 +16,6 @@ pub enum Rewritten {
     Length(usize),
     // The number and the place of a refusal: nothing was written.
     Refused(u8, usize),
-}
-
-// A field's ID, and where its data start and end.
-pub struct Extent {
-    pub id: u8,
-    pub start: usize,
-    pub end: usize,
-}
-
-// The field at a place of a file whose fields are whole.
-fn read_field(s: &[u8], at: usize) -> Extent
-    requires { ⌜ at < length (now s) ⌝ }
-    ensures { λ r. ⌜ IsField (now (s .entry)) at r ⌝ }
-{
-    let a = at + 1;
-    match sizes::read_size(&s[a..]) {
-        Read::Refused(_) => Extent {
-            id: 0,
-            start: a,
-            end: a,
-        },
-        Read::Value(n, u) => {
-            let start = a + u;
-            Extent {
-                id: s[at],
-                start: start,
-                end: start + n as usize,
-            }
-        }
-    }
 }
 
 // The length of the preferred file.
@@ -57,7 +26,7 @@ fn total(s: &[u8], flags: &[u8]) -> usize
     let mut n = 0;
     let mut at = 4;
     while at < s.len() {
-        let f = read_field(s, at);
+        let f = whole_fields::read_field(s, at);
         let a = f.start;
         let e = f.end;
         n += preferred_fields::field_size(f.id, &s[a..e], flags);
@@ -97,7 +66,7 @@ fn write_fields(s: &[u8], flags: &[u8], out: &mut [u8]) -> usize
     let mut w = 0;
     let mut at = 4;
     while at < s.len() {
-        let f = read_field(s, at);
+        let f = whole_fields::read_field(s, at);
         let a = f.start;
         let e = f.end;
         w += preferred_fields::write_field(f.id, &s[a..e], flags, &mut out[w..]);

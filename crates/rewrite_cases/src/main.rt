@@ -1,10 +1,9 @@
 // Normalizes the whole files that the lines of its input spell. A line is `ROOM FILE` or `ROOM FRONT UNIT TIMES END`, where the file is
 // the front, the unit so many times, and the end. All is in hexadecimal, `-` for no bytes; the room and the times have three bytes.
 // The output has so many bytes as the room says, all AA before. For each line it writes `0` and the preferred file's length, or the
-// number and the place of a refusal; then the whole output as it is found after. An output of more than 512 bytes is written as its first
-// 256 bytes, its Adler-32 checksum and its last 32 bytes. The stored output comes from tests/make/rewrite_cases.py.
+// number and the place of a refusal; then the whole output as it is found after, a long one in part (outputs::say).
+// The stored output comes from tests/make/rewrite_cases.py.
 use libc::STDIN_FILENO;
-use libc::STDOUT_FILENO;
 use rewrite::Rewritten;
 
 fn show_result(r: Rewritten) {
@@ -14,37 +13,10 @@ fn show_result(r: Rewritten) {
     }
 }
 
-// The Adler-32 checksum of s.
-fn checksum(s: &[u8]) -> u64 {
-    let mut a: u64 = 1;
-    let mut b: u64 = 0;
-    let mut i: usize = 0;
-    while i < s.len() {
-        a = (a + s[i] as u64) % 65521;
-        b = (b + a) % 65521;
-        i += 1;
-    }
-    b * 65536 + a
-}
-
-fn show_output(out: &[u8]) {
-    let n = out.len();
-    if n <= 512 {
-        cases::say_bytes(out);
-        return;
-    }
-    let e = n - 32;
-    hex::print(&out[..256]);
-    cases::say(b"..");
-    io::print_hex(STDOUT_FILENO, checksum(out), 8);
-    cases::say(b"..");
-    hex::print(&out[e..]);
-}
-
 fn run_file(s: &[u8], out: &mut [u8]) {
     show_result(rewrite::normalize(s, out));
     cases::say(b" ");
-    show_output(out);
+    outputs::say(out);
     cases::say(b"\n");
 }
 

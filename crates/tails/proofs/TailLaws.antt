@@ -1,16 +1,16 @@
 -- What a tail that was read says is in its ranges. Assumes nothing.
-use mathlib.Core.Path.{_≡_, refl, subst}
+use mathlib.Core.Path.{_≡_, refl, ap, _∙_, subst}
 use mathlib.Core.List.{List}
 use Prim.Native.Nat.{ℕ, _≤_}
 use native.Mathlib.Omega.{arith}
 use Rattle.base.specs.Parsed.{got, parse, parseByte}
 use Rattle.base.specs.Moment.{Finite}
-use Rattle.base.proofs.ParseLaws.{bind-good, pick-good}
+use Rattle.base.proofs.ParseLaws.{got-value, got-rest, bind-good, pick-good}
 use Rattle.counts.specs.Count.{readCount}
 use Rattle.offsets.specs.Offset.{readSum}
 use Rattle.rules.specs.declared.Rule.{Rule}
 use Rattle.rules.specs.Rules.{RuleOk}
-use Rattle.rules.specs.Fields.{byteOk, monthOk, dayOk, timeOk, ruleOf, sumOk}
+use Rattle.rules.specs.Fields.{byteOk, monthOk, dayOk, timeOk, ruleOf, FieldsOk, sumOk}
 use Rattle.rules.proofs.FieldLaws.{rule-ok}
 use Rattle.places.specs.Placed.{Placed, at, Stands}
 use Rattle.places.specs.Name.{readZigzag, parseName}
@@ -20,10 +20,25 @@ use Rattle.tails.specs.Sound.{StandardOk, NamedTailOk}
 use Rattle.tails.specs.declared.Standard.{Standard}
 use Rattle.tails.specs.declared.NamedTail.{NamedTail}
 
--- the four parts of a rule are judged
-pub rule-sound : (s : List ℕ) (x : Rule) (q : List ℕ) → parseRule s ≡ got x q → RuleOk x
+-- a rule that was read, by its four parts, which are judged
+pub record RuleParts (s : List ℕ) (x : Rule) (q : List ℕ) : Type 0 where
+  pub byte : ℕ
+  pub behind-byte : List ℕ
+  pub byte-is : parseByte s ≡ got byte behind-byte
+  pub month : ℕ
+  pub behind-month : List ℕ
+  pub month-is : parse readCount behind-byte ≡ got month behind-month
+  pub day : ℕ
+  pub behind-day : List ℕ
+  pub day-is : parse readZigzag behind-month ≡ got day behind-day
+  pub time : ℕ
+  pub time-is : parse readSum behind-day ≡ got time q
+  pub judged : FieldsOk byte month day time
+  pub made : ruleOf byte month day time ≡ x
+
+pub rule-parts : (s : List ℕ) (x : Rule) (q : List ℕ) → parseRule s ≡ got x q → RuleParts s x q
 unfolding parseRule afterByte parseMonth afterMonth parseDay afterDay parseTime afterTime
-rule-sound s x q e =
+rule-parts s x q e =
     let a = bind-good (parseByte s) afterByte x q e in
     let b : ℕ = a .first in
     let a′ = pick-good (byteOk b) (parseMonth b (a .rest)) 11 x q (a .on) in
@@ -35,9 +50,26 @@ rule-sound s x q e =
     let d′ = pick-good (dayOk m z) (parseTime b m z (d .rest)) 11 x q (d .on) in
     let f = bind-good (parse readSum (d .rest)) (afterTime b m z) x q (d′ .1) in
     let f′ = pick-good (timeOk (f .first)) (got (ruleOf b m z (f .first)) (f .rest)) 11 x q (f .on) in
-    let g : got (ruleOf b m z (f .first)) (f .rest) ≡ got x q = f′ .1 in
-    let h : ruleOf b m z (f .first) ≡ x = cc in
-    subst RuleOk h (rule-ok b m z (f .first) (record { byte-ok = a′ .0; month-ok = c′ .0; day-ok = d′ .0; time-ok = f′ .0 }))
+    record {
+      byte = b;
+      behind-byte = a .rest;
+      byte-is = a .is;
+      month = m;
+      behind-month = c .rest;
+      month-is = c .is;
+      day = z;
+      behind-day = d .rest;
+      day-is = d .is;
+      time = f .first;
+      time-is = f .is ∙ ap (got (f .first)) (got-rest (f′ .1));
+      judged = record { byte-ok = a′ .0; month-ok = c′ .0; day-ok = d′ .0; time-ok = f′ .0 };
+      made = got-value (f′ .1);
+    }
+
+pub rule-sound : (s : List ℕ) (x : Rule) (q : List ℕ) → parseRule s ≡ got x q → RuleOk x
+rule-sound s x q e =
+    let p = rule-parts s x q e in
+    subst RuleOk (p .made) (rule-ok (p .byte) (p .month) (p .day) (p .time) (p .judged))
 
 pub standard-sound : (pool start : ℕ) (s : List ℕ) (x : Standard) (q : List ℕ) → parseStandard pool start s ≡ got x q → StandardOk pool start x
 unfolding parseStandard afterOffset afterStandardName

@@ -1,7 +1,8 @@
 //! What is measured: normalizing, with room and without, a question by ID or by name, all intervals of a zone, a local time, a location, all
-//! countries of a field, or a file in pieces, by the library and by the peer.
+//! countries of a field, a file in pieces, or a tool, by the library and by the peer; and the floor, which memory sets.
 
 use crate::measure::Piece;
+use crate::tools::Tool;
 use nzd::{Bound, Edition, LocationField, Mark};
 use std::hint::black_box;
 
@@ -52,16 +53,17 @@ pub enum Work {
     Receive {
         size: usize,
     },
+    Tool(Tool),
 }
 
 /// What a question gives: number and place of a refusal, or the values of an answer.
 type Said<'a> = Result<([i64; 3], &'a [u8], i64, i64), (u8, usize)>;
 
-fn pair(error: nzd::Error) -> (u8, usize) {
+pub fn pair(error: nzd::Error) -> (u8, usize) {
     (error.number.value(), error.place)
 }
 
-fn peer_pair(refusal: peer::Refusal) -> (u8, usize) {
+pub fn peer_pair(refusal: peer::Refusal) -> (u8, usize) {
     (refusal.number, refusal.place)
 }
 
@@ -129,6 +131,7 @@ impl Work {
                 let (mut ours, mut theirs) = (vec![0; file.len()], vec![0; file.len()]);
                 received(file, *size, &mut ours) == received_by_peer(file, *size, &mut theirs) && ours == theirs
             }
+            Work::Tool(tool) => tool.agrees(file),
         }
     }
 
@@ -189,8 +192,18 @@ impl Work {
                     piece(move || received_by_peer(black_box(file), *size, black_box(&mut theirs))),
                 ]
             }
+            Work::Tool(tool) => tool.pieces(file),
         }
     }
+}
+
+/// What no reader of a file is quicker than: a copy of its bytes, and the sum of them in one pass.
+pub fn floor(file: &[u8]) -> [Piece<'_>; 2] {
+    let mut copy = vec![0; file.len()];
+    [
+        piece(move || black_box(&mut copy).copy_from_slice(black_box(file))),
+        piece(move || black_box(file).iter().fold(0, |sum, &byte| sum + u64::from(byte))),
+    ]
 }
 
 /// An output as long as the file, or none.
@@ -289,7 +302,7 @@ fn peer_countries(file: &[u8], field: u8) -> (usize, usize) {
     all.fold((0, 0), |(number, bytes), (name, code)| (number + 1, bytes + name.len() + code.len()))
 }
 
-fn piece<'a, T>(mut work: impl FnMut() -> T + 'a) -> Piece<'a> {
+pub fn piece<'a, T>(mut work: impl FnMut() -> T + 'a) -> Piece<'a> {
     Box::new(move || {
         black_box(work());
     })

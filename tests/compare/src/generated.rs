@@ -7,6 +7,7 @@ use crate::older;
 use crate::questions::{ask, other_ids, prefixes, Question};
 use crate::receiver::pieces;
 use crate::tally::{Difference, Tally};
+use crate::tools;
 use crate::walks::walk;
 use crate::whole::{check, whole};
 use second_reader::generate::{
@@ -37,24 +38,25 @@ pub fn round(tally: &mut Tally, seed: u64, number: u64) -> Result<(), Difference
     let kind = *prng.pick(&Damage::ALL);
     let bad = damaged(&good, kind, &mut prng);
     let twice = damaged_twice(&good, &mut prng);
-    for file in [good.bytes(), bad, twice, any_bytes(&mut prng)] {
-        whole(tally, &file)?;
-        locations::all(tally, &file)?;
-        locations::any_view(&file, &mut prng)?;
+    let files = [good.bytes(), bad, twice, any_bytes(&mut prng)];
+    for file in &files {
+        whole(tally, file)?;
+        locations::all(tally, file)?;
+        locations::any_view(file, &mut prng)?;
         let asked = questions(&content, &mut prng);
         for (id, ticks) in &asked {
-            ask(tally, &file, id, *ticks)?;
+            ask(tally, file, id, *ticks)?;
         }
         let few: Vec<Question> = (0..6).map(|_| prng.pick(&asked).clone()).collect();
-        older::dictionaries(tally, &file, &random_entries(&content, &mut prng), &few, &mut prng)?;
+        older::dictionaries(tally, file, &random_entries(&content, &mut prng), &few, &mut prng)?;
         let locals = local_times(&content, &asked, &mut prng);
         for (id, local) in &locals {
-            map(tally, &file, id, *local)?;
+            map(tally, file, id, *local)?;
         }
-        pieces(tally, &file, &asked, &locals, &mut prng)?;
+        pieces(tally, file, &asked, &locals, &mut prng)?;
         if file.len() <= EVERY_PREFIX {
             let few: Vec<Question> = (0..3).map(|_| prng.pick(&asked).clone()).collect();
-            prefixes(tally, &file, &few, 1, &mut prng)?;
+            prefixes(tally, file, &few, 1, &mut prng)?;
             let (id, local) = prng.pick(&locals).clone();
             for length in 0..file.len() {
                 check(tally, &file[..length])?;
@@ -84,7 +86,12 @@ pub fn round(tally: &mut Tally, seed: u64, number: u64) -> Result<(), Difference
     if let Ok(preferred) = second_reader::rewrite::preferred(&good.bytes()) {
         whole(tally, &preferred)?;
     }
-    walks(tally, &content, &good.bytes(), number.is_multiple_of(WHOLE_WALKS), &mut prng)
+    let all = number.is_multiple_of(WHOLE_WALKS);
+    let asked = questions(&content, &mut prng);
+    let locals = local_times(&content, &asked, &mut prng);
+    let round = tools::Round { content: &content, files: &files, asked: &asked, locals: &locals, whole: all };
+    tools::all(tally, &round, &mut prng)?;
+    walks(tally, &content, &files[0], all, &mut prng)
 }
 
 /// The intervals of every zone, from the first or from some instant on.

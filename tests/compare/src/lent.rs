@@ -56,6 +56,25 @@ pub fn written(
     Ok(given.map(|_| out))
 }
 
+/// Calls a function that fills the front of a list of `room` numbers and gives how many entries of `width` numbers it has. The list has
+/// others before and behind it.
+pub fn listed(
+    room: usize,
+    width: usize,
+    bytes: &[u8],
+    function: impl FnOnce(&mut [i64], &mut [i64; 1]) -> u64,
+) -> Result<Outcome<Vec<i64>>, Difference> {
+    let mut lent = vec![FOUND_NUMBER; MARGIN + room + MARGIN];
+    let given = numbers(bytes, |count| function(&mut lent[MARGIN..MARGIN + room], count))?;
+    let length = given.map_or(Some(0), |[count]| usize::try_from(count).ok()?.checked_mul(width));
+    let filled = MARGIN..MARGIN + length.filter(|length| *length <= room).unwrap_or(room);
+    let left = |numbers: &[i64]| numbers.iter().all(|number| *number == FOUND_NUMBER);
+    if length.is_none_or(|length| length > room) || !left(&lent[..MARGIN]) || !left(&lent[filled.end..]) {
+        return Err(Difference::new(format!("{given:?} with room for {room} left {lent:?}"), bytes));
+    }
+    Ok(given.map(|_| lent[filled].to_vec()))
+}
+
 /// A function that gives neither numbers nor a length.
 pub fn nothing(bytes: &[u8], result: u64) -> Result<Outcome<()>, Difference> {
     match outcome(result) {
@@ -80,6 +99,29 @@ mod tests {
         // A length above 0, and a write on a refusal.
         assert!(numbers(&[], |out| three(out) + 256).is_err());
         assert!(numbers(&[], |out| three(out) + 15).is_err());
+    }
+
+    #[test]
+    fn a_list_ends_at_its_entries() {
+        let fill = |filled: usize, count: i64| {
+            move |list: &mut [i64], given: &mut [i64; 1]| {
+                list[..filled].fill(1);
+                *given = [count];
+                0
+            }
+        };
+        assert!(listed(4, 2, &[], fill(4, 2)).is_ok_and(|given| given == Ok(vec![1; 4])));
+        assert!(listed(5, 2, &[], fill(4, 2)).is_ok_and(|given| given == Ok(vec![1; 4])));
+        assert!(listed(0, 1, &[], |_, _| 15).is_ok_and(|given| given == Err((15, 0))));
+        // One entry too many, more than there is room for, and a write on a refusal.
+        assert!(listed(5, 2, &[], fill(5, 2)).is_err());
+        assert!(listed(3, 2, &[], fill(3, 2)).is_err());
+        assert!(listed(3, 1, &[], fill(3, -1)).is_err());
+        let refused = |list: &mut [i64], _: &mut [i64; 1]| {
+            list[0] = 1;
+            15
+        };
+        assert!(listed(3, 1, &[], refused).is_err());
     }
 
     #[test]

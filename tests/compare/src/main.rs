@@ -8,7 +8,9 @@
 //! if one of the library's never did.
 
 mod cases;
+mod closing;
 mod codes;
+mod differences;
 mod generated;
 mod lent;
 mod local;
@@ -17,8 +19,11 @@ mod older;
 mod published;
 mod questions;
 mod receiver;
+mod starts;
 mod sweeps;
 mod tally;
+mod tools;
+mod traces;
 mod walks;
 mod whole;
 
@@ -67,6 +72,9 @@ fn compare(tally: &mut Tally, options: &Options, files: &[(String, Vec<u8>)]) ->
     };
     cases::all(tally, &mut prng).map_err(named("a worked case"))?;
     receiver::worked(tally).map_err(named("a worked case"))?;
+    differences::worked(tally).map_err(named("a worked case"))?;
+    traces::worked(tally, &mut prng).map_err(named("a worked case"))?;
+    closing::worked(tally).map_err(named("a worked case"))?;
     sweeps::all(tally).map_err(named("a sweep"))?;
     for (name, file) in files {
         published::file(tally, file, &mut prng).map_err(named(name))?;
@@ -74,6 +82,7 @@ fn compare(tally: &mut Tally, options: &Options, files: &[(String, Vec<u8>)]) ->
     let code_rounds = if let Until::Rounds(rounds) = options.until { rounds } else { ROUNDS };
     codes::all(tally, &mut prng, code_rounds).map_err(named("a small code"))?;
     older::all(tally, &mut prng, code_rounds).map_err(named("an older code"))?;
+    starts::worked(tally, &mut prng, code_rounds).map_err(named("a table"))?;
     let start = Instant::now();
     for round in 1.. {
         let enough = match options.until {
@@ -112,9 +121,9 @@ fn main() -> ExitCode {
         return ExitCode::FAILURE;
     }
     println!("{tally}");
-    let missing = tally.missing();
-    if !missing.is_empty() {
-        eprintln!("compare: never came up: {missing:?}");
+    let (missing, of_functions) = (tally.missing(), tally.missing_of_functions());
+    if !missing.is_empty() || !of_functions.is_empty() {
+        eprintln!("compare: never came up: {missing:?} {of_functions:?}");
         return ExitCode::FAILURE;
     }
     ExitCode::SUCCESS

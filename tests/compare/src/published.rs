@@ -1,18 +1,28 @@
 //! Files that were made elsewhere: the realistic ones, and any that is named.
 
+use crate::closing;
+use crate::differences;
 use crate::local::{map, times};
 use crate::locations;
 use crate::questions::{ask, other_ids, prefixes, Question};
+use crate::starts::{find, table};
 use crate::tally::{Difference, Tally};
+use crate::traces;
 use crate::walks::walk;
 use crate::whole::{check, whole};
 use second_reader::file::{read_file, Contents};
 use second_reader::generate::{instants, plan, FileContent, Forms, Prng};
-use second_reader::transition::{FIRST, LAST};
+use second_reader::transition::{FIRST, LAST, TICKS_PER_DAY};
 use second_reader::zone::{Rest, Zone};
 
 /// About how many prefixes of a long file are taken.
 const PREFIXES: usize = 600;
+/// How many questions a closed file is asked, and a trace has.
+const SOME: usize = 20;
+/// All of time is compared of one zone in so many.
+const WHOLE: usize = 50;
+/// 40 years.
+const YEARS: i64 = 40 * 366 * TICKS_PER_DAY;
 
 /// Compares a file as a whole, its zones at and around every bound, and its prefixes.
 pub fn file(tally: &mut Tally, file: &[u8], prng: &mut Prng) -> Result<(), Difference> {
@@ -29,6 +39,7 @@ pub fn file(tally: &mut Tally, file: &[u8], prng: &mut Prng) -> Result<(), Diffe
     };
     if let Ok(contents) = read_file(good) {
         let mut ids = Vec::new();
+        let mut before = None;
         for (_, zone) in &contents.zones {
             let id = &file[contents.pool[zone.id].clone()];
             let mut all = instants(zone, prng);
@@ -45,6 +56,20 @@ pub fn file(tally: &mut Tally, file: &[u8], prng: &mut Prng) -> Result<(), Diffe
                 map(tally, &short, id, *local)?;
             }
             map(tally, file, id, prng.pick(&locals).1)?;
+            let starts = table(tally, &short, id)?;
+            for ticks in &all {
+                find(tally, &starts, *ticks)?;
+            }
+            // Beside the zone before it, under the same ID.
+            let other = before.replace(zone).map(|other: &Zone| Zone { id: zone.id, rest: other.rest.clone() });
+            if let Some(other) = other {
+                let whole = prng.one_in(WHOLE);
+                let windows = differences::windows([zone, &other], whole, prng);
+                let other = alone(file, &contents, &other);
+                for window in windows {
+                    differences::compare(tally, [&short, &other], id, window)?;
+                }
+            }
             asked.extend((0..2).map(|_| (id.to_vec(), *prng.pick(&all))));
             ids.push(id);
         }
@@ -55,6 +80,13 @@ pub fn file(tally: &mut Tally, file: &[u8], prng: &mut Prng) -> Result<(), Diffe
     }
     for (id, ticks) in &asked {
         ask(tally, file, id, *ticks)?;
+    }
+    let some: Vec<Question> = (0..SOME).map(|_| prng.pick(&asked).clone()).collect();
+    closing::stays(tally, file, &some, &some)?;
+    traces::all(tally, file, &traces::trace_of(file, &some), prng)?;
+    for (id, ticks) in &some {
+        table(tally, file, id)?;
+        differences::compare(tally, [file, file], id, (*ticks, LAST.min(ticks.saturating_add(YEARS))))?;
     }
     let step = 1 + file.len() / PREFIXES;
     let few: Vec<Question> = (0..2).map(|_| prng.pick(&asked).clone()).collect();

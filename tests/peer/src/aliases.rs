@@ -6,24 +6,24 @@ use crate::ids::Ids;
 use crate::number::{CUT_SHORT, INSTANT_RANGE, NOT_FOUND, NOT_YET, SECOND_ALIAS, TOO_MANY_STEPS};
 use crate::pool::Pool;
 use crate::whole::read_text;
-use crate::zone::{read_rest, Find};
+use crate::zone::{read_mention, read_rest, Find, Visit};
 use crate::{zone_of, Answer, Refusal, FIRST, LAST};
 
 /// How many targets a lookup takes.
 const MOST_STEPS: usize = 8;
 
 /// The pairs of field 3, alias and target by pool number.
-pub fn read_aliases(data: &[u8], pool: &Pool) -> Result<Vec<(u32, u32)>, u8> {
+pub fn read_aliases(data: &[u8], pool: &Pool, visit: &mut impl Visit) -> Result<Vec<(u32, u32)>, u8> {
     let mut cursor = Cursor::new(data);
     let count = cursor.count()?;
     let mut keys = Ids::new(pool.count());
     let mut pairs = Vec::with_capacity((count as usize).min(data.len() / 2));
     for _ in 0..count {
-        let key = cursor.pool_number(pool.count())?;
+        let key = read_mention(&mut cursor, pool.count(), visit)?;
         if !keys.insert(key, pool) {
             return Err(SECOND_ALIAS);
         }
-        pairs.push((key, cursor.pool_number(pool.count())?));
+        pairs.push((key, read_mention(&mut cursor, pool.count(), visit)?));
     }
     cursor.end()?;
     Ok(pairs)
@@ -70,7 +70,7 @@ pub fn ask_named<'a>(
                 read_text(field.data).map_err(refuse)?;
             }
             _ => {
-                let pairs = read_aliases(field.data, &pool).map_err(refuse)?;
+                let pairs = read_aliases(field.data, &pool, &mut ()).map_err(refuse)?;
                 let data = follow(name, &pairs, &zones, &pool).map_err(refuse)?;
                 let mut cursor = Cursor::new(data);
                 let id = cursor.pool_number(pool.count()).map_err(refuse)?;

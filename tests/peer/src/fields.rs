@@ -5,7 +5,7 @@ use crate::number::{BAD_DATA, FIELD_ORDER, FIRST_FIELD, TOO_LARGE, WRONG_VERSION
 use crate::Refusal;
 
 /// The largest place just past a field.
-const LAST_END: usize = 4_194_304;
+pub const LAST_END: usize = 4_194_304;
 
 /// One whole field.
 #[derive(Clone, Copy)]
@@ -91,5 +91,13 @@ impl<'a> Fields<'a> {
         let place = std::mem::replace(&mut self.at, end);
         self.before = Some(id);
         Ok(Field { place, data, end })
+    }
+
+    /// All fields with their IDs.
+    pub fn all(mut self) -> impl Iterator<Item = Result<(u8, Field<'a>), Refusal>> {
+        std::iter::from_fn(move || {
+            let id = self.id().transpose()?;
+            Some(id.and_then(|id| Ok((id, self.field(id)?))))
+        })
     }
 }

@@ -24,12 +24,22 @@ impl Ids {
             self.numbers.push(short);
             return true;
         }
-        match self.numbers.binary_search_by(|&other| pool.string(u32::from(other)).cmp(id)) {
+        match self.search(id, pool) {
             Ok(_) => false,
             Err(place) => {
                 self.numbers.insert(place, short);
                 true
             }
         }
+    }
+
+    /// The pool number of the ID with these bytes.
+    pub fn find(&self, id: &[u8], pool: &Pool) -> Option<u32> {
+        self.search(id, pool).ok().map(|place| u32::from(self.numbers[place]))
+    }
+
+    /// Its place, or where it would stand.
+    fn search(&self, id: &[u8], pool: &Pool) -> Result<usize, usize> {
+        self.numbers.binary_search_by(|&other| pool.string(u32::from(other)).cmp(id))
     }
 }

@@ -1,13 +1,18 @@
 //! A quick reader of `.nzd` files in safe Rust: the peer that the proved reader's speed is measured against.
 //!
 //! It makes the same checks in the same order, over slices and in one pass, and has every shortcut that the proved
-//! reader has. It allocates the index of the pool's strings, for a whole-file check the table of zone IDs, and for
-//! normalizing the list of the fields that change.
+//! reader has. Beyond those, a replay keeps the zones that it has read, a difference goes straight to its window and ends
+//! where both tails are the same, a search has no branches, and a pool that is in order already is copied.
+//!
+//! It allocates the index of the pool's strings, for a whole-file check and for a replay the table of zone
+//! IDs, and for normalizing the list of the fields that change.
 //!
 //! Instants are ticks; start of time is the lowest `i64` and end of time the highest.
 
 mod aliases;
+mod close_pool;
 mod codes;
+mod difference;
 mod fields;
 mod ids;
 mod local;
@@ -16,16 +21,23 @@ mod normalize;
 mod older;
 mod pool;
 mod receiver;
+mod replay;
+mod starts;
 mod tail;
 mod whole;
+mod write;
 mod zone;
 
 pub use aliases::ask_named;
+pub use close_pool::close_pool;
+pub use difference::difference;
 pub use local::LocalInstants;
 pub use locations::{location, Countries, Location};
 pub use normalize::normalize;
 pub use older::{ask_named_old, old_dictionary};
 pub use receiver::{unfinished, Receiver};
+pub use replay::replay;
+pub use starts::{find_start, interval_starts, Found};
 pub use whole::version_text;
 
 use fields::Fields;
@@ -62,6 +74,8 @@ mod number {
     pub const TOO_MANY_STEPS: u8 = 18;
     pub const SECOND_ALIAS: u8 = 19;
     pub const BAD_LOCATION: u8 = 20;
+    pub const BAD_TRACE: u8 = 21;
+    pub const UNREAD_FIELD: u8 = 22;
 }
 
 /// The first instant of year 1.
@@ -97,8 +111,8 @@ pub fn ask<'a>(file: &'a [u8], id: &[u8], ticks: i64, more: bool, first_edition:
         return Err(Refusal { number: number::INSTANT_RANGE, place: 0 });
     }
     let mut find = Find::new(ticks, first_edition);
-    let pool = find_zone(file, id, more, &mut find)?;
-    Ok(find.answer(&pool))
+    let zone = find_zone(file, id, more, &mut find)?;
+    Ok(find.answer(&zone.pool))
 }
 
 /// The instants of the zone `id` that read as the local time `local`. The bytes are all there is.
@@ -108,8 +122,14 @@ pub fn map_local(file: &[u8], id: &[u8], local: i64) -> Result<LocalInstants, Re
     found.instants().ok_or(Refusal { number: number::NO_INSTANT, place: 0 })
 }
 
+/// A zone that was found.
+struct FoundZone<'a> {
+    pool: Pool<'a>,
+    data: &'a [u8],
+}
+
 /// Checks the pool and the zones up to the one of `id`, and shows that one to `visit`.
-fn find_zone<'a>(file: &'a [u8], id: &[u8], more: bool, visit: &mut impl Visit) -> Result<Pool<'a>, Refusal> {
+fn find_zone<'a>(file: &'a [u8], id: &[u8], more: bool, visit: &mut impl Visit) -> Result<FoundZone<'a>, Refusal> {
     let cut = if more { number::NOT_YET } else { number::CUT_SHORT };
     let unseen = if more { number::NOT_YET } else { number::NOT_FOUND };
     let mut fields = Fields::new(file, cut)?;
@@ -123,7 +143,7 @@ fn find_zone<'a>(file: &'a [u8], id: &[u8], more: bool, visit: &mut impl Visit) 
         }
         let field = fields.field(field_id)?;
         if zone_of(field.data, &pool, id, visit).map_err(|number| field.refuse(number))? {
-            return Ok(pool);
+            return Ok(FoundZone { pool, data: field.data });
         }
     }
     Err(Refusal { number: unseen, place: file.len() })

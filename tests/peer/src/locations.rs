@@ -5,6 +5,7 @@ use crate::fields::Fields;
 use crate::number::{BAD_LOCATION, CUT_SHORT, NOT_FOUND};
 use crate::pool::Pool;
 use crate::whole::check;
+use crate::zone::{read_mention, Visit};
 use crate::Refusal;
 
 const MOST_NORTH: i32 = 324_000;
@@ -53,7 +54,13 @@ impl<'a> Iterator for Countries<'a> {
 }
 
 /// Checks the data of a field and gives its location with a number. With `numbered` a location has a number of countries.
-fn read(data: &[u8], numbered: bool, pool_count: u32, number: u64) -> Result<Option<Read<'_>>, u8> {
+fn read<'a>(
+    data: &'a [u8],
+    numbered: bool,
+    pool_count: u32,
+    number: u64,
+    visit: &mut impl Visit,
+) -> Result<Option<Read<'a>>, u8> {
     let mut cursor = Cursor::new(data);
     let mut found = None;
     for at in 0..u64::from(cursor.count()?) {
@@ -62,10 +69,11 @@ fn read(data: &[u8], numbered: bool, pool_count: u32, number: u64) -> Result<Opt
         let left = u32::try_from(left).map_err(|_| BAD_LOCATION)?;
         let countries = cursor;
         for _ in 0..left {
-            cursor.pool_number(pool_count)?;
-            cursor.pool_number(pool_count)?;
+            read_mention(&mut cursor, pool_count, visit)?;
+            read_mention(&mut cursor, pool_count, visit)?;
         }
-        let (zone, comment) = (cursor.pool_number(pool_count)?, cursor.pool_number(pool_count)?);
+        let zone = read_mention(&mut cursor, pool_count, visit)?;
+        let comment = read_mention(&mut cursor, pool_count, visit)?;
         if at == number {
             found = Some(Read { seconds, countries, left, zone, comment });
         }
@@ -83,8 +91,8 @@ fn within(seconds: i32, most: i32) -> Result<i32, u8> {
 }
 
 /// Checks the data of field 6, or with `numbered` of field 7.
-pub fn check_locations(data: &[u8], numbered: bool, pool_count: u32) -> Result<(), u8> {
-    read(data, numbered, pool_count, u64::MAX).map(|_| ())
+pub fn check_locations(data: &[u8], numbered: bool, pool_count: u32, visit: &mut impl Visit) -> Result<(), u8> {
+    read(data, numbered, pool_count, u64::MAX, visit).map(|_| ())
 }
 
 /// The location with a number, from 0, in field 6 or 7 of a whole file, all checked first.
@@ -97,7 +105,8 @@ pub fn location(file: &[u8], id: u8, number: u64) -> Result<Location<'_>, Refusa
     while let Some(other) = fields.id()? {
         let field = fields.field(other)?;
         if other == id {
-            let found = read(field.data, id == 7, pool.count(), number).map_err(|number| field.refuse(number))?;
+            let found =
+                read(field.data, id == 7, pool.count(), number, &mut ()).map_err(|number| field.refuse(number))?;
             let Read { seconds: [north, east], countries, left, zone, comment } =
                 found.ok_or(field.refuse(NOT_FOUND))?;
             let (zone, comment) = (pool.string(zone), pool.string(comment));

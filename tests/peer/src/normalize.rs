@@ -5,8 +5,8 @@
 
 use crate::codes::{count_length, Form};
 use crate::fields::Field;
-use crate::number::OUTPUT_SHORT;
-use crate::whole::{check, walk, ZoneData};
+use crate::whole::{check, walk, VisitFields, ZoneData};
+use crate::write::{Write, TOO_SHORT};
 use crate::zone::{read_rest, Visit};
 use crate::Refusal;
 
@@ -19,8 +19,6 @@ struct Change<'a> {
     length: usize,
 }
 
-const TOO_SHORT: Refusal = Refusal { number: OUTPUT_SHORT, place: 0 };
-
 /// Checks a file, writes its preferred form to the front of `out`, and gives the length of that.
 pub fn normalize(file: &[u8], out: &mut [u8]) -> Result<usize, Refusal> {
     // No file is that short: the check alone.
@@ -28,28 +26,14 @@ pub fn normalize(file: &[u8], out: &mut [u8]) -> Result<usize, Refusal> {
         check(file)?;
         return Err(TOO_SHORT);
     }
-    let mut changes = Vec::new();
-    let mut length = file.len();
-    walk(file, |field, zone| {
-        let mut saved = Saved(0);
-        if let Some(zone) = &zone {
-            read_rest(zone.rest, zone.id, zone.pool_count, &mut saved)?;
-        }
-        if saved.0 > 0 || field.is_padded() {
-            let change =
-                Change { field: *field, zone: zone.filter(|_| saved.0 > 0), length: field.data.len() - saved.0 };
-            length -= field.end - field.place;
-            length += 1 + count_length(change.length as u32) + change.length;
-            changes.push(change);
-        }
-        Ok(())
-    })?;
-    if out.len() < length {
+    let mut found = Changes { list: Vec::new(), length: file.len(), saved: 0 };
+    walk(file, &mut found)?;
+    if out.len() < found.length {
         return Err(TOO_SHORT);
     }
     let mut write = Write { out, at: 0 };
     let mut copied = 0;
-    for Change { field, zone, length } in changes {
+    for Change { field, zone, length } in found.list {
         write.bytes(&file[copied..=field.place]);
         write.count(length as u32);
         let mut rewrite = Rewrite { write: &mut write, data: field.data, copied: 0 };
@@ -74,14 +58,33 @@ fn shorter(value: i64, previous: i64, length: usize) -> Option<Form> {
     Some(Form::of(value, previous)).filter(|form| form.length() < length)
 }
 
-/// How many bytes the preferred forms save.
-struct Saved(usize);
+/// The fields that change.
+struct Changes<'a> {
+    list: Vec<Change<'a>>,
+    /// The length of the file with these changes.
+    length: usize,
+    /// How many bytes the preferred forms save in the field that is read.
+    saved: usize,
+}
 
-impl Visit for Saved {
+impl Visit for Changes<'_> {
     #[inline]
     fn transition(&mut self, value: i64, previous: i64, before: usize, after: usize) {
         if let Some(form) = shorter(value, previous, before - after) {
-            self.0 += before - after - form.length();
+            self.saved += before - after - form.length();
+        }
+    }
+}
+
+impl<'a> VisitFields<'a> for Changes<'a> {
+    #[inline]
+    fn field(&mut self, _id: u8, field: &Field<'a>, zone: Option<ZoneData<'a>>) {
+        let saved = std::mem::take(&mut self.saved);
+        if saved > 0 || field.is_padded() {
+            let change = Change { field: *field, zone: zone.filter(|_| saved > 0), length: field.data.len() - saved };
+            self.length -= field.end - field.place;
+            self.length += 1 + count_length(change.length as u32) + change.length;
+            self.list.push(change);
         }
     }
 }
@@ -100,46 +103,6 @@ impl Visit for Rewrite<'_, '_> {
             self.write.bytes(&self.data[self.copied..self.data.len() - before]);
             self.write.form(form);
             self.copied = self.data.len() - after;
-        }
-    }
-}
-
-/// The output and how much of it is written.
-struct Write<'a> {
-    out: &'a mut [u8],
-    at: usize,
-}
-
-impl Write<'_> {
-    #[inline]
-    fn byte(&mut self, byte: u8) {
-        self.out[self.at] = byte;
-        self.at += 1;
-    }
-
-    #[inline]
-    fn bytes(&mut self, bytes: &[u8]) {
-        self.out[self.at..][..bytes.len()].copy_from_slice(bytes);
-        self.at += bytes.len();
-    }
-
-    #[inline]
-    fn count(&mut self, mut count: u32) {
-        while count >= 0x80 {
-            self.byte(count as u8 | 0x80);
-            count >>= 7;
-        }
-        self.byte(count as u8);
-    }
-
-    #[inline]
-    fn form(&mut self, form: Form) {
-        match form {
-            Form::Count(count) => self.count(count),
-            Form::Ticks(ticks) => {
-                self.byte(2);
-                self.bytes(&ticks.to_be_bytes());
-            }
         }
     }
 }

@@ -3,7 +3,7 @@
 use crate::codes::Cursor;
 use crate::number::TOO_LARGE;
 
-const MOST_STRINGS: u32 = 8192;
+pub const MOST_STRINGS: usize = 8192;
 
 /// The pool's strings, by number.
 pub struct Pool<'a> {
@@ -16,7 +16,7 @@ impl<'a> Pool<'a> {
     pub fn read(data: &'a [u8]) -> Result<Pool<'a>, u8> {
         let mut cursor = Cursor::new(data);
         let count = cursor.count()?;
-        if count > MOST_STRINGS {
+        if count as usize > MOST_STRINGS {
             return Err(TOO_LARGE);
         }
         let mut at = data.len() - cursor.left();

@@ -2,7 +2,7 @@
 
 use crate::codes::{Cursor, DAY_MS};
 use crate::number::BAD_RECURRENCE;
-use crate::zone::Interval;
+use crate::zone::{read_mention, Interval, Visit};
 use crate::{END_OF_TIME, LAST};
 
 const TICKS_PER_MS: i64 = 10_000;
@@ -40,6 +40,7 @@ fn year_of(ticks: i64) -> i64 {
     era * 400 + year + i64::from(day_of_year >= 306)
 }
 
+#[derive(Clone, Copy, PartialEq, Eq)]
 struct Rule {
     mode: u8,
     weekday: u8,
@@ -95,6 +96,7 @@ impl Rule {
 }
 
 /// What holds behind a zone's listed intervals.
+#[derive(Clone, Copy)]
 pub struct Tail {
     standard: i32,
     standard_name: u32,
@@ -105,17 +107,27 @@ pub struct Tail {
 }
 
 impl Tail {
-    pub fn read(cursor: &mut Cursor, pool_count: u32) -> Result<Tail, u8> {
+    pub fn read(cursor: &mut Cursor, pool_count: u32, visit: &mut impl Visit) -> Result<Tail, u8> {
         let standard = cursor.offset()?;
-        let standard_name = cursor.pool_number(pool_count)?;
+        let standard_name = read_mention(cursor, pool_count, visit)?;
         let standard_rule = Rule::read(cursor)?;
-        let daylight_name = cursor.pool_number(pool_count)?;
+        let daylight_name = read_mention(cursor, pool_count, visit)?;
         let daylight_rule = Rule::read(cursor)?;
         let savings = cursor.offset()?;
         if (standard + savings).abs() >= DAY_MS {
             return Err(BAD_RECURRENCE);
         }
         Ok(Tail { standard, standard_name, standard_rule, daylight_name, daylight_rule, savings })
+    }
+
+    /// Whether both show the same at every instant that both hold, since their parts are the same; names are compared by `same_name`.
+    pub fn same(&self, other: &Tail, same_name: impl Fn(u32, u32) -> bool) -> bool {
+        self.standard == other.standard
+            && self.savings == other.savings
+            && self.standard_rule == other.standard_rule
+            && self.daylight_rule == other.daylight_rule
+            && same_name(self.standard_name, other.standard_name)
+            && same_name(self.daylight_name, other.daylight_name)
     }
 
     /// The wall offsets of its two rules.

@@ -7,18 +7,17 @@ use crate::ids::Ids;
 use crate::locations::check_locations;
 use crate::number::{CUT_SHORT, FIRST_FIELD, NOT_FOUND, SECOND_ZONE};
 use crate::pool::Pool;
-use crate::zone::read_rest;
+use crate::zone::{read_mention, read_rest, Visit};
 use crate::Refusal;
 
 /// Checks a whole file.
 pub fn check(file: &[u8]) -> Result<(), Refusal> {
-    walk(file, |_, zone| check_zone(zone)).map(|_| ())
+    walk(file, &mut ()).map(|_| ())
 }
 
 /// The text of field 2 of a well-formed file.
 pub fn version_text(file: &[u8]) -> Result<&[u8], Refusal> {
-    let text = walk(file, |_, zone| check_zone(zone))?;
-    text.ok_or(Refusal { number: NOT_FOUND, place: file.len() })
+    walk(file, &mut ())?.text.ok_or(Refusal { number: NOT_FOUND, place: file.len() })
 }
 
 /// A zone's data behind its ID, that ID, and the pool's count.
@@ -28,21 +27,31 @@ pub struct ZoneData<'a> {
     pub pool_count: u32,
 }
 
-fn check_zone(zone: Option<ZoneData>) -> Result<(), u8> {
-    zone.map_or(Ok(()), |zone| read_rest(zone.rest, zone.id, zone.pool_count, &mut ()))
+/// Is shown what the fields hold, and each field when it is read.
+pub trait VisitFields<'a>: Visit {
+    /// A field with an ID. All before it and its own data are checked, but for a zone's ID being a second one.
+    #[inline]
+    fn field(&mut self, _id: u8, _field: &Field<'a>, _zone: Option<ZoneData<'a>>) {}
 }
 
-/// Checks a whole file and gives its version text. `read` is given each field, and checks the data of a zone.
-pub fn walk<'a>(
-    file: &'a [u8],
-    mut read: impl FnMut(&Field<'a>, Option<ZoneData<'a>>) -> Result<(), u8>,
-) -> Result<Option<&'a [u8]>, Refusal> {
+/// Checks only.
+impl VisitFields<'_> for () {}
+
+/// What a whole file has besides its zones.
+pub struct Whole<'a> {
+    pub pool: Pool<'a>,
+    /// The version text.
+    pub text: Option<&'a [u8]>,
+}
+
+/// Checks a whole file, and shows it to `visit`.
+pub fn walk<'a>(file: &'a [u8], visit: &mut impl VisitFields<'a>) -> Result<Whole<'a>, Refusal> {
     let mut fields = Fields::new(file, CUT_SHORT)?;
     let Some(field) = fields.first()? else {
         return Err(Refusal { number: FIRST_FIELD, place: 4 });
     };
     let pool = Pool::read(field.data).map_err(|number| field.refuse(number))?;
-    read(&field, None).map_err(|number| field.refuse(number))?;
+    visit.field(0, &field, None);
     let mut ids = Ids::new(pool.count());
     let mut text = None;
     while let Some(id) = fields.id()? {
@@ -51,23 +60,24 @@ pub fn walk<'a>(
         match id {
             1 => {
                 let mut rest = Cursor::new(field.data);
-                let id = rest.pool_number(pool.count()).map_err(refuse)?;
-                read(&field, Some(ZoneData { rest, id, pool_count: pool.count() })).map_err(refuse)?;
-                if !ids.insert(id, &pool) {
+                let number = read_mention(&mut rest, pool.count(), visit).map_err(refuse)?;
+                read_rest(rest, number, pool.count(), visit).map_err(refuse)?;
+                visit.field(1, &field, Some(ZoneData { rest, id: number, pool_count: pool.count() }));
+                if !ids.insert(number, &pool) {
                     return Err(refuse(SECOND_ZONE));
                 }
                 continue;
             }
             2 => text = Some(read_text(field.data).map_err(refuse)?),
             3 => {
-                read_aliases(field.data, &pool).map_err(refuse)?;
+                read_aliases(field.data, &pool, visit).map_err(refuse)?;
             }
-            6 | 7 => check_locations(field.data, id == 7, pool.count()).map_err(refuse)?,
+            6 | 7 => check_locations(field.data, id == 7, pool.count(), visit).map_err(refuse)?,
             _ => {}
         }
-        read(&field, None).map_err(refuse)?;
+        visit.field(id, &field, None);
     }
-    Ok(text)
+    Ok(Whole { pool, text })
 }
 
 pub fn read_text(data: &[u8]) -> Result<&[u8], u8> {

@@ -17,8 +17,12 @@ pub struct Interval {
     pub savings: i32,
 }
 
-/// Is shown a zone's parts as they are read. A later part may still be refused.
+/// Is shown the parts of a field as they are read. A later part may still be refused.
 pub trait Visit {
+    /// A pool number, and how many bytes were left before and after its code.
+    #[inline]
+    fn mention(&mut self, _number: u32, _before: usize, _after: usize) {}
+
     /// A transition with the one before it, and how many bytes were left before and after its code.
     #[inline]
     fn transition(&mut self, _value: i64, _previous: i64, _before: usize, _after: usize) {}
@@ -47,7 +51,7 @@ pub fn read_rest(mut cursor: Cursor, id: u32, pool_count: u32, visit: &mut impl 
     match cursor.byte()? {
         1 => {
             let wall = cursor.offset()?;
-            let name = if cursor.left() == 0 { id } else { cursor.pool_number(pool_count)? };
+            let name = if cursor.left() == 0 { id } else { read_mention(&mut cursor, pool_count, visit)? };
             visit.fixed(id, Interval { start: START_OF_TIME, name, wall, savings: 0 });
             visit.end(END_OF_TIME, None);
         }
@@ -71,37 +75,60 @@ fn read_listed(cursor: &mut Cursor, pool_count: u32, visit: &mut impl Visit) -> 
         if number > 1 {
             let before = cursor.left();
             if let Some(interval) = cursor.short_interval(previous, pool_count) {
-                visit.transition(interval.start, previous, before, cursor.left() + 3);
+                let after = cursor.left();
+                visit.transition(interval.start, previous, before, after + 3);
+                visit.mention(interval.name, after + 3, after + 2);
                 visit.interval(interval);
                 previous = interval.start;
                 continue;
             }
         }
-        let start = read_transition(cursor, previous, visit)?;
-        let allowed = if number == 0 { start == START_OF_TIME } else { start > previous && start != END_OF_TIME };
-        if !allowed {
-            return Err(BAD_INTERVAL);
-        }
-        let name = cursor.pool_number(pool_count)?;
-        let wall = cursor.offset()?;
-        let savings = cursor.offset()?;
-        if (wall - savings).abs() >= DAY_MS {
-            return Err(BAD_INTERVAL);
-        }
-        visit.interval(Interval { start, name, wall, savings });
-        previous = start;
+        let interval = read_long_interval(cursor, number, previous, pool_count, visit)?;
+        visit.interval(interval);
+        previous = interval.start;
     }
     let end = read_transition(cursor, previous, visit)?;
     match cursor.byte()? {
         0 if end == END_OF_TIME => visit.end(end, None),
         1 if end > previous && end != END_OF_TIME => {
-            let tail = Tail::read(cursor, pool_count)?;
+            let tail = Tail::read(cursor, pool_count, visit)?;
             visit.end(end, Some(&tail));
         }
         0 | 1 => return Err(BAD_INTERVAL),
         _ => return Err(BAD_DATA),
     }
     Ok(())
+}
+
+/// The listed interval with a number, from 0, behind one that starts at `previous`, whatever its codes.
+#[inline]
+pub fn read_long_interval(
+    cursor: &mut Cursor,
+    number: u32,
+    previous: i64,
+    pool_count: u32,
+    visit: &mut impl Visit,
+) -> Result<Interval, u8> {
+    let start = read_transition(cursor, previous, visit)?;
+    let allowed = if number == 0 { start == START_OF_TIME } else { start > previous && start != END_OF_TIME };
+    if !allowed {
+        return Err(BAD_INTERVAL);
+    }
+    let name = read_mention(cursor, pool_count, visit)?;
+    let wall = cursor.offset()?;
+    let savings = cursor.offset()?;
+    if (wall - savings).abs() >= DAY_MS {
+        return Err(BAD_INTERVAL);
+    }
+    Ok(Interval { start, name, wall, savings })
+}
+
+#[inline]
+pub fn read_mention(cursor: &mut Cursor, pool_count: u32, visit: &mut impl Visit) -> Result<u32, u8> {
+    let before = cursor.left();
+    let number = cursor.pool_number(pool_count)?;
+    visit.mention(number, before, cursor.left());
+    Ok(number)
 }
 
 #[inline]

@@ -15,7 +15,11 @@ pub type Aliases = Vec<(usize, usize)>;
 ///
 /// "19 at the second of two equal keys": the same bytes (reading 5.9), judged as soon as the key is read (reading 5.8).
 pub fn read_aliases(data: &[u8], file: &[u8], pool: &Pool) -> Result<Aliases, Number> {
-    let mut data = Data::new(data);
+    aliases_from(&mut Data::new(data), file, pool)
+}
+
+/// The same of a field's data.
+pub(crate) fn aliases_from(data: &mut Data, file: &[u8], pool: &Pool) -> Result<Aliases, Number> {
     // No largest size: a count that the data can't hold is 9 where it ends (reading 5.10).
     let count = data.count()?;
     let mut keys = BTreeSet::new();

@@ -5,7 +5,7 @@ use crate::Done;
 use second_reader::codes;
 use second_reader::recurrence::{parse_rule, parse_tail};
 use second_reader::transition::in_range;
-use second_reader::{calendar, old, Number, Receiver, Transition};
+use second_reader::{calendar, find_start, old, Number, Receiver, Transition};
 use std::ffi::OsStr;
 use std::fmt::Display;
 
@@ -57,6 +57,11 @@ fn case(command: &str, words: &[&str]) -> Case {
             Ok(rule.map(|(rule, _)| format!("0 {}", rule.occurrence(year, standard, other))))
         }
         ("tail", [hex, tail_start, ticks]) => tail_case(hex, instant(tail_start)?, instant(ticks)?),
+        ("find", [ticks, table @ ..]) => {
+            let table: Vec<i64> = table.iter().map(|word| number(word)).collect::<Result<_, _>>()?;
+            let found = find_start(&table, number(ticks)?).map_err(|refusal| refusal.number);
+            Ok(found.map(|found| format!("0 {} {}", found.position, found.looks)))
+        }
         ("date", [year, month, day]) => date_case(counted_year(year)?, number(month)?, number(day)?),
         _ => Err(format!("these words make no case of {command}")),
     }

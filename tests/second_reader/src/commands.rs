@@ -3,9 +3,8 @@
 use crate::cases;
 use crate::Done;
 use second_reader::generate;
-use second_reader::{
-    ask, ask_named, ask_named_old, file, lines, location, map_local, normalize, rewrite, version_text,
-};
+use second_reader::{ask, ask_named, ask_named_old, close_pool, difference, file, interval_starts, lines, location};
+use second_reader::{map_local, normalize, replay, rewrite, version_text};
 use second_reader::{Answer, Edition, LocationField, Mark, Pin, Refusal};
 use std::ffi::{OsStr, OsString};
 use std::fs;
@@ -72,8 +71,35 @@ pub(crate) fn run(arguments: &[OsString]) -> Result<Done, Misuse> {
         }
         (Some("lines"), [file]) => answer_lines(file),
         (Some("generate"), [seed, count, dir]) => generate_files(number(seed)?, number(count)?, Path::new(dir)),
+        (Some("difference"), [one, two, zone, first, last, room]) => {
+            let (one, two) = (read(one)?, read(two)?);
+            let mut list = vec![(0, 0); number::<u16>(room)? as usize];
+            let zone = zone.as_encoded_bytes();
+            let count = difference([&one, &two], zone, number(first)?, number(last)?, &mut list);
+            Ok(done(count.map(|count| {
+                let stretches = list[..count].iter().map(|(first, end)| format!(" {first} {end}"));
+                [count.to_string()].into_iter().chain(stretches).collect::<String>().into_bytes()
+            })))
+        }
+        (Some("replay"), [file, trace]) => {
+            let found = replay(&read(file)?, &read(trace)?);
+            Ok(done(found.map(|record| record.map_or("none".to_string(), |number| number.to_string()).into_bytes())))
+        }
+        (Some("starts"), [file, zone, room]) => {
+            let mut table = vec![0; number::<u16>(room)? as usize];
+            let count = interval_starts(&read(file)?, zone.as_encoded_bytes(), &mut table);
+            Ok(done(count.map(|count| {
+                let starts = table[..count].iter().map(|start| format!(" {start}"));
+                [count.to_string()].into_iter().chain(starts).collect::<String>().into_bytes()
+            })))
+        }
+        (Some("close"), [file, out, room]) => {
+            let bytes = read(file)?;
+            let mut output = vec![0; number::<u32>(room)? as usize];
+            write_file(close_pool(&bytes, &mut output), &output, out)
+        }
         (Some("receive"), words) => cases::receive(words),
-        (Some(name @ ("code" | "rule" | "tail" | "date")), words) => cases::run(name, words),
+        (Some(name @ ("code" | "rule" | "tail" | "date" | "find")), words) => cases::run(name, words),
         _ => Err(Misuse::Usage),
     }
 }

@@ -5,15 +5,30 @@ use crate::number::Number;
 use crate::transition::Transition;
 use std::ops::Range;
 
-/// What is left of a field's data.
+/// A pool number in a field's data.
+#[derive(Clone, Debug, PartialEq, Eq)]
+pub(crate) struct Mention {
+    /// Where its code stands in the data.
+    pub(crate) code: Range<usize>,
+    /// The number.
+    pub(crate) number: usize,
+}
+
+/// What is left of a field's data, and the pool numbers that were read so far where they are wanted.
 pub(crate) struct Data<'a> {
     bytes: &'a [u8],
     at: usize,
+    mentions: Option<Vec<Mention>>,
 }
 
 impl<'a> Data<'a> {
     pub(crate) fn new(bytes: &'a [u8]) -> Data<'a> {
-        Data { bytes, at: 0 }
+        Data { bytes, at: 0, mentions: None }
+    }
+
+    /// The same, with the pool numbers kept.
+    pub(crate) fn with_mentions(bytes: &'a [u8]) -> Data<'a> {
+        Data { bytes, at: 0, mentions: Some(Vec::new()) }
     }
 
     fn take<T>(&mut self, read: impl Fn(&'a [u8]) -> Read<T>) -> Result<T, Number> {
@@ -51,8 +66,12 @@ impl<'a> Data<'a> {
 
     /// "pool number not below the pool's count" is 8, judged at once.
     pub(crate) fn pool_number(&mut self, pool_count: usize) -> Result<usize, Number> {
+        let start = self.at;
         let number = self.count()?;
         if number < pool_count {
+            if let Some(mentions) = &mut self.mentions {
+                mentions.push(Mention { code: start..self.at, number });
+            }
             Ok(number)
         } else {
             Err(Number::BadText)
@@ -70,6 +89,11 @@ impl<'a> Data<'a> {
         } else {
             Err(Number::BadData)
         }
+    }
+
+    /// Every pool number that was read, in order.
+    pub(crate) fn mentions(self) -> Vec<Mention> {
+        self.mentions.unwrap_or_default()
     }
 
     pub(crate) fn length_read(&self) -> usize {

@@ -9,8 +9,10 @@
 
 pub mod aliases;
 pub mod calendar;
+pub mod close_pool;
 pub mod codes;
 mod data;
+pub mod difference;
 pub mod file;
 pub mod generate;
 pub mod lines;
@@ -22,10 +24,14 @@ pub mod old;
 pub mod pool;
 pub mod receiver;
 pub mod recurrence;
+pub mod replay;
 pub mod rewrite;
+pub mod starts;
 pub mod transition;
 pub mod zone;
 
+pub use close_pool::close_pool;
+pub use difference::difference;
 pub use file::{ask, ask_plain, check, version_text, Answer, Edition, Mark};
 pub use lines::lines;
 pub use local::{map_local, LocalInstants};
@@ -34,5 +40,7 @@ pub use named::ask_named;
 pub use number::{Number, Refusal};
 pub use old::ask_named_old;
 pub use receiver::Receiver;
+pub use replay::replay;
 pub use rewrite::{normalize, rewrite};
+pub use starts::{find_start, interval_starts};
 pub use transition::Transition;

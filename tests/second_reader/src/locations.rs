@@ -47,7 +47,15 @@ pub struct Location {
 /// Reads and judges a field's data: "else 20; a negative number of countries is 20 too, each judged as read". A number of
 /// locations or countries that the data can't hold is 9 where it ends (reading 8.5).
 pub fn read_locations(bytes: &[u8], pool_count: usize, field: LocationField) -> Result<Vec<Location>, Number> {
-    let mut data = Data::new(bytes);
+    locations_from(&mut Data::new(bytes), pool_count, field)
+}
+
+/// The same of a field's data.
+pub(crate) fn locations_from(
+    data: &mut Data,
+    pool_count: usize,
+    field: LocationField,
+) -> Result<Vec<Location>, Number> {
     let mut locations = Vec::new();
     for _ in 0..data.count()? {
         let latitude = within(data.signed_count()?, MOST_NORTH)?;

@@ -20,6 +20,10 @@ usage: second_reader COMMAND ...
   rewrite FILE OUT                     write the preferred file to OUT: `0 LENGTH`, or number and place
   normalize FILE OUT ROOM              check and rewrite in one, into ROOM bytes: `0 LENGTH`, or number and place
   lines FILE                           question lines on standard input, the program's output
+  difference FILE FILE ZONE FIRST LAST ROOM  where two files differ: `0 COUNT [FIRST END]...`, or number and place
+  replay FILE TRACE                    `0 RECORD`, `0 none`, or number and place
+  starts FILE ZONE ROOM                a zone's interval starts: `0 COUNT START...`, or number and place
+  close FILE OUT ROOM                  close up the pool, into ROOM bytes: `0 LENGTH`, or number and place
   receive LENGTH PIECE...              for each piece (hex, `-` or reset) `0 HELD PLACE`, or number and place
   generate SEED COUNT DIR              write files with question lines and expected output into DIR
 
@@ -28,11 +32,12 @@ usage: second_reader COMMAND ...
   rule HEX STANDARD OTHER YEAR         a rule's instant in a year: `0 TICKS`
   tail HEX TAIL_START TICKS            `0 WALL SAVINGS standard|daylight START END`
   date YEAR MONTH DAY                  days since 1970-01-01
+  find TICKS START...                  a table halved: `0 POSITION LOOKS`
 
 KIND is count, signed, offset, transition or text; only transition has PREVIOUS (none, start, end or ticks).
 A transition's VALUE is start, end or ticks, a text's is hex; `-` is no bytes. Offsets are milliseconds.
 The older edition's are old-count, old-offset, old-string and old-dictionary, whose VALUE is keys and values in hex.
-code, rule, tail and date without arguments read the same words from standard input, one case a line.
+code, rule, tail, date and find without arguments read the same words from standard input, one case a line.
 Exit status: 0 done, 1 refused with a number, 2 misuse or a file that can't be read or written.
 ";
 

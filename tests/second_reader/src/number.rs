@@ -48,6 +48,10 @@ pub enum Number {
     SecondKey = 19,
     /// 02, Ask 8: a latitude, longitude or number of countries out of its range
     BadLocation = 20,
+    /// 02, Ask 14: "21 first if header, records or names leave the trace or any record's name leaves the names"
+    BadTrace = 21,
+    /// 02, Ask 14: "files with field 4, 5 or any above 7 are refused with 22"
+    UnreadField = 22,
 }
 
 impl Number {
@@ -79,6 +83,8 @@ impl Number {
             Number::TooManySteps => "the alias leads over more than eight steps",
             Number::SecondKey => "a second alias with the same bytes",
             Number::BadLocation => "a latitude, longitude or number of countries is out of range",
+            Number::BadTrace => "a part of the trace or a name leaves it",
+            Number::UnreadField => "a field whose pool numbers can't be changed",
         }
     }
 

@@ -75,7 +75,11 @@ pub struct Holding {
 
 /// Reads and judges a zone's data, left to right and to its end.
 pub fn read_zone(bytes: &[u8], pool_count: usize) -> Result<Zone, Number> {
-    let mut data = Data::new(bytes);
+    zone_from(&mut Data::new(bytes), pool_count)
+}
+
+/// The same of a field's data.
+pub(crate) fn zone_from(data: &mut Data, pool_count: usize) -> Result<Zone, Number> {
     let id = data.pool_number(pool_count)?;
     let rest = match data.byte()? {
         1 => {
@@ -84,7 +88,7 @@ pub fn read_zone(bytes: &[u8], pool_count: usize) -> Result<Zone, Number> {
             let name = if data.is_at_end() { None } else { Some(data.pool_number(pool_count)?) };
             Rest::Fixed { offset, name }
         }
-        2 => read_listed(&mut data, pool_count)?,
+        2 => read_listed(data, pool_count)?,
         _ => return Err(Number::BadData),
     };
     data.end()?;

@@ -6,7 +6,7 @@ use lib.ListN.{length}
 use Rattle.pieces.specs.View.{Put}
 use Rattle.pieces.proofs.PutLaws.{InTwo, put-none, put-is, put-length, front-within, rest-room, both-sum, both-put}
 use Rattle.preferred_fields.specs.Field.{printField, fieldWith}
-use Rattle.rewrite.specs.View.{partOf}
+use Rattle.whole_fields.specs.View.{partOf}
 use Rattle.rewrite.proofs.ReadyLaws.{Walking, walking-start, walking-done, walking-sum, Turn, walking-turn, turn-two, turn-sum, file-length}
 use Rattle.rewrite.proofs.write_fields.Statement.{statement}
 use Rattle.rewrite.proofs.write_fields.Tie as tie

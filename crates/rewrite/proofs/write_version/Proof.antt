@@ -1,6 +1,6 @@
 use native.Mathlib.Omega.{arith}
 use lib.ListN.{length-set}
-use Rattle.rewrite.proofs.FieldLaws.{put-version}
+use Rattle.rewrite.proofs.VersionLaws.{put-version}
 use borrow.Author.Needs.{needs}
 use Rattle.rewrite.proofs.write_version.Statement.{statement}
 use Rattle.rewrite.proofs.write_version.Tie as tie

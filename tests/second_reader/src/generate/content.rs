@@ -101,6 +101,79 @@ fn random_locations(prng: &mut Prng, pool_count: usize, field: LocationField) ->
         .collect()
 }
 
+/// A content with the same zones but for a few offsets, savings, names, ends and rules, over a pool in another order.
+pub fn changed_content(content: &FileContent, prng: &mut Prng) -> FileContent {
+    let mut changed = content.clone();
+    let count = changed.pool.len();
+    for zone in &mut changed.zones {
+        match &mut zone.rest {
+            Rest::Fixed { offset, name } => match prng.below(4) {
+                0 => *offset = random_offset(prng),
+                1 => *name = Some(prng.below(count)),
+                2 => *name = None,
+                _ => {}
+            },
+            Rest::Listed { intervals, tail, .. } => {
+                for interval in intervals.iter_mut() {
+                    match prng.below(8) {
+                        0 => interval.name = prng.below(count),
+                        1 => interval.savings = random_savings(prng, interval.wall),
+                        2 => {
+                            interval.wall = random_offset(prng);
+                            interval.savings = random_savings(prng, interval.wall);
+                        }
+                        _ => {}
+                    }
+                }
+                if let Some(tail) = tail {
+                    match prng.below(5) {
+                        0 => *tail = random_tail(prng, count),
+                        1 => tail.daylight_name = prng.below(count),
+                        2 => tail.standard_rule.time = random_offset(prng).abs(),
+                        _ => {}
+                    }
+                }
+            }
+        }
+    }
+    // The strings move by one, so that no number stays the same.
+    if count > 1 {
+        changed.pool.rotate_right(1);
+        let moved = |number: &mut usize| *number = (*number + 1) % count;
+        each_mention(&mut changed, moved);
+    }
+    changed
+}
+
+/// Every pool number of a content.
+pub fn each_mention(content: &mut FileContent, mut change: impl FnMut(&mut usize)) {
+    for zone in &mut content.zones {
+        change(&mut zone.id);
+        match &mut zone.rest {
+            Rest::Fixed { name, .. } => name.iter_mut().for_each(&mut change),
+            Rest::Listed { intervals, tail, .. } => {
+                intervals.iter_mut().for_each(|interval| change(&mut interval.name));
+                if let Some(tail) = tail {
+                    change(&mut tail.standard_name);
+                    change(&mut tail.daylight_name);
+                }
+            }
+        }
+    }
+    for (key, target) in content.aliases.iter_mut().flatten() {
+        change(key);
+        change(target);
+    }
+    for location in content.locations.iter_mut().chain(&mut content.locations_1970).flatten() {
+        for (name, code) in &mut location.countries {
+            change(name);
+            change(code);
+        }
+        change(&mut location.zone);
+        change(&mut location.comment);
+    }
+}
+
 /// Pairs in any order: from anything in the pool to zones, to other aliases and to what is neither, and along the chain.
 fn random_aliases(prng: &mut Prng, pool: &[Vec<u8>], zones: &[Zone], chain: Range<usize>) -> Vec<(usize, usize)> {
     let mut drawn: Vec<(usize, usize)> = Vec::new();

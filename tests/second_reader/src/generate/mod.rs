@@ -3,16 +3,20 @@
 pub mod content;
 pub mod damage;
 pub mod dictionary;
+pub mod growing;
 pub mod plan;
 pub mod prng;
 pub mod questions;
+pub mod trace;
 
-pub use content::{random_content, random_tail, FileContent, Size};
+pub use content::{changed_content, each_mention, random_content, random_tail, FileContent, Size};
 pub use damage::{damaged, Damage};
 pub use dictionary::{damaged_dictionary, dictionary, random_entries, Entries};
+pub use growing::growing;
 pub use plan::{plan, FilePlan, Forms};
 pub use prng::Prng;
 pub use questions::{instants, local_times, names, question_lines};
+pub use trace::{damaged_trace, Record, Trace};
 
 use crate::lines;
 

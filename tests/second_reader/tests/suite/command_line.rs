@@ -1,5 +1,6 @@
 //! The binary's commands, as they are run.
 
+use crate::common::bytes_of;
 use second_reader::generate::case;
 use std::fs;
 use std::io::Write;
@@ -59,29 +60,29 @@ fn commands_on_files() {
     // Oslo, 2024-10-27 02:30 and 2024-03-31 02:30.
     prints(&["local", EUROPE, "Europe/Oslo", "17299962000000000"], "", "0 2 17299890000000000 17299926000000000\n", 0);
     prints(&["local", EUROPE, "Europe/Oslo", "17118522000000000"], "", "17 0\n", 1);
-    fs::write(dir.join("fixed"), crate::common::bytes_of("V P 0104 00013201 0303 010200")).expect("a file");
+    fs::write(dir.join("fixed"), bytes_of("V P 0104 00013201 0303 010200")).expect("a file");
     for (words, name) in [(vec!["part", "1"], "A"), (vec!["all", "2"], "B"), (vec!["part"], "B")] {
         let said = format!("0 3600000 0 3600000 start end {name}\n");
         let fixed = path("fixed");
         prints(&[vec!["ask", &fixed, "A", "0"], words.clone()].concat(), "", &said, 0);
         prints(&[vec!["named", &fixed, "C", "0"], words].concat(), "", &said, 0);
     }
-    fs::write(dir.join("older"), crate::common::bytes_of("f1f158f141")).expect("a file");
+    fs::write(dir.join("older"), bytes_of("f1f158f141")).expect("a file");
     for (words, name) in [(vec!["X", "0", "1"], "A"), (vec!["X", "0"], "B"), (vec!["A", "0", "2"], "B")] {
         let (fixed, older) = (path("fixed"), path("older"));
         let said = format!("0 3600000 0 3600000 start end {name}\n");
         prints(&[vec!["named-old", &fixed, &older], words].concat(), "", &said, 0);
     }
     prints(&["named-old", &path("fixed"), &path("older"), "C", "0"], "", "12 0\n", 1);
-    fs::write(dir.join("pins"), crate::common::bytes_of("V P 0707 01 20 818d4f 00 0200")).expect("a file");
+    fs::write(dir.join("pins"), bytes_of("V P 0707 01 20 818d4f 00 0200")).expect("a file");
     prints(&["location", &path("pins"), "7", "0"], "", "20 13\n", 1);
-    fs::write(dir.join("pins"), crate::common::bytes_of("V P 0709 01 20 ff8c4f 02 0001 0001 02 00")).expect("a file");
+    fs::write(dir.join("pins"), bytes_of("V P 0709 01 20 ff8c4f 02 0001 0001 02 00")).expect("a file");
     prints(&["location", &path("pins"), "7", "0"], "", "9 13\n", 1);
-    fs::write(dir.join("pins"), crate::common::bytes_of("V P 070c 01 a8aa1a d8dc04 02 0001 0200")).expect("a file");
+    fs::write(dir.join("pins"), bytes_of("V P 070c 01 a8aa1a d8dc04 02 0001 0200")).expect("a file");
     // 59 degrees 55 minutes north, 10 degrees 45 minutes east.
     let pin = "0 59.916666666666664 10.75 43@12 41@8 1 41@8 42@10\n";
     prints(&["location", &path("pins"), "7", "0"], "", pin, 0);
-    fs::write(dir.join("pins"), crate::common::bytes_of("V P 0607 01000000010200")).expect("a file");
+    fs::write(dir.join("pins"), bytes_of("V P 0607 01000000010200")).expect("a file");
     prints(&["location", &path("pins"), "6", "0"], "", "0 0 0 43@12 41@8 1 41@8 42@10\n", 0);
     prints(&["location", &path("pins"), "6", "18446744073709551615"], "", "12 13\n", 1);
     prints(&["location", &path("pins"), "7", "0"], "", "12 22\n", 1);
@@ -155,6 +156,39 @@ fn single_codes() {
 }
 
 #[test]
+fn tools() {
+    let dir = folder("tools");
+    let path = |name: &str| dir.join(name).to_str().expect("a path in UTF-8").to_string();
+    let (one, two) = (path("one"), path("two"));
+    fs::write(&one, bytes_of("V P A")).expect("a file");
+    let changes = "V P 0121 00020300003230 02000000000000000a 003030 020000000000000014 0032300100";
+    fs::write(&two, bytes_of(changes)).expect("a file");
+    prints(&["difference", &one, &two, "A", "0", "30", "2"], "", "0 2 0 10 20 30\n", 0);
+    prints(&["difference", &one, &two, "A", "0", "30", "1"], "", "15 0\n", 1);
+    prints(&["difference", &one, &one, "A", "0", "30", "0"], "", "0 0\n", 0);
+    prints(&["difference", &one, &two, "C", "0", "30", "0"], "", "12 19\n", 1);
+    prints(&["starts", &two, "A", "3"], "", "0 3 -9223372036854775808 10 20\n", 0);
+    prints(&["starts", &two, "A", "2"], "", "15 0\n", 1);
+    prints(&["find", "2", "1", "2", "3"], "", "0 1 2\n", 0);
+    prints(&["find", "2"], "", "12 0\n", 1);
+    prints(&["find"], "0 1 2 3\n5 9 1 9 1\n5\n", "0 0 1\n0 1 2\n12 0\n", 0);
+    // One record for "A" at 0 that shows an hour.
+    let trace = "00000001 00000010 00000001 00000024 0000000000000000 00000000 00000001 0036ee80 41";
+    fs::write(path("trace"), bytes_of(trace)).expect("a file");
+    prints(&["replay", &one, &path("trace")], "", "0 0\n", 0);
+    prints(&["replay", &two, &path("trace")], "", "0 none\n", 0);
+    fs::write(path("trace"), bytes_of(&trace.replace("0036ee80", "00000000"))).expect("a file");
+    prints(&["replay", &one, &path("trace")], "", "0 none\n", 0);
+    prints(&["replay", &one, &one], "", "21 0\n", 1);
+    prints(&["close", &one, &path("closed"), "15"], "", "0 15\n", 0);
+    assert_eq!(fs::read(path("closed")).ok(), Some(bytes_of("V 0003010141 A")));
+    prints(&["close", &one, &path("never"), "14"], "", "15 0\n", 1);
+    fs::write(&two, bytes_of("V P A 0400")).expect("a file");
+    prints(&["close", &two, &path("never"), "99"], "", "22 19\n", 1);
+    assert!(!dir.join("never").exists());
+}
+
+#[test]
 fn receiving() {
     let pieces = ["receive", "12", "000000", "00", "000100", "02010003", "0201", "-", "reset", "00000001", "00"];
     prints(&pieces, "", "0 3 0\n0 4 4\n0 7 7\n0 11 10\n15 0\n0 11 10\n0 0 0\n0 4 0\n0 5 0\n", 0);
@@ -207,6 +241,12 @@ fn misuse_is_said_in_words() {
         &["named-old", EUROPE, EUROPE, "X"],
         &["named-old", EUROPE, EUROPE, "X", "0", "3"],
         &["code", "write", "old-dictionary", "41", "9"],
+        &["difference", EUROPE, EUROPE, "A", "0", "1"],
+        &["difference", EUROPE, EUROPE, "A", "0", "x", "1"],
+        &["replay", EUROPE],
+        &["starts", EUROPE, "A"],
+        &["find", "x"],
+        &["close", EUROPE, "x"],
         &["receive"],
         &["receive", "4", "0"],
         &["receive", "99999999"],

@@ -3,7 +3,7 @@
 use second_reader::generate::{plan, random_content, FileContent, FilePlan, Forms, Prng, Size};
 use second_reader::transition::{FIRST, LAST};
 use second_reader::{check, lines, location, map_local, normalize, version_text};
-use second_reader::{Answer, Edition, LocationField, Mark, Pin, Refusal};
+use second_reader::{Answer, Edition, LocationField, Mark, Pin, Refusal, Transition};
 
 /// Bytes from hex digits; spaces are skipped.
 pub fn hex(text: &str) -> Vec<u8> {
@@ -209,4 +209,12 @@ fn ticks_of(word: &str) -> i64 {
         "I64MAX" => i64::MAX,
         ticks => ticks.parse().expect("ticks"),
     }
+}
+
+/// All of an answer but the name's place: offsets, the name's bytes, and the bounds.
+pub type Values = ([i32; 3], Vec<u8>, [Transition; 2]);
+
+/// What an answer on `file` carries, wherever the name stands.
+pub fn values(file: &[u8], answer: Answer) -> Values {
+    ([answer.wall, answer.savings, answer.standard], file[answer.name].to_vec(), [answer.start, answer.end])
 }

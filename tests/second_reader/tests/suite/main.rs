@@ -2,10 +2,12 @@
 
 mod aliases;
 mod calendar;
+mod close_pool;
 mod codes;
 mod command_line;
 mod common;
 mod demand3;
+mod difference;
 mod editions;
 mod generator;
 mod intervals;
@@ -22,6 +24,8 @@ mod readings;
 mod realistic;
 mod receiver;
 mod recurrences;
+mod replay;
 mod rewriting;
 mod standard_offset;
+mod starts;
 mod wall_time;

@@ -1,6 +1,6 @@
 //! 02, Ask 13: the older edition's codes, and its dictionary in the place of field 3.
 
-use crate::common::{bytes_of, generated, hex, pair};
+use crate::common::{bytes_of, generated, hex, pair, values};
 use second_reader::generate::{damaged, damaged_dictionary, dictionary, names, plan, random_entries};
 use second_reader::generate::{Damage, Entries, FileContent, Forms, Prng, Size};
 use second_reader::old::{
@@ -8,7 +8,7 @@ use second_reader::old::{
     read_string, write_count, write_dictionary, write_offset, write_string,
 };
 use second_reader::transition::LAST;
-use second_reader::{ask, ask_named, ask_named_old, check, Answer, Edition, Mark, Refusal};
+use second_reader::{ask, ask_named, ask_named_old, check, Edition, Mark, Refusal};
 use std::collections::BTreeSet;
 
 fn count(text: &str) -> Result<(u32, usize), u8> {
@@ -339,11 +339,6 @@ fn reading_13_16_eight_steps() {
     assert_eq!(pair(&ask_named_old(&file, &chain(8), b"a", 0, Edition::Two)), (0, 0));
     assert_eq!(pair(&ask_named_old(&file, &chain(9), b"a", 0, Edition::Two)), (18, 0));
     assert_eq!(pair(&ask_named_old(&file, &chain(9), b"b", 0, Edition::Two)), (0, 0));
-}
-
-/// All but the name's place.
-fn values(file: &[u8], answer: Answer) -> ([i32; 3], Vec<u8>, [second_reader::Transition; 2]) {
-    ([answer.wall, answer.savings, answer.standard], file[answer.name].to_vec(), [answer.start, answer.end])
 }
 
 /// The rule is the same over both editions' dictionaries: the pairs of field 3, lent as an older dictionary beside the file

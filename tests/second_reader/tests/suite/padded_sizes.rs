@@ -1,11 +1,11 @@
 //! 02, Ask 6: trailing zero groups in a field's size.
 
-use crate::common::{ask, ask_named, generated, worked};
+use crate::common::{ask, ask_named, generated, values, worked};
 use second_reader::codes::{encode_count, read_count, read_size};
 use second_reader::generate::plan::Kind;
 use second_reader::generate::{damaged, instants, plan, Damage, Forms, Prng, Size};
 use second_reader::rewrite::preferred;
-use second_reader::{check, Answer, Mark, Number, Refusal};
+use second_reader::{check, Mark, Number, Refusal};
 use std::collections::BTreeSet;
 
 #[test]
@@ -135,10 +135,6 @@ fn padded_anew(bytes: &[u8], prng: &mut Prng) -> (Vec<u8>, Vec<(u64, u64)>) {
 fn moved(refusal: Refusal, places: &[(u64, u64)]) -> (u8, u64) {
     let new = places.iter().find(|(old, _)| *old == refusal.place).map(|(_, new)| *new);
     (refusal.number.value(), new.expect("the place of an ID byte or an end"))
-}
-
-fn values(file: &[u8], answer: Answer) -> ([i32; 3], Vec<u8>, [second_reader::Transition; 2]) {
-    ([answer.wall, answer.savings, answer.standard], file[answer.name].to_vec(), [answer.start, answer.end])
 }
 
 #[test]

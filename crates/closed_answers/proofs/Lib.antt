@@ -1,0 +1,13 @@
+pub mod FieldsLaws
+pub mod BesideLaws
+pub mod SameLaws
+pub mod QuestionLaws
+pub mod LookupLaws
+pub mod NamedLaws
+pub mod CheckLaws
+pub mod MentionedLaws
+pub mod ClosedLaws
+pub mod LocationLaws
+pub mod OldNamedLaws
+pub mod Closing
+pub mod Example

@@ -1,0 +1,11 @@
+-- What the functions on a field rely on. The code's way: internal functions alone use it.
+use Prim.Native.Nat.{ℕ, _≤_}
+use mathlib.Core.List.{List}
+use lib.ListN.{length}
+use Rattle.renumbering.specs.Table.{Small}
+
+-- an order of pool numbers and a table of new ones, for a field's data
+pub record Sized (order table d : List ℕ) : Type 0 where
+  pub few : length order ≤ 8192
+  pub small : Small table
+  pub short : length d ≤ 4194304

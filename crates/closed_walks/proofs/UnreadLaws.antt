@@ -1,0 +1,57 @@
+-- The walk to the first field that isn't read. Assumes nothing.
+use mathlib.Core.Path.{_≡_, refl, sym, ap, _∙_}
+use mathlib.Core.Bool.{Bool, true, false}
+use mathlib.Core.List.{List, _∷_}
+use mathlib.Core.Option.{some}
+use Prim.Native.Nat.{ℕ, _≤_, _<_}
+use lib.ListN.{length}
+use lib.Dec.{ltb}
+use borrow.Author.Tests.{ne-eqb}
+use Rattle.base.specs.Pick.{pick}
+use Rattle.frames.specs.Frame.{Field}
+use Rattle.frames.specs.Fields.{fields}
+use Rattle.frames.specs.Covers.{Covers}
+use Rattle.whole_fields.specs.View.{IsField}
+use Rattle.whole_fields.specs.declared.Extent.{Extent}
+use Rattle.whole_fields.proofs.FieldLaws.{Turned, turned, none-left}
+use Rattle.closed_files.specs.File.{unreadId, firstUnread}
+use Rattle.closed_walks.specs.View.{Walkable, unreadOf}
+use Rattle.closed_walks.specs.declared.Unread.the-variants.{At, Nothing}
+
+pub unread-other : (i : ℕ) → (i ≡ 4 → ⊥) → (i ≡ 5 → ⊥) → ltb 7 i ≡ unreadId i
+unfolding unreadId
+unread-other i a b = rw (ne-eqb i 4 a, ne-eqb i 5 b)
+
+module _ (f : List ℕ) where
+  -- no field before the place is one that isn't read
+  pub record Seeking (at : ℕ) : Type 0 where
+    pub rest : List Field
+    pub covers : Covers f at rest
+    pub same : firstUnread (fields f) ≡ firstUnread rest
+
+  pub seeking-start : Walkable f → Seeking 4
+  seeking-start w = record { rest = fields f; covers = w .covers; same = refl }
+
+  module _ (at : ℕ) (s : Seeking at) where
+    module _ (r : Extent) (l : at < length f) (i : IsField f at r) where
+      pub turn : Turned f at (s .rest) r
+      turn = turned f at (s .rest) r (s .covers) l i
+
+      -- by what the test says of the field's ID
+      by : (t : Bool) → unreadId (r .id) ≡ t → firstUnread (fields f) ≡ pick t (some at) (firstUnread (turn .others))
+      unfolding firstUnread
+      by t h =
+          let u = turn in
+          s .same ∙ ap firstUnread (u .split) ∙ ap (λ (j : ℕ). pick (unreadId j) (some (u .field .place)) (firstUnread (u .others))) (sym (u .id))
+          ∙ ap (λ (p : ℕ). pick (unreadId (r .id)) (some p) (firstUnread (u .others))) (u .place)
+          ∙ ap (λ (b : Bool). pick b (some at) (firstUnread (u .others))) h
+
+      pub seeking-found : unreadId (r .id) ≡ true → At at ≡ unreadOf (firstUnread (fields f))
+      seeking-found h = sym (ap unreadOf (by true h))
+
+      pub seeking-next : unreadId (r .id) ≡ false → Seeking (r .end)
+      seeking-next h = record { rest = turn .others; covers = turn .covers; same = by false h }
+
+    pub seeking-end : length f ≤ at → Nothing ≡ unreadOf (firstUnread (fields f))
+    unfolding firstUnread
+    seeking-end l = sym (ap unreadOf (s .same ∙ ap firstUnread (none-left f at (s .rest) (s .covers) l)))

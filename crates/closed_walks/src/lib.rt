@@ -1,0 +1,105 @@
+// The walks over the fields of a whole file whose pool is closed up: the first field that isn't read, the mentions, and the closed file, its length
+// and the writing of it.
+ghost use mathlib.Core.Path.{_≡_};
+ghost use mathlib.Core.List.{_∷_};
+ghost use Prim.Native.Nat.{_+_, _≤_};
+ghost use lib.ListN.{length};
+ghost use Rattle.frames.specs.Fields.{fields};
+ghost use Rattle.use_order.specs.Order.{mentionAll};
+ghost use Rattle.pieces.specs.View.{Put};
+ghost use Rattle.renumbering.specs.Table.{Fits};
+ghost use Rattle.closed_files.specs.File.{mentionsIn, closedFields, unreadId, firstUnread};
+ghost use Rattle.closed_walks.specs.View.{Walkable, Closable, unreadOf};
+
+// Whether a field with the ID i is one that isn't read.
+fn is_unread(i: u8) -> bool
+    ensures { λ r. ⌜ r ≡ unreadId i ⌝ }
+{
+    if i == 4 {
+        return true;
+    }
+    if i == 5 {
+        return true;
+    }
+    7 < i
+}
+
+// The place of a field that isn't read; or that there is none.
+pub enum Unread {
+    At(usize),
+    Nothing,
+}
+
+// The place of the first field that isn't read.
+pub fn first_unread(s: &[u8]) -> Unread
+    requires { ⌜ Walkable (now s) ⌝ }
+    ensures { λ r. ⌜ r ≡ unreadOf (firstUnread (fields (now (s .entry)))) ⌝ }
+{
+    let mut at: usize = 4;
+    while at < s.len() {
+        let f = whole_fields::read_field(s, at);
+        if is_unread(f.id) {
+            return Unread::At(at);
+        }
+        at = f.end;
+    }
+    Unread::Nothing
+}
+
+// Counts the mentions of all fields.
+pub fn count_mentions(s: &[u8], uses: &mut [u32])
+    requires { ⌜ Walkable (now s) × Fits (now uses) (length (now s)) ⌝ }
+    ensures { λ _. ⌜ now (uses .exit) ≡ mentionAll (mentionsIn (fields (now (s .entry)))) (now (uses .entry)) ⌝ }
+{
+    let mut at: usize = 4;
+    while at < s.len() {
+        let f = whole_fields::read_field(s, at);
+        let a = f.start;
+        let e = f.end;
+        renumbering::count(f.id, &s[a..e], uses);
+        at = e;
+    }
+}
+
+// The length of the closed file.
+pub fn total(s: &[u8], order: &[u64], table: &[u32]) -> usize
+    requires { ⌜ Walkable (now s) × (length (now order) ≤ 8192) ⌝ }
+    ensures { λ r. ⌜ r ≡ 4 + length (closedFields (now (order .entry)) (now (table .entry)) (fields (now (s .entry)))) ⌝ }
+{
+    let mut n: usize = 0;
+    let mut at: usize = 4;
+    while at < s.len() {
+        let f = whole_fields::read_field(s, at);
+        let a = f.start;
+        let e = f.end;
+        n += closed_fields::field_size(f.id, &s[a..e], order, table);
+        at = e;
+    }
+    4 + n
+}
+
+// Writes the fields of the closed file.
+fn write_fields(s: &[u8], order: &[u64], table: &[u32], out: &mut [u8]) -> usize
+    requires { ⌜ Closable (now s) (now order) (now table) × (length (closedFields (now order) (now table) (fields (now s))) ≤ length (now out)) ⌝ }
+    ensures { λ r. ⌜ Put (closedFields (now (order .entry)) (now (table .entry)) (fields (now (s .entry)))) (now (out .entry)) r (now (out .exit)) ⌝ }
+{
+    let mut w: usize = 0;
+    let mut at: usize = 4;
+    while at < s.len() {
+        let f = whole_fields::read_field(s, at);
+        let a = f.start;
+        let e = f.end;
+        w += closed_fields::write_field(f.id, &s[a..e], order, table, &mut out[w..]);
+        at = e;
+    }
+    w
+}
+
+// Writes the closed file: the version, then the fields.
+pub fn write_file(s: &[u8], order: &[u64], table: &[u32], out: &mut [u8]) -> usize
+    requires { ⌜ Closable (now s) (now order) (now table) × (4 + length (closedFields (now order) (now table) (fields (now s))) ≤ length (now out)) ⌝ }
+    ensures { λ r. ⌜ Put (0 ∷ 0 ∷ 0 ∷ 0 ∷ closedFields (now (order .entry)) (now (table .entry)) (fields (now (s .entry)))) (now (out .entry)) r (now (out .exit)) ⌝ }
+{
+    let w = bytes::copy(&s[..4], out);
+    w + write_fields(s, order, table, &mut out[w..])
+}

@@ -1,0 +1,125 @@
+-- What the check of a file has shown, and the ways out of closing up a pool. Assumes nothing.
+use mathlib.Core.Path.{_≡_, refl, sym, ap, _∙_}
+use mathlib.Core.Bool.{Bool, true, false}
+use mathlib.Core.List.{List, [], _∷_, _++_}
+use mathlib.Core.Option.{Option, none, some}
+use Prim.Native.Nat.{ℕ, _+_, _≤_, _<_}
+use native.Mathlib.Omega.{arith}
+use lib.ListN.{length, take, drop, getD, replicate, length-replicate, getD-replicate, List·getD-eq-default, length-take, length-append}
+use lib.Seq.{take-at}
+use lib.Dec.{ltb}
+use borrow.Author.Tests.{lt-ltb, le-ltb, le-leb, lt-leb, ltb-true, ltb-false}
+use Rattle.base.proofs.Tests.{clash}
+use Rattle.frames.specs.Frame.{Field}
+use Rattle.frames.specs.Fields.{fields}
+use Rattle.frames.specs.Covers.{Covers}
+use Rattle.frames.proofs.PartLaws.{walk-ended}
+use Rattle.frames.proofs.CoverLaws.{listing-covers}
+use Rattle.field_checks.specs.Check.{start, job, checkOf}
+use Rattle.field_checks.specs.declared.Verdict.{Verdict}
+use Rattle.field_checks.specs.declared.Verdict.the-variants.{Good, Refused as Ill}
+use Rattle.field_checks.proofs.WellFormedLaws.{good-well-formed}
+use Rattle.field_checks.proofs.FileLaws.{well-formed-file}
+use Rattle.pieces.specs.View.{Put}
+use Rattle.use_order.specs.Order.{mentionAll, orderOf, numberedFrom}
+use Rattle.use_order.specs.Fill.{Ordered}
+use Rattle.use_order.proofs.NumberLaws.{numbered-most}
+use Rattle.renumbering.specs.Table.{Fits, Small}
+use Rattle.closed_files.specs.File.{mentionsIn, newOrder, newTable, closedFields, closedFile, closed, firstUnread, givenSized, leftSized, closeOf, outputOf}
+use Rattle.closed_files.specs.declared.Closed.{Closed}
+use Rattle.closed_files.specs.declared.Closed.the-variants.{Length, Refused}
+use Rattle.closed_walks.specs.View.{Walkable, unreadOf}
+use Rattle.closed_walks.specs.declared.Unread.{Unread}
+use Rattle.closed_walks.specs.declared.Unread.the-variants.{At, Nothing}
+
+covers-limit : (f : List ℕ) (at : ℕ) (gs : List Field) → at ≤ 4194304 → Covers f at gs → length f ≤ 4194304
+covers-limit f at [] h c = let e : at ≡ length f = c in omega arith
+covers-limit f at (g ∷ gs) h c = covers-limit f (g .past) gs (c .1 .limit) (c .2)
+
+-- A GOOD FILE can be walked
+pub walkable : (f : List ℕ) → checkOf f ≡ Good → Walkable f
+walkable f e =
+    let w = good-well-formed f e in
+    let c = listing-covers f (walk-ended job start (w .memory) f (length f) (w .ends) .whole) (w .some-field) in
+    record { covers = c; version = well-formed-file f w .framed .version; limit = covers-limit f 4 (fields f) (omega arith) c }
+
+unread-some : (o : Option ℕ) (p : ℕ) → unreadOf o ≡ At p → o ≡ some p
+unread-some none p e = clash cc
+unread-some (some q) p e = let z : q ≡ p = cc in ap some z
+
+unread-none : (o : Option ℕ) → unreadOf o ≡ Nothing → o ≡ none
+unread-none none e = refl
+unread-none (some q) e = clash cc
+
+-- the ways out: the check's refusal, 22, and what follows
+module _ (f d : List ℕ) (v : Verdict) (e : v ≡ checkOf f) where
+  pub close-refused : (n p : ℕ) → v ≡ Ill n p → (Refused n p ≡ closeOf f d) × (d ≡ outputOf f d)
+  unfolding closeOf outputOf
+  close-refused n p h = (rw (sym e ∙ h), rw (sym e ∙ h))
+
+  module _ (g : v ≡ Good) (u : Unread) (q : u ≡ unreadOf (firstUnread (fields f))) where
+    pub close-unread : (p : ℕ) → u ≡ At p → (Refused 22 p ≡ closeOf f d) × (d ≡ outputOf f d)
+    unfolding closeOf outputOf
+    close-unread p h = let s : firstUnread (fields f) ≡ some p = unread-some (firstUnread (fields f)) p (sym q ∙ h) in (rw (sym e ∙ g, s), rw (sym e ∙ g, s))
+
+    pub close-read : (r : Closed) (o : List ℕ) → u ≡ Nothing → (r ≡ givenSized (closed f) d) × (o ≡ leftSized (closed f) d) → (r ≡ closeOf f d) × (o ≡ outputOf f d)
+    unfolding closeOf outputOf
+    close-read r o h k = let s : firstUnread (fields f) ≡ none = unread-none (firstUnread (fields f)) (sym q ∙ h) in (rw (sym e ∙ g, s) (k .0), rw (sym e ∙ g, s) (k .1))
+
+-- 4, 15, or the file
+module _ (xs d : List ℕ) where
+  pub too-large : 4194304 < length xs → (Refused 4 0 ≡ givenSized xs d) × (d ≡ leftSized xs d)
+  unfolding givenSized leftSized
+  too-large h = let t = lt-ltb 4194304 (length xs) h in (rw t, rw t)
+
+  module _ (h : length xs ≤ 4194304) where
+    pub no-room : length d < length xs → (Refused 15 0 ≡ givenSized xs d) × (d ≡ leftSized xs d)
+    unfolding givenSized leftSized
+    no-room k = let t = le-ltb 4194304 (length xs) h in let u = lt-leb (length xs) (length d) k in (rw (t, u), rw (t, u))
+
+    pub written : (n : ℕ) (o : List ℕ) → length xs ≤ length d → Put xs d n o → (Length n ≡ givenSized xs d) × (o ≡ leftSized xs d)
+    unfolding givenSized leftSized
+    written n o k p = let t = le-ltb 4194304 (length xs) h in let u = le-leb (length xs) (length d) k in (rw (t, u) (ap Length (p .size)), rw (t, u) (p .left))
+
+-- ---- the order and the table, as the code fills them
+abbrev no-uses : List ℕ
+no-uses = replicate 8192 0
+
+zero-uses : (k : ℕ) → getD no-uses k 0 ≡ 0
+zero-uses k = go (ltb k 8192) refl
+  where
+    go : (t : Bool) → ltb k 8192 ≡ t → getD no-uses k 0 ≡ 0
+    go true e = getD-replicate {A = ℕ} 8192 k 0 0 (ltb-true k 8192 e)
+    go false e = List·getD-eq-default no-uses 0 {n = k} (let l = ltb-false k 8192 e in omega (arith, length-replicate {A = ℕ} 8192 0))
+
+pub no-uses-fit : (n : ℕ) → n ≤ 4194304 → Fits no-uses n
+no-uses-fit n h = record { room = λ k. let z = zero-uses k in omega arith }
+
+pub table-small : (ks : List ℕ) → length ks ≤ 8192 → Small (numberedFrom 0 ks no-uses)
+table-small ks h = record { carried = λ k. let m = numbered-most 0 8192 ks no-uses (omega arith) (λ j. let z = zero-uses j in omega arith) k in omega arith }
+
+-- the order stands at the front of its array
+module _ (uses order₀ order : List ℕ) (n : ℕ) (o : Ordered uses order₀ n order) where
+  pub order-within : n ≤ length order
+  order-within = let e : length order ≡ length (orderOf uses) + length (drop n order₀) = ap length (o .order) ∙ length-append (orderOf uses) (drop n order₀) in omega (arith, o .count)
+
+  pub order-few : length order ≤ 8192 → length (take n order) ≤ 8192
+  order-few h = rw length-take (omega arith)
+
+module _ (f uses order₀ order table : List ℕ) (n : ℕ) (u : uses ≡ mentionAll (mentionsIn (fields f)) (replicate 8192 0)) (o : Ordered uses order₀ n order)
+    (t : table ≡ numberedFrom 0 (take n order) (replicate 8192 0)) where
+  pub order-is : take n order ≡ newOrder (fields f)
+  order-is = ap (take n) (o .order) ∙ take-at (orderOf uses) (drop n order₀) n (sym (o .count)) ∙ ap orderOf u
+
+  table-is : table ≡ newTable (fields f)
+  table-is = t ∙ ap (λ (q : List ℕ). numberedFrom 0 q (replicate 8192 0)) order-is
+
+  pub file-is : 0 ∷ 0 ∷ 0 ∷ 0 ∷ closedFields (take n order) table (fields f) ≡ closedFile (fields f)
+  unfolding closedFile
+  file-is = ap (λ (q : List ℕ). 0 ∷ 0 ∷ 0 ∷ 0 ∷ closedFields q table (fields f)) order-is ∙ ap (λ (q : List ℕ). 0 ∷ 0 ∷ 0 ∷ 0 ∷ closedFields (newOrder (fields f)) q (fields f)) table-is
+
+  pub length-is : (m : ℕ) → m ≡ 4 + length (closedFields (take n order) table (fields f)) → m ≡ length (closedFile (fields f))
+  length-is m e = let l : length (0 ∷ 0 ∷ 0 ∷ 0 ∷ closedFields (take n order) table (fields f)) ≡ length (closedFile (fields f)) = ap length file-is in omega arith
+
+  pub small-is : length (take n order) ≤ 8192 → Small table
+  small-is h = rw t (table-small (take n order) h)

@@ -1,0 +1,44 @@
+// Closing up the pool of a whole file: the file is checked, its mentions are counted and ordered, then its fields are written one behind the
+// other.
+use closed_files::Closed;
+use closed_walks::Unread;
+use field_checks::Verdict;
+ghost use mathlib.Core.Path.{_≡_};
+ghost use Rattle.frames.specs.Fields.{fields};
+ghost use Rattle.closed_files.specs.File.{closedFile, givenSized, leftSized, closeOf, outputOf};
+ghost use Rattle.closed_walks.specs.View.{Walkable};
+
+// Closes up the pool of a file that is good and has no field that isn't read.
+fn close_read(s: &[u8], out: &mut [u8]) -> Closed
+    requires { ⌜ Walkable (now s) ⌝ }
+    ensures { λ r. ⌜ (r ≡ givenSized (closedFile (fields (now (s .entry)))) (now (out .entry))) × (now (out .exit) ≡ leftSized (closedFile (fields (now (s .entry)))) (now (out .entry))) ⌝ }
+{
+    let mut uses = [0u32; 8192];
+    let mut order = [0u64; 8192];
+    let mut room = [0u64; 8192];
+    let mut table = [0u32; 8192];
+    closed_walks::count_mentions(s, &mut uses);
+    let n = use_order::ordered(&uses, &mut order, &mut room);
+    use_order::number(&order[..n], &mut table);
+    let size = closed_walks::total(s, &order[..n], &table);
+    if 4194304 < size {
+        return Closed::Refused(4, 0);
+    }
+    if out.len() < size {
+        return Closed::Refused(15, 0);
+    }
+    Closed::Length(closed_walks::write_file(s, &order[..n], &table, out))
+}
+
+// Closes up the pool of a whole file into the front of the output, all checked first.
+pub fn close_pool(s: &[u8], out: &mut [u8]) -> Closed
+    ensures { λ r. ⌜ (r ≡ closeOf (now (s .entry)) (now (out .entry))) × (now (out .exit) ≡ outputOf (now (s .entry)) (now (out .entry))) ⌝ }
+{
+    match checks::check(s) {
+        Verdict::Refused(n, p) => Closed::Refused(n, p),
+        Verdict::Good => match closed_walks::first_unread(s) {
+            Unread::At(p) => Closed::Refused(22, p),
+            Unread::Nothing => close_read(s, out),
+        },
+    }
+}

@@ -1,0 +1,4 @@
+pub mod Difference
+pub mod Numbers
+pub mod Means
+pub mod View

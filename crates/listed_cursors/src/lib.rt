@@ -1,0 +1,86 @@
+// A cursor at a listed interval of a zone.
+use base::END;
+use cursors::Cursor;
+use intervals::Interval;
+use intervals::IntervalRead;
+use zones::Found;
+use zones::ZoneEnd;
+ghost use mathlib.Core.Path.{_≡_};
+ghost use Rattle.zones.specs.Intervals.{Holds};
+ghost use Rattle.zones.specs.Lookup.{until as untilOf};
+ghost use Rattle.cursors.specs.Cursors.{listEnd, ListAt, Points};
+
+// A listed interval, which lasts until a moment.
+fn until(i: Interval, end: u64) -> Found
+    ensures { λ r. ⌜ r ≡ untilOf i end ⌝ }
+{
+    Found {
+        wall: i.wall,
+        savings: i.savings,
+        name: i.name,
+        start: i.start,
+        end: end,
+    }
+}
+
+// Where the list ends.
+fn list_end(ending: ZoneEnd) -> u64
+    ensures { λ r. ⌜ r ≡ listEnd ending ⌝ }
+{
+    match ending {
+        ZoneEnd::Untailed => END,
+        ZoneEnd::Tailed(m) => {
+            let tail = m.tail;
+            tail.start
+        }
+        ZoneEnd::Refused(_) => END,
+    }
+}
+
+// A cursor at the interval i, where the `left` intervals behind it stand at a place.
+pub fn at_interval(
+    s: &[u8],
+    pool: u64,
+    i: Interval,
+    left: u64,
+    place: usize,
+    ending: ZoneEnd,
+) -> Cursor
+    requires { ⌜ ListAt pool (now s) i left place ending ⌝ }
+    ensures { λ r. ⌜ Points pool (now (s .entry)) r × Holds (r .held) (i .start) ⌝ }
+{
+    if left == 0 {
+        let end = list_end(ending);
+        let held = until(i, end);
+        return Cursor {
+            held: held,
+            left: 0,
+            next: i,
+            place: place,
+            ending: ending,
+        };
+    }
+    match interval_scans::read_interval(s, place, pool, i.start) {
+        IntervalRead::Got(j, e) => {
+            let held = until(i, j.start);
+            Cursor {
+                held: held,
+                left: left,
+                next: j,
+                place: e,
+                ending: ending,
+            }
+        }
+        // The zone was read to its end before.
+        IntervalRead::Refused(_) => {
+            let held = until(i, END);
+            Cursor {
+                held: held,
+                left: 0,
+                next: i,
+                place: place,
+                ending: ending,
+            }
+        }
+    }
+}

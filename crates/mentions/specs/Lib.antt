@@ -1,0 +1,4 @@
+pub mod Walk
+pub mod Content
+pub mod View
+pub mod Renumbers

@@ -1,0 +1,5 @@
+pub mod IntervalLaws
+pub mod TailLaws
+pub mod ZoneLaws
+pub mod LookupLaws
+pub mod Vectors

@@ -1,0 +1,3 @@
+pub mod WayLaws
+pub mod AskLaws
+pub mod JoinLaws

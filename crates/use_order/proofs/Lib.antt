@@ -1,0 +1,4 @@
+pub mod FillLaws
+pub mod OrderLaws
+pub mod NumberLaws
+pub mod Vectors

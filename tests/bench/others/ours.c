@@ -1,0 +1,80 @@
+/* FILE ask|kept ROUNDS QUESTIONS ZONE...: asks the library for the offsets of the zones in turn, each time anew or over tables that
+   are kept. Prints their sum in seconds, and the least time of a question in ns. */
+#define _POSIX_C_SOURCE 200809L
+#include <inttypes.h>
+#include <nzd.h>
+#include <stdio.h>
+#include <stdlib.h>
+#include <string.h>
+#include <time.h>
+
+#define MOST 4096
+
+static uint8_t file[1 << 22];
+static size_t n;
+
+/* The intervals of a zone up to one that ends behind 2040: their starts and offsets. */
+static const int64_t horizon = INT64_C(2208988800) * NZD_TICKS_PER_SECOND;
+static struct kept {
+    int64_t starts[MOST], offsets[MOST];
+    size_t count;
+} kept[16];
+
+static void fail(const char *what) {
+    fprintf(stderr, "ours: %s\n", what);
+    exit(1);
+}
+
+static struct nzd_answer ask(const char *zone, int64_t ticks) {
+    struct nzd_answer out;
+    uint64_t r = nzd_ask(file, n, (const uint8_t *)zone, strlen(zone), ticks, false, false, &out);
+    if (r != NZD_ANSWERED) fail(nzd_words(nzd_number_of(r)));
+    return out;
+}
+
+static void keep(const char *zone, struct kept *k) {
+    for (int64_t ticks = NZD_FIRST_INSTANT; ticks < horizon && k->count < MOST; k->count++) {
+        struct nzd_answer a = ask(zone, ticks);
+        k->starts[k->count] = a.start;
+        k->offsets[k->count] = a.wall_ms;
+        ticks = a.end;
+    }
+}
+
+static int64_t offset(const char *zone, const struct kept *k, int64_t ticks) {
+    struct nzd_search found;
+    if (k == NULL || ticks >= horizon) return ask(zone, ticks).wall_ms;
+    if (nzd_find_start(k->starts, k->count, ticks, &found) != NZD_ANSWERED) fail("no table");
+    return k->offsets[found.entry];
+}
+
+static double now(void) {
+    struct timespec t;
+    clock_gettime(CLOCK_MONOTONIC, &t);
+    return (double)t.tv_sec * 1e9 + (double)t.tv_nsec;
+}
+
+int main(int argc, char **argv) {
+    if (argc < 6 || argc > 21) fail("takes FILE ask|kept ROUNDS QUESTIONS and up to 16 zones");
+    FILE *in = fopen(argv[1], "rb");
+    if (in == NULL) fail(argv[1]);
+    n = fread(file, 1, sizeof file, in);
+    fclose(in);
+    int keeps = strcmp(argv[2], "kept") == 0, rounds = atoi(argv[3]), questions = atoi(argv[4]), zones = argc - 5;
+    char **zone = argv + 5;
+    for (int i = 0; keeps && i < zones; i++) keep(zone[i], &kept[i]);
+    double least = 1e18;
+    int64_t sum = 0;
+    for (int round = 0; round < rounds; round++) {
+        double start = now();
+        sum = 0;
+        for (int i = 0; i < questions; i++) {
+            int at = i % zones;
+            sum += offset(zone[at], keeps ? &kept[at] : NULL, INT64_C(1700000) * i * NZD_TICKS_PER_SECOND) / 1000;
+        }
+        double time = (now() - start) / questions;
+        if (time < least) least = time;
+    }
+    printf("%" PRId64 " %.1f\n", sum, least);
+    return 0;
+}

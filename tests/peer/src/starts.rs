@@ -1,0 +1,72 @@
+//! A table of a zone's interval starts, and the lookup in a table by halving.
+
+use crate::codes::Cursor;
+use crate::number::NOT_FOUND;
+use crate::write::TOO_SHORT;
+use crate::zone::{read_rest, Interval, Visit};
+use crate::{find_zone, Refusal};
+use std::hint::select_unpredictable;
+
+/// The starts of the zone's listed intervals, put in `table`; how many there are.
+pub fn interval_starts(file: &[u8], id: &[u8], table: &mut [i64]) -> Result<usize, Refusal> {
+    let mut count = Count(0);
+    let zone = find_zone(file, id, false, &mut count)?;
+    let room = table.get_mut(..count.0).ok_or(TOO_SHORT)?;
+    let mut fill = Fill { entries: room.iter_mut() };
+    // The zone was read to its end before.
+    let mut cursor = Cursor::new(zone.data);
+    let read = cursor.pool_number(zone.pool.count()).and_then(|id| read_rest(cursor, id, zone.pool.count(), &mut fill));
+    debug_assert_eq!(read, Ok(()));
+    Ok(count.0)
+}
+
+/// How many intervals are listed.
+struct Count(usize);
+
+impl Visit for Count {
+    #[inline]
+    fn interval(&mut self, _interval: Interval) {
+        self.0 += 1;
+    }
+}
+
+/// Puts each start in its entry.
+struct Fill<'a> {
+    entries: std::slice::IterMut<'a, i64>,
+}
+
+impl Visit for Fill<'_> {
+    #[inline]
+    fn interval(&mut self, interval: Interval) {
+        if let Some(entry) = self.entries.next() {
+            *entry = interval.start;
+        }
+    }
+}
+
+/// What halving leaves of a table.
+#[derive(Clone, Copy, Debug, PartialEq, Eq)]
+pub struct Found {
+    /// The number of the entry left, from 0.
+    pub position: usize,
+    /// How many entries were looked at.
+    pub looks: usize,
+}
+
+/// The entry of a table that halving leaves for an instant.
+pub fn find_start(table: &[i64], instant: i64) -> Result<Found, Refusal> {
+    if table.is_empty() {
+        return Err(Refusal { number: NOT_FOUND, place: 0 });
+    }
+    let mut left = table.len();
+    let mut found = Found { position: 0, looks: 0 };
+    while left > 1 {
+        let half = left / 2;
+        let kept = table[found.position + half] <= instant;
+        // Without a branch, which would be guessed wrong every other time.
+        found.position += select_unpredictable(kept, half, 0);
+        left = select_unpredictable(kept, left - half, half);
+        found.looks += 1;
+    }
+    Ok(found)
+}

@@ -50,8 +50,8 @@ fn advance(t: u64, c: Scan, i: Interval) -> Scan
     }
 }
 
-// n intervals from the place at on, and whether their starts are in the writer's form, which is looked at where `preferred` says so. One of five
-// bytes, the usual one, takes no call, and is.
+// n intervals from the place at on, and whether their starts are in the writer's form, which is looked at where `preferred` says so. Those of five
+// bytes, the usual ones, are read in runs, of which only the last is kept; their starts are.
 pub fn read_intervals(s: &[u8], at: usize, pool: u64, n: u64, t: u64, preferred: bool) -> ScanRead
     requires { ⌜ at ≤ length (now s) ⌝ }
     ensures { λ r. ⌜ Stands (now (s .entry)) (scanOf t (many (parseInterval pool) startOf n endOfTime (drop at (now (s .entry))))) (ofScan r) × FormOf (now (s .entry)) n at preferred r ⌝ }
@@ -70,11 +70,13 @@ pub fn read_intervals(s: &[u8], at: usize, pool: u64, n: u64, t: u64, preferred:
         last: END,
     };
     while 0 < left {
-        let m = short_intervals::short_start(s, place, 2, pool, c.last);
-        if m != 0 {
-            let i = short_intervals::short_interval(s, place + 2, m);
-            left -= 1;
-            place += 5;
+        let stop = interval_runs::stop_at(c.end, t);
+        let r = interval_runs::read_run(s, place, pool, stop, left, c.last);
+        let e = r.place;
+        if place < e {
+            let i = short_intervals::short_interval(s, e - 3, r.last);
+            left = r.left;
+            place = e;
             c = advance(t, c, i);
         } else {
             let item = read_interval(s, place, pool, c.last);

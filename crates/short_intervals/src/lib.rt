@@ -7,7 +7,7 @@ ghost use Rattle.intervals.specs.Short.{shortInterval, shortOk, shortStart};
 
 // Whether the codes of a byte each at a place have a name of the pool and a standard offset inside 24 hours. In half hours two bytes tell that;
 // their difference, with what keeps it above 0, is in one range, which is one test of the machine's.
-fn short_ok(s: &[u8], at: usize, pool: u64) -> bool
+pub fn short_ok(s: &[u8], at: usize, pool: u64) -> bool
     requires { ⌜ at + 3 ≤ length (now s) ⌝ }
     ensures { λ r. ⌜ r ≡ shortOk (now (s .entry)) pool at ⌝ }
 {

@@ -26,8 +26,8 @@
  *
  * Stack, measured and not proved (tests/bench/stack/run): up to 296 KB for nzd_close_pool, 80 KB for nzd_normalize, 72 KB
  * for nzd_version_text, nzd_location, nzd_ask_named_old and nzd_difference, 64 KB for nzd_ask_named, 43 KB for
- * nzd_map_local, 40 KB for nzd_ask, nzd_ask_plain, nzd_replay and nzd_interval_starts, as much for the same of a receiver,
- * below 1 KB for nzd_find_start, nzd_receiver_add and a small code.
+ * nzd_map_local, 40 KB for nzd_ask, nzd_ask_plain, nzd_find_zone, nzd_replay and nzd_interval_starts, as much for the same
+ * of a receiver, 2 KB for nzd_ask_zone, below 1 KB for nzd_find_start, nzd_receiver_add and a small code.
  */
 #ifndef NZD_H
 #define NZD_H
@@ -170,6 +170,31 @@ uint64_t nzd_ask_named(const uint8_t *file, size_t n, const uint8_t *name, size_
  */
 uint64_t nzd_ask_named_old(const uint8_t *file, size_t n, const uint8_t *older, size_t older_n, const uint8_t *name,
                            size_t name_n, int64_t ticks, bool first_edition, struct nzd_answer *out);
+
+/* A zone found once, for repeated questions: plain numbers that you keep as long as the file's bytes stay as they are. */
+struct nzd_zone {
+    uint64_t pool;  /* where the data of field 0, which have the names, start in file, */
+    uint64_t past;  /* and where they end */
+    uint64_t start; /* where the data of the zone start in file, */
+    uint64_t end;   /* and where they end */
+    uint64_t place; /* of the zone's ID byte */
+};
+
+/*
+ * Finds a zone of a file that is all there. id is the zone's ID, any bytes. The refusals are those of nzd_ask without more, 14
+ * aside, so a zone that is found is well formed, and so is all before it.
+ */
+uint64_t nzd_find_zone(const uint8_t *file, size_t n, const uint8_t *id, size_t id_n, struct nzd_zone *out);
+
+/*
+ * Asks a found zone: on the bytes that it was found in it gives what nzd_ask without more gives, at every instant, and reads that
+ * zone alone, not those before it. With any other bytes and any numbers it is still safe, and name_place and name_length are still
+ * a part of file: 14 comes first, then a fault of the zone that the numbers name, whose data are checked with the pool's count, at
+ * zone->place, or at 0 if that is past 4,194,304. Data that don't lie in file count as none. The pool is not checked, so on other
+ * bytes a name may not be UTF-8, and is empty where the pool ends before it.
+ */
+uint64_t nzd_ask_zone(const uint8_t *file, size_t n, const struct nzd_zone *zone, int64_t ticks, bool first_edition,
+                      struct nzd_answer *out);
 
 /* The instants at which clocks of a zone show a local time. */
 struct nzd_local {

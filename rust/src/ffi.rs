@@ -79,6 +79,15 @@ mod c {
             first_edition: bool,
             out: *mut [i64; 7],
         ) -> u64;
+        pub fn nzd_find_zone(file: *const u8, n: usize, id: *const u8, id_n: usize, out: *mut [u64; 5]) -> u64;
+        pub fn nzd_ask_zone(
+            file: *const u8,
+            n: usize,
+            zone: *const [u64; 5],
+            ticks: i64,
+            first_edition: bool,
+            out: *mut [i64; 7],
+        ) -> u64;
         pub fn nzd_map_local(
             file: *const u8,
             n: usize,
@@ -261,6 +270,16 @@ pub fn ask_named_old(
 /// `nzd_ask_plain`.
 pub fn ask_plain(file: &[u8], id: &[u8], ticks: i64, first_edition: bool, out: &mut [i64; 7]) -> u64 {
     unsafe { c::nzd_ask_plain(file.as_ptr(), file.len(), id.as_ptr(), id.len(), ticks, first_edition, out) }
+}
+
+/// `nzd_find_zone`.
+pub fn find_zone(file: &[u8], id: &[u8], out: &mut [u64; 5]) -> u64 {
+    unsafe { c::nzd_find_zone(file.as_ptr(), file.len(), id.as_ptr(), id.len(), out) }
+}
+
+/// `nzd_ask_zone`.
+pub fn ask_zone(file: &[u8], zone: &[u64; 5], ticks: i64, first_edition: bool, out: &mut [i64; 7]) -> u64 {
+    unsafe { c::nzd_ask_zone(file.as_ptr(), file.len(), zone, ticks, first_edition, out) }
 }
 
 /// `nzd_map_local`.

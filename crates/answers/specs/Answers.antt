@@ -35,18 +35,21 @@ abbrev pub noPool : Pool
 noPool = record { start = 0; body = [] }
 
 -- "An answer carries wall offset, savings, the name as a part of the lent bytes, and the interval's start and end."; "The answer record gains
--- the standard offset, wall minus savings"
-abbrev pub answered : Pool → Interval → Found
-answered p x =
+-- the standard offset, wall minus savings". The name is so many bytes at a place.
+abbrev pub answerBy : ℕ → ℕ → Interval → Found
+answerBy name size x =
     record {
       wall = millisecondsOf (x .wall);
       savings = millisecondsOf (x .savings);
       standard = millisecondsOf (standardSum (x .wall) (x .savings));
-      name = p .start + spanOf (p .body) (x .name) .at;
-      length = spanOf (p .body) (x .name) .len;
+      name = name;
+      length = size;
       start = ticksOf (x .start);
       end = ticksOf (x .end);
     }
+
+abbrev pub answered : Pool → Interval → Found
+answered p x = answerBy (p .start + spanOf (p .body) (x .name) .at) (spanOf (p .body) (x .name) .len) x
 
 -- The mark is used here and nowhere else: 1 where more may come, and else 2 in the version or in a field and 12 at the end of one.
 abbrev pub waiting : Mark → ℕ → ℕ

@@ -2,12 +2,12 @@
 use strings::Holder;
 use zones::Found as Interval;
 ghost use mathlib.Core.Path.{_≡_};
-ghost use Prim.Native.Nat.{_≤_};
+ghost use Prim.Native.Nat.{_+_, _≤_, _<_};
 ghost use lib.ListN.{length};
 ghost use Rattle.pool.specs.Pool.{stringsOf};
 ghost use Rattle.pool.specs.Index.{Ready};
 ghost use Rattle.zones.specs.Sound.{FoundOk};
-ghost use Rattle.answers.specs.Answers.{answered as answeredOf, poolOf, answerOf, nameOf};
+ghost use Rattle.answers.specs.Answers.{answerBy, answered as answeredOf, poolOf, answerOf, nameOf};
 
 // Whether more bytes may come.
 pub enum Mark {
@@ -41,12 +41,11 @@ pub enum Outcome {
     End(usize),
 }
 
-pub fn answered(pool: &[u8], starts: &[u32], start: usize, x: Interval) -> Found
-    requires { ⌜ Ready (now pool) (now starts) × FoundOk (length (stringsOf (now pool))) x × (start ≤ 4194304) × (length (now pool) ≤ 4194304) ⌝ }
-    ensures { λ r. ⌜ r ≡ answeredOf (poolOf start (now (pool .entry))) x ⌝ }
+// The answer of an interval whose name is so many bytes at a place.
+pub fn answer_of(name: usize, length: usize, x: Interval) -> Found
+    requires { ⌜ (x .wall < 172800000) × (x .savings < 172800000) × (x .savings < x .wall + 86400000) ⌝ }
+    ensures { λ r. ⌜ r ≡ answerBy name length x ⌝ }
 {
-    let k = x.name as usize;
-    let p = strings::span_by(pool, starts, k);
     let wall = signed::milliseconds(x.wall);
     let savings = signed::milliseconds(x.savings);
     let standard = signed::milliseconds(x.wall + 86400000 - x.savings);
@@ -56,11 +55,20 @@ pub fn answered(pool: &[u8], starts: &[u32], start: usize, x: Interval) -> Found
         wall: wall,
         savings: savings,
         standard: standard,
-        name: start + p.at,
-        length: p.len,
+        name: name,
+        length: length,
         start: from,
         end: to,
     }
+}
+
+pub fn answered(pool: &[u8], starts: &[u32], start: usize, x: Interval) -> Found
+    requires { ⌜ Ready (now pool) (now starts) × FoundOk (length (stringsOf (now pool))) x × (start ≤ 4194304) × (length (now pool) ≤ 4194304) ⌝ }
+    ensures { λ r. ⌜ r ≡ answeredOf (poolOf start (now (pool .entry))) x ⌝ }
+{
+    let k = x.name as usize;
+    let p = strings::span_by(pool, starts, k);
+    answer_of(start + p.at, p.len, x)
 }
 
 // The mark is used here and nowhere else.

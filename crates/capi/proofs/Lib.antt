@@ -7,3 +7,4 @@ pub mod Walk
 pub mod LocationLaws
 pub mod OldLaws
 pub mod ToolLaws
+pub mod ZoneLaws

@@ -8,6 +8,8 @@ ghost use Rattle.transitions.specs.Transition.{readMoment};
 ghost use Rattle.texts.specs.Text.{readText, textForm};
 ghost use Rattle.field_checks.specs.Check.{versionOf};
 ghost use Rattle.questions.specs.Question.{ask as askOf, askPlain};
+ghost use Rattle.found_zones.specs.FoundZone.{askZone};
+ghost use Rattle.zone_replies.specs.Zones.{zoneBy};
 ghost use Rattle.named_fields.specs.Named.{askNamed};
 ghost use Rattle.old_counts.specs.OldCount.{readOldCount, oldCountForm};
 ghost use Rattle.old_offsets.specs.OldOffset.{readOldOffset, oldOffsetForm};
@@ -21,7 +23,7 @@ ghost use Rattle.receivers.specs.Receive.{fresh, Adds};
 ghost use Rattle.replies.specs.Reply.{Gives, Puts};
 ghost use Rattle.replies.specs.Functions.{readReply, numberReply, textReply, momentReply, previousOf, integerForm};
 ghost use Rattle.file_replies.specs.Functions.{markOf, answerReply, versionReply, editionOf};
-ghost use Rattle.capi_contracts.specs.Functions.{MapsLocal, kindForm, StepsView, Normalizes, FillsStarts, ListsDifference, ClosesPool};
+ghost use Rattle.capi_contracts.specs.Functions.{FindsFoundZone, MapsLocal, kindForm, StepsView, Normalizes, FillsStarts, ListsDifference, ClosesPool};
 ghost use Rattle.capi_contracts.specs.Received.{askReceived, askPlainReceived, askNamedReceived, locationReceived, MapsReceived, versionReceived, NormalizesReceived};
 ghost use Rattle.file_locations.specs.ByField.{locationBy};
 ghost use Rattle.location_replies.specs.Locations.{GivesLocation};
@@ -102,6 +104,32 @@ pub extern "C" fn nzd_ask_named_old(
 {
     let edition = file_replies::edition_of(first);
     let a = old_named_questions::ask_named_old(file, older, name, ticks, edition);
+    file_replies::give_answer(a, out)
+}
+
+// A zone, found once for repeated questions.
+#[no_mangle]
+pub extern "C" fn nzd_find_zone(file: &[u8], id: &[u8], out: &mut [u64; 5]) -> u64
+    ensures { λ r. ⌜ FindsFoundZone (now (file .entry)) (now (id .entry)) (now (out .entry)) r (now (out .exit)) ⌝ }
+{
+    let x = found_zones::find_zone(file, id);
+    zone_replies::give_zone(x, out)
+}
+
+// The question on a found zone, whatever its numbers are.
+#[no_mangle]
+pub extern "C" fn nzd_ask_zone(
+    file: &[u8],
+    zone: &[u64; 5],
+    ticks: i64,
+    first: bool,
+    out: &mut [i64; 7],
+) -> u64
+    ensures { λ r. ⌜ Gives (answerReply (askZone (now (file .entry)) (zoneBy (now (zone .entry))) ticks (editionOf first))) (now (out .entry)) r (now (out .exit)) ⌝ }
+{
+    let v = zone_replies::zone_by(zone);
+    let edition = file_replies::edition_of(first);
+    let a = found_zones::ask_zone(file, v, ticks, edition);
     file_replies::give_answer(a, out)
 }
 

@@ -10,6 +10,9 @@ use Rattle.transitions.specs.Transition.{momentForm}
 use Rattle.frames.specs.Machine.{walk}
 use Rattle.answers.specs.Answers.{noPool}
 use Rattle.locate.specs.Asked.{holder}
+use Rattle.found_zones.specs.FoundZone.{FindsZone}
+use Rattle.found_zones.specs.declared.Finding.{Finding}
+use Rattle.zone_replies.specs.Zones.{GivesZone}
 use Rattle.rewrite.specs.Preferred.{rewriteOf, outputOf}
 use Rattle.wall_times.specs.WallTime.{MapsTo}
 use Rattle.wall_times.specs.declared.Mapping.{Mapping}
@@ -28,6 +31,13 @@ use Rattle.tool_replies.specs.Functions.{fillingReply, listingReply, closedResu
 pub record Normalizes (f d : List ℕ) (r : ℕ) (e : List ℕ) : Type 0 where
   pub result : r ≡ rewrittenResult (rewriteOf f d)
   pub output : e ≡ outputOf f d
+
+-- the result r and the output e at the return of finding a zone, where the output was d: what was found is said by the questions
+-- (FindsZone in found_zones)
+pub record FindsFoundZone (f id d : List ℕ) (r : ℕ) (e : List ℕ) : Type 0 where
+  pub finding : Finding
+  pub finds : FindsZone f id finding
+  pub gives : GivesZone finding d r e
 
 -- the result r and the output e at the return of a local time's mapping, where the output was d. MapsTo leaves one mapping (map-one in
 -- wall_times)

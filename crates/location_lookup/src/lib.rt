@@ -45,7 +45,7 @@ pub enum NextPair {
 }
 
 // The bytes from a to e; none where they are not all there.
-fn lent<'a>(s: &'a [u8], a: usize, e: usize) -> &'a [u8]
+pub fn lent<'a>(s: &'a [u8], a: usize, e: usize) -> &'a [u8]
     ensures { λ r. ⌜ now r ≡ lentPart (now (s .entry)) a e ⌝ }
 {
     if s.len() < e {
@@ -58,7 +58,7 @@ fn lent<'a>(s: &'a [u8], a: usize, e: usize) -> &'a [u8]
 }
 
 // Where the string with the number k lies, of the pool whose data go from b to c.
-fn text_in(s: &[u8], b: usize, c: usize, k: u64) -> Span
+pub fn text_in(s: &[u8], b: usize, c: usize, k: u64) -> Span
     ensures { λ r. ⌜ r ≡ textIn (now (s .entry)) b c k ⌝ }
 {
     let d = lent(s, b, c);

@@ -1,5 +1,5 @@
-/* FILE ask|kept ROUNDS QUESTIONS ZONE...: asks the library for the offsets of the zones in turn, each time anew or over tables that
-   are kept. Prints their sum in seconds, and the least time of a question in ns. */
+/* FILE ask|zone|kept ROUNDS QUESTIONS ZONE...: asks the library for the offsets of the zones in turn: each time anew, of zones that were
+   found once, or over tables that are kept. Prints their sum in seconds, and the least time of a question in ns. */
 #define _POSIX_C_SOURCE 200809L
 #include <inttypes.h>
 #include <nzd.h>
@@ -19,6 +19,8 @@ static struct kept {
     int64_t starts[MOST], offsets[MOST];
     size_t count;
 } kept[16];
+
+static struct nzd_zone found[16];
 
 static void fail(const char *what) {
     fprintf(stderr, "ours: %s\n", what);
@@ -41,11 +43,22 @@ static void keep(const char *zone, struct kept *k) {
     }
 }
 
-static int64_t offset(const char *zone, const struct kept *k, int64_t ticks) {
-    struct nzd_search found;
-    if (k == NULL || ticks >= horizon) return ask(zone, ticks).wall_ms;
-    if (nzd_find_start(k->starts, k->count, ticks, &found) != NZD_ANSWERED) fail("no table");
-    return k->offsets[found.entry];
+static void find(const char *zone, struct nzd_zone *z) {
+    uint64_t r = nzd_find_zone(file, n, (const uint8_t *)zone, strlen(zone), z);
+    if (r != NZD_ANSWERED) fail(nzd_words(nzd_number_of(r)));
+}
+
+static int64_t of_kept(const char *zone, const struct kept *k, int64_t ticks) {
+    struct nzd_search at;
+    if (ticks >= horizon) return ask(zone, ticks).wall_ms;
+    if (nzd_find_start(k->starts, k->count, ticks, &at) != NZD_ANSWERED) fail("no table");
+    return k->offsets[at.entry];
+}
+
+static int64_t of_found(const struct nzd_zone *z, int64_t ticks) {
+    struct nzd_answer out;
+    if (nzd_ask_zone(file, n, z, ticks, false, &out) != NZD_ANSWERED) fail("no zone");
+    return out.wall_ms;
 }
 
 static double now(void) {
@@ -55,14 +68,18 @@ static double now(void) {
 }
 
 int main(int argc, char **argv) {
-    if (argc < 6 || argc > 21) fail("takes FILE ask|kept ROUNDS QUESTIONS and up to 16 zones");
+    if (argc < 6 || argc > 21) fail("takes FILE ask|zone|kept ROUNDS QUESTIONS and up to 16 zones");
     FILE *in = fopen(argv[1], "rb");
     if (in == NULL) fail(argv[1]);
     n = fread(file, 1, sizeof file, in);
     fclose(in);
-    int keeps = strcmp(argv[2], "kept") == 0, rounds = atoi(argv[3]), questions = atoi(argv[4]), zones = argc - 5;
+    char mode = argv[2][0];
+    int rounds = atoi(argv[3]), questions = atoi(argv[4]), zones = argc - 5;
     char **zone = argv + 5;
-    for (int i = 0; keeps && i < zones; i++) keep(zone[i], &kept[i]);
+    for (int i = 0; i < zones; i++) {
+        if (mode == 'k') keep(zone[i], &kept[i]);
+        if (mode == 'z') find(zone[i], &found[i]);
+    }
     double least = 1e18;
     int64_t sum = 0;
     for (int round = 0; round < rounds; round++) {
@@ -70,7 +87,9 @@ int main(int argc, char **argv) {
         sum = 0;
         for (int i = 0; i < questions; i++) {
             int at = i % zones;
-            sum += offset(zone[at], keeps ? &kept[at] : NULL, INT64_C(1700000) * i * NZD_TICKS_PER_SECOND) / 1000;
+            int64_t ticks = INT64_C(1700000) * i * NZD_TICKS_PER_SECOND;
+            int64_t ms = mode == 'k' ? of_kept(zone[at], &kept[at], ticks) : mode == 'z' ? of_found(&found[at], ticks) : ask(zone[at], ticks).wall_ms;
+            sum += ms / 1000;
         }
         double time = (now() - start) / questions;
         if (time < least) least = time;

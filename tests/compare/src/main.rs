@@ -26,6 +26,7 @@ mod tools;
 mod traces;
 mod walks;
 mod whole;
+mod zones;
 
 use second_reader::generate::Prng;
 use std::process::ExitCode;
@@ -83,6 +84,7 @@ fn compare(tally: &mut Tally, options: &Options, files: &[(String, Vec<u8>)]) ->
     codes::all(tally, &mut prng, code_rounds).map_err(named("a small code"))?;
     older::all(tally, &mut prng, code_rounds).map_err(named("an older code"))?;
     starts::worked(tally, &mut prng, code_rounds).map_err(named("a table"))?;
+    zones::all(tally, &mut prng, code_rounds, files).map_err(named("a found zone"))?;
     let start = Instant::now();
     for round in 1.. {
         let enough = match options.until {

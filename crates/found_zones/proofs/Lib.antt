@@ -1,0 +1,4 @@
+pub mod SpanLaws
+pub mod FindLaws
+pub mod AskLaws
+pub mod InsideLaws

@@ -1,0 +1,31 @@
+use Rattle.found_zones.proofs.AskLaws.{in-denied, in-ok, in-found}
+use borrow.Author.Needs.{needs}
+use Rattle.found_zones.proofs.answer_in.Statement.{statement}
+use Rattle.found_zones.proofs.answer_in.Tie as tie
+
+answer-of-requires : tie.Need-answer-of-requires
+answer-of-requires c κs =
+    let k = in-ok _ (c .before .before .before .before .before .before .before .before .before .args .v) _ _ _ _ _ _ (c .before .before .before .before .before .before .before .lent .ensures) (c .before .before .before .before .before .before .room .ensures) (c .before .before .before .before .before .lent2 .ensures) (c .before .before .before .before .find .ensures) _ (c .before .before .x .given .1) (c .before .before .before .before .before .before .before .before .before .pre) in
+    (k .wall-high, k .savings-high, k .standard-low)
+
+returns : tie.Need-returns
+returns c = in-denied _ _ _ _ _ _ _ _ (c .before .before .before .before .before .before .before .lent .ensures) (c .before .before .before .before .before .before .room .ensures) (c .before .before .before .before .before .lent2 .ensures) (c .before .before .before .before .find .ensures) _ _ (c .before .before .n .given .1) (c .place-in .ensures)
+
+returns-2 : tie.Need-returns-2
+returns-2 c = in-found _ _ _ _ _ _ _ _ (c .before .before .before .before .before .before .before .before .lent .ensures) (c .before .before .before .before .before .before .before .room .ensures) (c .before .before .before .before .before .before .lent2 .ensures) (c .before .before .before .before .before .find .ensures) _ (c .before .before .before .x .given .1) _ _ (c .before .text-in .ensures) (c .answer-of .ensures)
+
+pub answer-in-spec : {M : Type 1} → statement M
+answer-in-spec =
+    tie.close
+    (tie.spec
+    (λ c κs. search needs)
+    (λ c κs. search needs)
+    (λ c κs. search needs)
+    (λ c κs. search needs)
+    (λ c. search needs)
+    (λ c κs. search needs)
+    (λ c. search needs)
+    (λ c κs. search needs)
+    answer-of-requires
+    returns
+    returns-2)

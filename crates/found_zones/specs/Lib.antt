@@ -1,0 +1,2 @@
+pub mod FoundZone
+pub mod View

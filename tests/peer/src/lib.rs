@@ -1,7 +1,7 @@
 //! A quick reader of `.nzd` files in safe Rust: the peer that the proved reader's speed is measured against.
 //!
 //! It makes the same checks in the same order, over slices and in one pass, and has every shortcut that the proved
-//! reader has. Beyond those, a replay keeps the zones that it has read, a difference goes straight to its window and ends
+//! reader has but the runs of five-byte intervals. Beyond those, a replay keeps the zones that it has read, a difference goes straight to its window and ends
 //! where both tails are the same, a search has no branches, and a pool that is in order already is copied.
 //!
 //! It allocates the index of the pool's strings, for a whole-file check and for a replay the table of zone

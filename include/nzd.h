@@ -25,9 +25,9 @@
  * yours.
  *
  * Stack, measured and not proved (tests/bench/stack/run): up to 296 KB for nzd_close_pool, 80 KB for nzd_normalize, 72 KB
- * for nzd_version_text, nzd_location, nzd_ask_named_old and nzd_difference, 64 KB for nzd_ask_named, 43 KB for
- * nzd_map_local, 40 KB for nzd_ask, nzd_ask_plain, nzd_find_zone, nzd_replay and nzd_interval_starts, as much for the same
- * of a receiver, 2 KB for nzd_ask_zone, below 1 KB for nzd_find_start, nzd_receiver_add and a small code.
+ * for nzd_version_text, nzd_location, nzd_ask_named_old and nzd_difference, 64 KB for nzd_ask_named, 56 KB for nzd_replay,
+ * 43 KB for nzd_map_local, 40 KB for nzd_ask, nzd_ask_plain, nzd_find_zone and nzd_interval_starts, as much for the same of
+ * a receiver, 2 KB for nzd_ask_zone and nzd_map_zone_local, below 1 KB for nzd_find_start, nzd_receiver_add and a small code.
  */
 #ifndef NZD_H
 #define NZD_H
@@ -211,6 +211,13 @@ struct nzd_local {
  */
 uint64_t nzd_map_local(const uint8_t *file, size_t n, const uint8_t *id, size_t id_n, int64_t local,
                        struct nzd_local *out);
+
+/*
+ * The same of a found zone: on the bytes that it was found in it gives what nzd_map_local gives, at every local time, and reads
+ * that zone alone. With any other bytes and any numbers it is still safe: a fault of the zone that the numbers name comes first,
+ * as from nzd_ask_zone, then 17 if there is no such instant of that zone.
+ */
+uint64_t nzd_map_zone_local(const uint8_t *file, size_t n, const struct nzd_zone *zone, int64_t local, struct nzd_local *out);
 
 /* A place on the map, in degrees north and east: whole seconds divided by 3600, rounded once. */
 struct nzd_pin {

@@ -96,6 +96,13 @@ mod c {
             local: i64,
             out: *mut [i64; 3],
         ) -> u64;
+        pub fn nzd_map_zone_local(
+            file: *const u8,
+            n: usize,
+            zone: *const [u64; 5],
+            local: i64,
+            out: *mut [i64; 3],
+        ) -> u64;
         pub fn nzd_location(
             file: *const u8,
             n: usize,
@@ -285,6 +292,11 @@ pub fn ask_zone(file: &[u8], zone: &[u64; 5], ticks: i64, first_edition: bool, o
 /// `nzd_map_local`.
 pub fn map_local(file: &[u8], id: &[u8], local: i64, out: &mut [i64; 3]) -> u64 {
     unsafe { c::nzd_map_local(file.as_ptr(), file.len(), id.as_ptr(), id.len(), local, out) }
+}
+
+/// `nzd_map_zone_local`.
+pub fn map_zone_local(file: &[u8], zone: &[u64; 5], local: i64, out: &mut [i64; 3]) -> u64 {
+    unsafe { c::nzd_map_zone_local(file.as_ptr(), file.len(), zone, local, out) }
 }
 
 /// `nzd_location`.

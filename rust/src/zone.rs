@@ -1,7 +1,8 @@
 //! A zone found once, for repeated questions.
 
 use crate::error::decode;
-use crate::{answer, ffi, Answer, Bound, Edition, Error};
+use crate::local::instants;
+use crate::{answer, ffi, Answer, Bound, Edition, Error, LocalInstants};
 
 /// A zone of a file that is all there, found once: a question on it reads the zone alone, where [`ask`](crate::ask) walks
 /// over all before it each time. It holds the lent file and a few numbers, so a copy costs nothing.
@@ -15,6 +16,8 @@ use crate::{answer, ffi, Answer, Bound, Edition, Error};
 /// let zone = Zone::find(file, "A")?;
 /// assert_eq!(zone.ask(change - 1, Edition::Two)?.wall_offset_ms, 3_600_000);
 /// assert_eq!(zone.ask(change, Edition::Two), nzd::ask(file, "A", change, Mark::ThisIsAll, Edition::Two));
+/// assert_eq!(zone.offset_at(change)?, 0);
+/// assert_eq!(zone.map_local(change), nzd::map_local(file, "A", change)?);
 /// assert_eq!(zone.intervals(nzd::FIRST_INSTANT, Edition::Two).count(), 2);
 ///
 /// assert_eq!(Zone::find(file, "B").unwrap_err().number, Number::NotFound);
@@ -48,6 +51,23 @@ impl<'a> Zone<'a> {
         let mut out = [0; 7];
         decode(ffi::ask_zone(self.file, &self.places, ticks, edition == Edition::One, &mut out))?;
         Ok(answer(self.file, out))
+    }
+
+    /// The wall offset in milliseconds at the instant `ticks`; both editions have the same.
+    ///
+    /// # Errors
+    ///
+    /// [`Number::InstantOutOfRange`](crate::Number::InstantOutOfRange) only.
+    pub fn offset_at(&self, ticks: i64) -> Result<i64, Error> {
+        self.ask(ticks, Edition::Two).map(|answer| answer.wall_offset_ms)
+    }
+
+    /// Asks which instants read as the local time `local`: what [`map_local`](crate::map_local) gives.
+    pub fn map_local(&self, local: i64) -> LocalInstants {
+        let mut out = [0; 3];
+        let result = ffi::map_zone_local(self.file, &self.places, local, &mut out);
+        // A zone that was found in these bytes is well formed, so the one refusal is that no instant reads so.
+        instants(result, out).unwrap_or(LocalInstants::None)
     }
 
     /// The intervals from the one that holds the instant `ticks` to the last, as by [`intervals`](crate::intervals).

@@ -1,6 +1,6 @@
 //! A zone found once answers as the file does.
 
-use nzd::{ask, ffi, intervals, Edition, Error, Mark, Number, Zone, FIRST_INSTANT, LAST_INSTANT};
+use nzd::{ask, ffi, intervals, map_local, Edition, Error, Mark, Number, Zone, FIRST_INSTANT, LAST_INSTANT};
 
 const INSTANTS: [i64; 8] = [
     FIRST_INSTANT,
@@ -66,6 +66,11 @@ fn every_zone_answers_as_the_file() {
             }
             let out = Err(Error { number: Number::InstantOutOfRange, place: 0 });
             assert_eq!(zone.ask(LAST_INSTANT + 1, edition), out);
+        }
+        for ticks in INSTANTS {
+            let answer = ask(&file, id, ticks, Mark::ThisIsAll, Edition::Two).expect("an answer");
+            assert_eq!(zone.offset_at(ticks), Ok(answer.wall_offset_ms));
+            assert_eq!(Ok(zone.map_local(ticks)), map_local(&file, id, ticks));
         }
         let some = intervals(&file, id, 0, Mark::ThisIsAll, Edition::Two).take(50);
         assert!(zone.intervals(0, Edition::Two).take(50).eq(some));

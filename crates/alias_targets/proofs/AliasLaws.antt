@@ -1,5 +1,6 @@
 -- What field 3 says to the named question, a law for each way out of the code. Assumes nothing.
 use mathlib.Core.Path.{_≡_, refl, sym, ap, _∙_, subst}
+use mathlib.Core.Bool.{true}
 use mathlib.Core.List.{List, []}
 use Prim.Native.Nat.{ℕ, _<_}
 use lib.ListN.{length, getD}
@@ -18,10 +19,11 @@ use Rattle.alias_lookup.specs.declared.Target.the-variants.{Zone as ToZone, Unk
 use Rattle.alias_lookup.proofs.LookupLaws.{same-way, SameWay}
 use Rattle.frames.specs.Machine.{Out, found, refused, from}
 use Rattle.locate.specs.Asked.{Held, held, holder}
-use Rattle.locate.specs.View.{part, poolAt, LocatedAs}
+use Rattle.locate.specs.View.{part, poolAt}
 use Rattle.locate.specs.declared.Located.{Located}
 use Rattle.locate.specs.declared.Located.the-variants.{Refused}
 use Rattle.locate.proofs.WalkingLaws.{located-out}
+use Rattle.asked_zones.specs.Known.{WalkedAs}
 use Rattle.named_fields.specs.Named.{Seen, zoneIn, Known, resolved, aliasSays}
 use Rattle.named_fields.specs.View.{knownAt, stringsAt, Flags, stateFrom, told, NamedAs, contentOut, JudgedAliases}
 
@@ -79,14 +81,14 @@ module _ (x s : List ℕ) (a e place d q : ℕ) (fl : List ℕ) (v : Verdict) (h
     alias-deep y =
         record { means = λ zs prev f m. let w = way zs f deep (sym (r .means) ∙ ap (namedAt ts) y) in denied 18 zs (good zs ∙ rw w) }
 
-    -- the walk to the zone with the target's ID comes to that zone
+    -- the walk to the zone with the target's ID comes to that zone, which is known
     pub alias-zone : (n : ℕ) → g ≡ ToZone n → (y : List ℕ) → y ≡ getD ts n [] → (l : Located)
-        → LocatedAs s (poolAt s a e) (from (holder y) (stateFrom s a e e 0)) l → JudgedAliases x s a e place d q fl l
+        → WalkedAs true s (poolAt s a e) (from (holder y) (stateFrom s a e e 0)) l → JudgedAliases x s a e place d q fl l
     alias-zone n i y j l w =
         record {
           means = λ zs prev f m. let u = way zs f (here (getD ts n [])) (sym (r .means) ∙ ap (namedAt ts) i) in
               let p = m .one y (u .0) (rw j (u .1)) in
-              let o = located-out w in
+              let o = located-out (w .means (λ t. (held (poolAt s a e) (u .0), p .0, p .1))) in
               let v : out zs ≡ found (held (poolAt s a e) (u .0)) place = good zs ∙ rw (u .2) in
               record { within = o .0; goes = ap told v ∙ ap told (sym (sym (o .1) ∙ p .1)) };
         }

@@ -34,13 +34,14 @@ pub fn follow(
             match t {
                 Target::Unknown => Located::Refused(12, place),
                 Target::Deep => Located::Refused(18, place),
-                Target::Zone(k) => locate::walk_zones(
+                Target::Zone(k) => asked_zones::walk_zones(
                     s,
                     starts,
                     start,
                     end,
                     count,
                     strings::text_by(&s[start..end], starts, k),
+                    true,
                 ),
             }
         }

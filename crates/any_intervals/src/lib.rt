@@ -6,8 +6,10 @@ use intervals::IntervalRead;
 ghost use mathlib.Core.Path.{_≡_};
 ghost use Prim.Native.Nat.{_≤_};
 ghost use lib.ListN.{length, drop};
+ghost use Rattle.base.specs.Parsed.{parse};
 ghost use Rattle.offsets.specs.Offset.{inDay};
-ghost use Rattle.places.specs.Placed.{Stands};
+ghost use Rattle.transitions.specs.Transition.{readMoment};
+ghost use Rattle.places.specs.Placed.{Stands, ofRead};
 ghost use Rattle.intervals.specs.Interval.{standardSum, rises as risesOf, parseDetails, parseInterval};
 ghost use Rattle.intervals.specs.Scan.{ofInterval};
 
@@ -64,6 +66,61 @@ fn read_details(s: &[u8], at: usize, pool: u64, m: u64) -> IntervalRead
     }
 }
 
+// The same. The usual offsets take no call.
+fn usual_details(s: &[u8], at: usize, pool: u64, m: u64) -> IntervalRead
+    requires { ⌜ at ≤ length (now s) ⌝ }
+    ensures { λ r. ⌜ Stands (now (s .entry)) (parseDetails pool m (drop at (now (s .entry)))) (ofInterval r) ⌝ }
+{
+    match places::name_at(s, at, pool) {
+        Read::Refused(k) => IntervalRead::Refused(k),
+        Read::Value(n, a) => {
+            if 5 < s.len() - a {
+                let w = usual_sums::usual_sum(s, a);
+                if w != 0 {
+                    let b = a + usual_sums::usual_size(s[a]);
+                    let v = usual_sums::usual_sum(s, b);
+                    if v != 0 {
+                        if standard_ok(w, v) {
+                            return IntervalRead::Got(
+                                Interval {
+                                    start: m,
+                                    name: n,
+                                    wall: w,
+                                    savings: v,
+                                },
+                                b + usual_sums::usual_size(s[b]),
+                            );
+                        }
+                        return IntervalRead::Refused(10);
+                    }
+                }
+            }
+            read_details(s, at, pool, m)
+        }
+    }
+}
+
+// An interval's start. The mark and ticks, with which a list begins, take no call.
+fn start_at(s: &[u8], at: usize, prev: u64) -> Read
+    requires { ⌜ at ≤ length (now s) ⌝ }
+    ensures { λ r. ⌜ Stands (now (s .entry)) (parse (readMoment prev) (drop at (now (s .entry)))) (ofRead r) ⌝ }
+{
+    if s.len() - at < 9 {
+        return places::moment_at(s, at, prev);
+    }
+    if s[at] == 0 {
+        return Read::Value(0, at + 1);
+    }
+    if s[at] == 2 {
+        let raw = counts::fixed_from(&s[at + 1..], 8, 0);
+        let t = signed::from_raw(raw);
+        if t != 0 {
+            return Read::Value(t, at + 9);
+        }
+    }
+    places::moment_at(s, at, prev)
+}
+
 // An interval after the start prev, code by code.
 pub fn read_any_interval(s: &[u8], at: usize, pool: u64, prev: u64) -> IntervalRead
     requires { ⌜ at ≤ length (now s) ⌝ }
@@ -74,6 +131,22 @@ pub fn read_any_interval(s: &[u8], at: usize, pool: u64, prev: u64) -> IntervalR
         Read::Value(m, e) => {
             if rises(prev, m) {
                 return read_details(s, e, pool, m);
+            }
+            IntervalRead::Refused(10)
+        }
+    }
+}
+
+// The same, for the scan of a list: the usual ones take no call. It has one caller, so that the compiler puts it there whole.
+pub fn read_usual_interval(s: &[u8], at: usize, pool: u64, prev: u64) -> IntervalRead
+    requires { ⌜ at ≤ length (now s) ⌝ }
+    ensures { λ r. ⌜ Stands (now (s .entry)) (parseInterval pool prev (drop at (now (s .entry)))) (ofInterval r) ⌝ }
+{
+    match start_at(s, at, prev) {
+        Read::Refused(k) => IntervalRead::Refused(k),
+        Read::Value(m, e) => {
+            if rises(prev, m) {
+                return usual_details(s, e, pool, m);
             }
             IntervalRead::Refused(10)
         }

@@ -113,7 +113,7 @@ module _ (bs id : List ℕ) (z : ℤ) (mark : Mark) (ed : Edition) (l : length b
       (λ e. named-finish-small (eqb-false (instantOf z) 0 e) (walk (naming (answerAt ed (instantOf z)) id) nothing bs) refl
       (walk-near (naming (answerAt ed (instantOf z)) id) nothing bs))
 
-bounded-small : (m : Mapping) → Bounded m → SmallMapping m
+pub bounded-small : (m : Mapping) → Bounded m → SmallMapping m
 bounded-small (Instants n a b) h = record { to = omega (arith, h .to) }
 bounded-small (Unmapped n p) h = record { to = h .to }
 

@@ -29,7 +29,8 @@ use Rattle.halving.proofs.StepLaws.{find-none}
 use Rattle.halving.proofs.HalvingLaws.{halving-finds}
 use Rattle.traces.specs.Trace.{recordCount, recordsAt, namesAt, traceOk}
 use Rattle.traces.proofs.TraceLaws.{trace-fits}
-use Rattle.replay.specs.Reports.{agrees, firstWrong, replay}
+use Rattle.trace_records.specs.Record.{agrees}
+use Rattle.replay.specs.Reports.{firstWrong, replay}
 use Rattle.replay.specs.declared.Report.{Report}
 use Rattle.zone_starts.specs.Starts.{startsOf}
 use Rattle.starts.specs.Table.{entriesOf, filledAt, FillsFrom}

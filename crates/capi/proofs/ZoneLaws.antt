@@ -16,9 +16,12 @@ use Rattle.found_zones.specs.declared.FoundZone.{FoundZone}
 use Rattle.found_zones.specs.declared.Finding.{Finding}
 use Rattle.found_zones.specs.declared.Finding.the-variants.{Zone, Refused as Nowhere}
 use Rattle.found_zones.proofs.InsideLaws.{zone-name, zone-place}
-use Rattle.file_replies.specs.Small.{SmallAnswer}
+use Rattle.wall_times.specs.declared.Mapping.{Mapping}
+use Rattle.zone_wall_times.specs.ZoneMapping.{MapsZone}
+use Rattle.zone_wall_times.proofs.ZoneMapLaws.{zone-bounded}
+use Rattle.file_replies.specs.Small.{SmallAnswer, SmallMapping}
 use Rattle.zone_replies.specs.Small.{SmallFinding}
-use Rattle.capi.proofs.SmallLaws.{ask-small}
+use Rattle.capi.proofs.SmallLaws.{ask-small, bounded-small}
 
 epoch-in : InRange (pos 0)
 unfolding biasedOf
@@ -36,3 +39,6 @@ zone-small f v z ed l = go (askZone f v z ed) refl
     go : (a : Answer) → askZone f v z ed ≡ a → SmallAnswer a
     go (In x) e = let i = zone-name f v z ed x e in record { to = (omega arith, omega arith) }
     go (Refused n p) e = record { to = zone-place f v z ed n p e }
+
+pub zone-map-small : (f : List ℕ) (v : FoundZone) (local : ℤ) (m : Mapping) → MapsZone f v local m → SmallMapping m
+zone-map-small f v local m h = bounded-small m (zone-bounded f v local m h)

@@ -23,7 +23,7 @@ ghost use Rattle.receivers.specs.Receive.{fresh, Adds};
 ghost use Rattle.replies.specs.Reply.{Gives, Puts};
 ghost use Rattle.replies.specs.Functions.{readReply, numberReply, textReply, momentReply, previousOf, integerForm};
 ghost use Rattle.file_replies.specs.Functions.{markOf, answerReply, versionReply, editionOf};
-ghost use Rattle.capi_contracts.specs.Functions.{FindsFoundZone, MapsLocal, kindForm, StepsView, Normalizes, FillsStarts, ListsDifference, ClosesPool};
+ghost use Rattle.capi_contracts.specs.Functions.{FindsFoundZone, MapsLocal, MapsZoneLocal, kindForm, StepsView, Normalizes, FillsStarts, ListsDifference, ClosesPool};
 ghost use Rattle.capi_contracts.specs.Received.{askReceived, askPlainReceived, askNamedReceived, locationReceived, MapsReceived, versionReceived, NormalizesReceived};
 ghost use Rattle.file_locations.specs.ByField.{locationBy};
 ghost use Rattle.location_replies.specs.Locations.{GivesLocation};
@@ -34,7 +34,7 @@ ghost use Rattle.tool_replies.specs.Functions.{searchReply, reportReply};
 pub extern "C" fn nzd_normalize(file: &[u8], out: &mut [u8]) -> u64
     ensures { λ r. ⌜ Normalizes (now (file .entry)) (now (out .entry)) r (now (out .exit)) ⌝ }
 {
-    let r = rewrite::normalize(file, out);
+    let r = normalizing::normalize(file, out);
     file_replies::rewritten_result(r)
 }
 
@@ -52,7 +52,7 @@ pub extern "C" fn nzd_ask(
 {
     let mark = file_replies::mark_of(more);
     let edition = file_replies::edition_of(first);
-    let a = questions::ask(file, id, ticks, mark, edition);
+    let a = marked_questions::ask(file, id, ticks, mark, edition);
     file_replies::give_answer(a, out)
 }
 
@@ -68,7 +68,7 @@ pub extern "C" fn nzd_ask_plain(
     ensures { λ r. ⌜ Gives (answerReply (askPlain (now (file .entry)) (now (id .entry)) ticks (editionOf first))) (now (out .entry)) r (now (out .exit)) ⌝ }
 {
     let edition = file_replies::edition_of(first);
-    let a = questions::ask_plain(file, id, ticks, edition);
+    let a = marked_questions::ask_plain(file, id, ticks, edition);
     file_replies::give_answer(a, out)
 }
 
@@ -103,7 +103,7 @@ pub extern "C" fn nzd_ask_named_old(
     ensures { λ r. ⌜ Gives (answerReply (askNamedOld (now (file .entry)) (now (older .entry)) (now (name .entry)) ticks (editionOf first))) (now (out .entry)) r (now (out .exit)) ⌝ }
 {
     let edition = file_replies::edition_of(first);
-    let a = old_named_questions::ask_named_old(file, older, name, ticks, edition);
+    let a = old_name_answers::ask_named_old(file, older, name, ticks, edition);
     file_replies::give_answer(a, out)
 }
 
@@ -142,6 +142,21 @@ pub extern "C" fn nzd_map_local(file: &[u8], id: &[u8], local: i64, out: &mut [i
     file_replies::give_mapping(m, out)
 }
 
+// The instants that read as a local time in a found zone, whatever its numbers are.
+#[no_mangle]
+pub extern "C" fn nzd_map_zone_local(
+    file: &[u8],
+    zone: &[u64; 5],
+    local: i64,
+    out: &mut [i64; 3],
+) -> u64
+    ensures { λ r. ⌜ MapsZoneLocal (now (file .entry)) (now (zone .entry)) local (now (out .entry)) r (now (out .exit)) ⌝ }
+{
+    let v = zone_replies::zone_by(zone);
+    let m = zone_wall_times::map_zone(file, v, local);
+    file_replies::give_mapping(m, out)
+}
+
 // A location by field and number.
 #[no_mangle]
 pub extern "C" fn nzd_location(
@@ -166,7 +181,7 @@ pub extern "C" fn nzd_next_country(file: &[u8], view: &mut [u64; 4], out: &mut [
     let end = view[1];
     let at = view[2];
     let left = view[3];
-    let x = location_lookup::next_country(
+    let x = country_texts::next_country(
         file,
         start as usize,
         end as usize,
@@ -198,7 +213,7 @@ pub extern "C" fn nzd_difference(
 ) -> u64
     ensures { λ r. ⌜ ListsDifference (now (file .entry)) (now (other .entry)) (now (id .entry)) first last (now (out .entry)) (now (count .entry)) r (now (out .exit)) (now (count .exit)) ⌝ }
 {
-    let x = differences::difference(file, other, id, first, last, out);
+    let x = file_differences::difference(file, other, id, first, last, out);
     tool_replies::give_listing(x, count)
 }
 
@@ -483,7 +498,7 @@ pub extern "C" fn nzd_write_transition(
 pub extern "C" fn nzd_old_read_count(s: &[u8], out: &mut [i64; 2]) -> u64
     ensures { λ r. ⌜ Gives (readReply (readOldCount (now (s .entry)))) (now (out .entry)) r (now (out .exit)) ⌝ }
 {
-    let c = old_counts::read_count(s);
+    let c = old_count_readers::read_count(s);
     replies::give_read(c, out)
 }
 
@@ -491,7 +506,7 @@ pub extern "C" fn nzd_old_read_count(s: &[u8], out: &mut [i64; 2]) -> u64
 pub extern "C" fn nzd_old_read_offset(s: &[u8], out: &mut [i64; 2]) -> u64
     ensures { λ r. ⌜ Gives (numberReply (readOldOffset (now (s .entry)))) (now (out .entry)) r (now (out .exit)) ⌝ }
 {
-    let c = old_offsets::read_offset(s);
+    let c = old_offset_readers::read_offset(s);
     replies::give_number(c, out)
 }
 
@@ -507,7 +522,7 @@ pub extern "C" fn nzd_old_read_string(s: &[u8], out: &mut [i64; 2]) -> u64
 pub extern "C" fn nzd_old_read_dictionary(s: &[u8], out: &mut [i64; 2]) -> u64
     ensures { λ r. ⌜ Gives (dictionaryReply (readOldDictionary (now (s .entry)))) (now (out .entry)) r (now (out .exit)) ⌝ }
 {
-    let f = old_dictionaries::read_dictionary(s);
+    let f = old_entries::read_dictionary(s);
     old_replies::give_dictionary(f, out)
 }
 
@@ -515,7 +530,7 @@ pub extern "C" fn nzd_old_read_dictionary(s: &[u8], out: &mut [i64; 2]) -> u64
 pub extern "C" fn nzd_old_write_count(v: u64, out: &mut [u8]) -> u64
     ensures { λ r. ⌜ Puts (oldCountForm v) (now (out .entry)) r (now (out .exit)) ⌝ }
 {
-    let w = old_counts::write_count(v, out);
+    let w = old_count_writers::write_count(v, out);
     replies::written(w)
 }
 
@@ -523,7 +538,7 @@ pub extern "C" fn nzd_old_write_count(v: u64, out: &mut [u8]) -> u64
 pub extern "C" fn nzd_old_write_offset(ms: i64, out: &mut [u8]) -> u64
     ensures { λ r. ⌜ Puts (oldOffsetForm ms) (now (out .entry)) r (now (out .exit)) ⌝ }
 {
-    let w = old_offsets::write_offset(ms, out);
+    let w = old_offset_writers::write_offset(ms, out);
     replies::written(w)
 }
 
@@ -544,6 +559,6 @@ pub extern "C" fn nzd_old_write_dictionary(
 ) -> u64
     ensures { λ r. ⌜ PutsLong (oldDictionaryForm count (now (pairs .entry))) (now (out .entry)) (now (length .entry)) r (now (out .exit)) (now (length .exit)) ⌝ }
 {
-    let w = old_dictionaries::write_dictionary(count, pairs, out);
+    let w = old_dictionary_writers::write_dictionary(count, pairs, out);
     old_replies::give_length(w, length)
 }

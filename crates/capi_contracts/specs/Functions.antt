@@ -12,10 +12,11 @@ use Rattle.answers.specs.Answers.{noPool}
 use Rattle.locate.specs.Asked.{holder}
 use Rattle.found_zones.specs.FoundZone.{FindsZone}
 use Rattle.found_zones.specs.declared.Finding.{Finding}
-use Rattle.zone_replies.specs.Zones.{GivesZone}
+use Rattle.zone_replies.specs.Zones.{GivesZone, zoneBy}
 use Rattle.rewrite.specs.Preferred.{rewriteOf, outputOf}
 use Rattle.wall_times.specs.WallTime.{MapsTo}
 use Rattle.wall_times.specs.declared.Mapping.{Mapping}
+use Rattle.zone_wall_times.specs.ZoneMapping.{MapsZone}
 use Rattle.starts.specs.Table.{filledAt, tableAt}
 use Rattle.differences.specs.Difference.{differences, difference, filled}
 use Rattle.closed_files.specs.File.{closeOf, outputOf as closedOutput}
@@ -44,6 +45,12 @@ pub record FindsFoundZone (f id d : List ℕ) (r : ℕ) (e : List ℕ) : Type 0 
 pub record MapsLocal (f id : List ℕ) (local : ℤ) (d : List ℤ) (r : ℕ) (e : List ℤ) : Type 0 where
   pub mapping : Mapping
   pub maps : MapsTo f id local mapping
+  pub gives : Gives (mappingReply mapping) d r e
+
+-- the same of the found zone whose numbers are c, whatever they are (one-mapping in wall_times: MapsZone leaves one mapping)
+pub record MapsZoneLocal (f c : List ℕ) (local : ℤ) (d : List ℤ) (r : ℕ) (e : List ℤ) : Type 0 where
+  pub mapping : Mapping
+  pub maps : MapsZone f (zoneBy c) local mapping
   pub gives : Gives (mappingReply mapping) d r e
 
 -- the result r, the table e and the count n at the return of filling a table of starts, where table and count were d and c: "one call fills a lent

@@ -66,9 +66,15 @@ fn run_file(s: &[u8], id: &[u8], ticks: i64) {
     cases::say(b" | ");
     show_version(checks::version_text(s));
     cases::say(b" | ");
-    show_answer(s, questions::ask(s, id, ticks, Mark::All, Edition::Two));
+    show_answer(
+        s,
+        marked_questions::ask(s, id, ticks, Mark::All, Edition::Two),
+    );
     cases::say(b" | ");
-    show_answer(s, questions::ask(s, id, ticks, Mark::All, Edition::One));
+    show_answer(
+        s,
+        marked_questions::ask(s, id, ticks, Mark::All, Edition::One),
+    );
     cases::say(b"\n");
 }
 

@@ -30,16 +30,6 @@ use Rattle.field_readers.specs.declared.Taken.the-variants.{Refused, Keep}
 use Rattle.check_steps.specs.declared.Turn.{Turn}
 use Rattle.check_steps.specs.declared.Turn.the-variants.{Done, Next}
 
--- at the bytes' end, behind a field
-module _ (k : Kept) (p : ℕ) (o : p ≡ 4 → ⊥) where
-  pub text-seen : (k .text ≡ 0 → ⊥) → WithText (k .text) (k .len) ≡ concluded (textOf k) p
-  unfolding concluded
-  text-seen q = rw (ne-eqb (k .text) 0 q, ne-eqb p 4 o)
-
-  pub text-unseen : k .text ≡ 0 → Bare p ≡ concluded (textOf k) p
-  unfolding concluded
-  text-unseen q = rw (eq-eqb (k .text) 0 q, ne-eqb p 4 o)
-
 -- what the definition says where the code refuses, or keeps
 module _ (s ix od : List ℕ) where
   says-bad : (x : Content Memory ⊥) (m : ℕ) → Says s ix od x (Refused m) → x ≡ bad m

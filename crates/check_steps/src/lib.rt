@@ -3,11 +3,9 @@ use field_checks::Conclusion;
 use field_readers::Kept;
 use field_readers::Taken;
 use frames::Frame;
-ghost use mathlib.Core.Path.{_≡_};
 ghost use Prim.Native.Nat.{_≤_};
 ghost use lib.ListN.{length};
-ghost use Rattle.field_checks.specs.Check.{concluded};
-ghost use Rattle.field_readers.specs.Remembered.{textOf, Indexed, Ordered};
+ghost use Rattle.field_readers.specs.Remembered.{Indexed, Ordered};
 ghost use Rattle.check_steps.specs.Cursor.{Stepped};
 ghost use Rattle.check_steps.specs.Flags.{FlagsStepped};
 
@@ -22,19 +20,6 @@ pub struct Cursor {
 pub enum Turn {
     Done(Conclusion),
     Next(Cursor),
-}
-
-// The bytes end at the place at, behind whole fields or the version.
-fn conclude(at: usize, k: Kept) -> Conclusion
-    ensures { λ r. ⌜ r ≡ concluded (textOf k) at ⌝ }
-{
-    if at == 4 {
-        return Conclusion::Refused(6, at);
-    }
-    if k.text != 0 {
-        return Conclusion::WithText(k.text, k.len);
-    }
-    Conclusion::Bare(at)
 }
 
 // The frame at a cursor.
@@ -52,7 +37,7 @@ pub fn step(
     let kept = c.kept;
     let f = headers::read_frame(&s[at..], 255, at, 4 < at, c.prev);
     match f {
-        Frame::End => Turn::Done(conclude(at, kept)),
+        Frame::End => Turn::Done(field_readers::conclude(at, kept)),
         Frame::Cut => Turn::Done(Conclusion::Refused(2, at)),
         Frame::Refused(n) => Turn::Done(Conclusion::Refused(n, at)),
         Frame::Version => Turn::Next(Cursor {
@@ -62,7 +47,7 @@ pub fn step(
         }),
         Frame::Whole(i, h, n) => {
             let e = at + (h + n);
-            let t = field_readers::take_field(s, kept, i, at + h, e, index, order, flags);
+            let t = each_field::take_field(s, kept, i, at + h, e, index, order, flags);
             match t {
                 Taken::Refused(m) => Turn::Done(Conclusion::Refused(m, at)),
                 Taken::Keep(k) => Turn::Next(Cursor {

@@ -12,7 +12,6 @@ use Rattle.base.specs.Bytes.{Bytes}
 use Rattle.base.specs.Parsed.{got}
 use Rattle.base.proofs.AllLaws.{all-head, all-tail, all-map, all-left, all-right}
 use Rattle.pool.specs.Pool.{parsePool, stringsOf, stringsIn}
-use Rattle.pool.proofs.PoolLaws.{few}
 use Rattle.zones.specs.Content.{Zone}
 use Rattle.zones.specs.Sound.{Sound}
 use Rattle.zones.specs.Editions.{under}
@@ -38,13 +37,13 @@ use Rattle.renumbered_zones.proofs.LookupLaws.{lookup-renamed, lookup-name, ins
 use Rattle.renumbered_lists.specs.Renamed.{renamed}
 use Rattle.renumbered_lists.proofs.AliasLaws.{aliases-renumbered}
 use Rattle.renumbered_lists.proofs.LocationLaws.{locations-renumbered}
+use Rattle.mentioned_numbers.proofs.MentionedLaws.{names-below, copied-rest, file-below}
 use Rattle.closed_files.specs.File.{mentionsIn, newOrder, newTable, chosen, closedData, closed}
 use Rattle.closed_files.proofs.PoolLaws.{length-chosen, pool-reads-back}
 use Rattle.closed_files.proofs.PlaceLaws.{order-few, mentioned-renumbers}
 use Rattle.closed_answers.proofs.FieldsLaws.{closedAt, closedFrom, closed-listing, closed-fields}
 use Rattle.closed_answers.proofs.BesideLaws.{Pairs, no-pair, and-pair, Beside}
 use Rattle.closed_answers.proofs.SameLaws.{SameInterval, SameZone, SameZoneData, SameAliasData, SameLocationData, SameField, SameFiles}
-use Rattle.closed_answers.proofs.MentionedLaws.{names-below, numbers-rest, copied-rest, fields-below}
 
 -- a field and its closed one
 module _ (f h : List ℕ) (ts : List (List ℕ)) (order table : List ℕ) (fits : length order ≤ 8192) where
@@ -180,18 +179,10 @@ module _ (f : List ℕ) (w : WellFormed f) (b : Bytes f) (l : length (closed f) 
   unfolding strings
   strings-are = ap stringsIn (file .pool)
 
-  -- EVERY MENTIONED NUMBER is below the pool's count, and has a new number for the same string
-  pub mentioned : All (λ k. k < 8192) (mentionsIn (fields f))
-  unfolding mentionsIn strings firstStage
-  mentioned =
-      let n : numbersOf (file .first .id) (file .first .body) ≡ []
-      = ap (λ (i : ℕ). numbersOf i (file .first .body)) (file .framed .is-first) ∙ numbers-rest 0 (file .first .body) refl in
-      let m : length strings ≤ 8192 = subst (λ (ts : List (List ℕ)). length ts ≤ 8192) strings-are (few (file .first .body)) in
-      rw (f-fields, n) (all-map (λ k h. omega arith) (fields-below strings (file .others) (file .zones) (file .aliases) (file .locations)))
-
+  -- EVERY MENTIONED NUMBER has a new number for the same string
   pub renumbers : All (Renumbers strings closedStrings (newNumber table)) (mentionsIn (fields f))
   unfolding closedStrings
-  renumbers = mentioned-renumbers (fields f) strings mentioned
+  renumbers = mentioned-renumbers (fields f) strings (file-below f w b)
 
   closed-of : All (FieldOf (closed f)) (closedFrom order table 4 (file .first ∷ file .others))
   closed-of =

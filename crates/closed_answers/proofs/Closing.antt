@@ -21,6 +21,7 @@ use Rattle.field_checks.specs.declared.Verdict.the-variants.{Good, Refused as I
 use Rattle.field_checks.proofs.WellFormedLaws.{well-formed-good, good-well-formed}
 use Rattle.use_order.specs.Order.{newNumber}
 use Rattle.mentions.specs.Renumbers.{Renumbers}
+use Rattle.mentioned_numbers.proofs.MentionedLaws.{file-below}
 use Rattle.closed_files.specs.File.{mentionsIn, newOrder, newTable, closed, unreadId, firstUnread}
 use Rattle.closed_files.specs.File.{givenSized, leftSized, given, left, closeOf, outputOf}
 use Rattle.closed_files.specs.Again.{ClosedAs, closed-none, closed-also}
@@ -34,7 +35,7 @@ use Rattle.closed_answers.proofs.NamedLaws.{named-same}
 use Rattle.closed_answers.proofs.OldNamedLaws.{old-named-same}
 use Rattle.closed_answers.proofs.CheckLaws.{well-formed-same, version-same}
 use Rattle.closed_answers.proofs.LocationLaws.{location-same}
-use Rattle.closed_answers.proofs.ClosedLaws.{strings, closedStrings, mentioned, renumbers, same-files}
+use Rattle.closed_answers.proofs.ClosedLaws.{strings, closedStrings, renumbers, same-files}
 
 -- the fields of the closed file, wherever they stand
 closed-as : (order table : List ℕ) (at : ℕ) (gs : List Field) → ClosedAs order table gs (closedFrom order table at gs)
@@ -80,7 +81,7 @@ module _ (f : List ℕ) (w : WellFormed f) (b : Bytes f) (l : length (closed f) 
   closes-as-before =
       record {
         well-formed = well-formed-same f (closed f) _ _ s w;
-        again = closed-again (fields f) (fields (closed f)) (mentioned f w b l) closed-so;
+        again = closed-again (fields f) (fields (closed f)) (file-below f w b) closed-so;
         mentions = mentions-renumbered (fields f) (fields (closed f)) closed-so;
         strings = same-strings;
         total = total-kept (fields f) (fields (closed f)) closed-so;

@@ -5,7 +5,6 @@ pub mod QuestionLaws
 pub mod LookupLaws
 pub mod NamedLaws
 pub mod CheckLaws
-pub mod MentionedLaws
 pub mod ClosedLaws
 pub mod LocationLaws
 pub mod OldNamedLaws

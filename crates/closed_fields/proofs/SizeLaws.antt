@@ -7,6 +7,7 @@ use native.Mathlib.Omega.{arith}
 use lib.ListN.{length, take, length-append, length-take}
 use lib.Dec.{eqb}
 use borrow.Author.Tests.{eq-eqb, ne-eqb}
+use Rattle.base.specs.Bytes.{Bytes}
 use Rattle.base.specs.Pick.{pick}
 use Rattle.base.specs.Parsed.{Parsed, got, bad, parse}
 use Rattle.base.proofs.ParseLaws.{bind-good, got-value, got-rest}
@@ -18,10 +19,12 @@ use Rattle.pieces.proofs.PutLaws.{InTwo}
 use Rattle.use_order.specs.Order.{newNumber}
 use Rattle.mentions.specs.declared.Stage.{Stage}
 use Rattle.mentions.specs.Walk.{aheadOf, firstStage}
-use Rattle.mentions.specs.Content.{Mention, parseMention, onward, contentFrom, printMentions, print, renumbered}
+use Rattle.mentions.specs.Content.{Mention, parseMention, onward, contentFrom, numbersOf, printMentions, print, renumbered}
 use Rattle.mentions.proofs.WalkLaws.{ahead-left, count-left}
+use Rattle.mentions.proofs.AgainLaws.{renumbered-same}
 use Rattle.closed_files.specs.File.{chosen, writePool, writeField, closedData}
 use Rattle.closed_pools.proofs.TextsLaws.{pool-length, texts-most}
+use Rattle.closed_fields.specs.View.{Keeps}
 
 -- the bytes before a mention and the mention are those that it takes
 prior-most : (σ : Stage) (s : List ℕ) (m : Mention) (r : List ℕ) → parseMention σ s ≡ got m r → length (m .prior) + 1 + length r ≤ length s
@@ -75,6 +78,11 @@ data-pool order table i d h = rw (eq-eqb i 0 h)
 pub data-other : (order table : List ℕ) (i : ℕ) (d : List ℕ) → (i ≡ 0 → ⊥) → renumbered (newNumber table) i d ≡ closedData order table i d
 unfolding closedData
 data-other order table i d h = rw (ne-eqb i 0 h)
+
+-- data whose mentions keep their numbers stay
+pub data-kept : (order table : List ℕ) (i : ℕ) (d : List ℕ) (kept : Bool) → (i ≡ 0 → ⊥) → Bytes d → Keeps kept table (numbersOf i d) → kept ≡ true
+    → closedData order table i d ≡ d
+data-kept order table i d kept h b k e = sym (data-other order table i d h) ∙ renumbered-same (newNumber table) i d b (k .stay e)
 
 -- a field in two: its head, then its data
 pub head-two : (i n : ℕ) (o : List ℕ) → length (i ∷ writeCount n) ≤ length o → InTwo (i ∷ writeCount n) (i ∷ []) (writeCount n) o

@@ -5,37 +5,44 @@ ghost use Prim.Native.Nat.{_≤_};
 ghost use lib.ListN.{length};
 ghost use Rattle.counts.specs.Count.{writeCount};
 ghost use Rattle.pieces.specs.View.{Put};
+ghost use Rattle.mentions.specs.Content.{numbersOf};
 ghost use Rattle.renumbering.specs.Table.{Small};
 ghost use Rattle.closed_files.specs.File.{writeField, closedData};
-ghost use Rattle.closed_fields.specs.View.{Sized};
+ghost use Rattle.closed_fields.specs.View.{Sized, Keeps};
 
-// The length of the closed data of a field with the ID i.
-fn data_size(i: u8, d: &[u8], order: &[u64], table: &[u32]) -> usize
-    requires { ⌜ (length (now d) ≤ 4194304) × (length (now order) ≤ 8192) ⌝ }
+// The length of the closed data of a field with the ID i. Where all numbers are kept, so are the data.
+fn data_size(i: u8, d: &[u8], order: &[u64], table: &[u32], kept: bool) -> usize
+    requires { ⌜ (length (now d) ≤ 4194304) × (length (now order) ≤ 8192) × Keeps kept (now table) (numbersOf i (now d)) ⌝ }
     ensures { λ r. ⌜ r ≡ length (closedData (now (order .entry)) (now (table .entry)) i (now (d .entry))) ⌝ }
 {
     if i == 0 {
         return closed_pools::pool_size(d, order);
     }
+    if kept {
+        return d.len();
+    }
     renumbering::size(i, d, table)
 }
 
 // The length of a closed field.
-pub fn field_size(i: u8, d: &[u8], order: &[u64], table: &[u32]) -> usize
-    requires { ⌜ (length (now d) ≤ 4194304) × (length (now order) ≤ 8192) ⌝ }
+pub fn field_size(i: u8, d: &[u8], order: &[u64], table: &[u32], kept: bool) -> usize
+    requires { ⌜ (length (now d) ≤ 4194304) × (length (now order) ≤ 8192) × Keeps kept (now table) (numbersOf i (now d)) ⌝ }
     ensures { λ r. ⌜ r ≡ length (writeField i (closedData (now (order .entry)) (now (table .entry)) i (now (d .entry)))) ⌝ }
 {
-    let n = data_size(i, d, order, table);
+    let n = data_size(i, d, order, table, kept);
     1 + counts::count_size(n as u64) + n
 }
 
 // Writes the closed data of a field with the ID i.
-fn write_data(i: u8, d: &[u8], order: &[u64], table: &[u32], out: &mut [u8]) -> usize
-    requires { ⌜ (length (now order) ≤ 8192) × Small (now table) × (length (closedData (now order) (now table) i (now d)) ≤ length (now out)) ⌝ }
+fn write_data(i: u8, d: &[u8], order: &[u64], table: &[u32], kept: bool, out: &mut [u8]) -> usize
+    requires { ⌜ (length (now order) ≤ 8192) × Small (now table) × (length (closedData (now order) (now table) i (now d)) ≤ length (now out)) × Keeps kept (now table) (numbersOf i (now d)) ⌝ }
     ensures { λ r. ⌜ Put (closedData (now (order .entry)) (now (table .entry)) i (now (d .entry))) (now (out .entry)) r (now (out .exit)) ⌝ }
 {
     if i == 0 {
         return closed_pools::write_pool(d, order, out);
+    }
+    if kept {
+        return bytes::copy(d, out);
     }
     renumbering::write(i, d, table, out)
 }
@@ -50,11 +57,18 @@ fn write_head(i: u8, n: usize, out: &mut [u8]) -> usize
 }
 
 // Writes a closed field.
-pub fn write_field(i: u8, d: &[u8], order: &[u64], table: &[u32], out: &mut [u8]) -> usize
-    requires { ⌜ Sized (now order) (now table) (now d) × (length (writeField i (closedData (now order) (now table) i (now d))) ≤ 4194304) × (length (writeField i (closedData (now order) (now table) i (now d))) ≤ length (now out)) ⌝ }
+pub fn write_field(
+    i: u8,
+    d: &[u8],
+    order: &[u64],
+    table: &[u32],
+    kept: bool,
+    out: &mut [u8],
+) -> usize
+    requires { ⌜ Sized (now order) (now table) (now d) × (length (writeField i (closedData (now order) (now table) i (now d))) ≤ 4194304) × (length (writeField i (closedData (now order) (now table) i (now d))) ≤ length (now out)) × Keeps kept (now table) (numbersOf i (now d)) ⌝ }
     ensures { λ r. ⌜ Put (writeField i (closedData (now (order .entry)) (now (table .entry)) i (now (d .entry)))) (now (out .entry)) r (now (out .exit)) ⌝ }
 {
-    let n = data_size(i, d, order, table);
+    let n = data_size(i, d, order, table, kept);
     let w = write_head(i, n, out);
-    w + write_data(i, d, order, table, &mut out[w..])
+    w + write_data(i, d, order, table, kept, &mut out[w..])
 }

@@ -1,3 +1,4 @@
 pub mod CountLaws
 pub mod UnreadLaws
 pub mod WriteLaws
+pub mod PlaceLaws

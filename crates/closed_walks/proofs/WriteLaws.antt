@@ -1,9 +1,12 @@
 -- The fields of the closed file written one behind the other. Assumes nothing.
-use mathlib.Core.Path.{_≡_, refl, sym, ap, _∙_}
+use mathlib.Core.Path.{_≡_, refl, sym, ap, _∙_, subst}
+use mathlib.Core.Bool.{Bool}
 use mathlib.Core.List.{List, [], _∷_, _++_, append-nil, append-assoc}
 use Prim.Native.Nat.{ℕ, _+_, _*_, _-_, _≤_, _<_}
 use native.Mathlib.Omega.{arith}
 use lib.ListN.{length, take, length-append, length-take}
+use Rattle.base.specs.All.{All}
+use Rattle.base.proofs.AllLaws.{all-left, all-right}
 use Rattle.counts.proofs.CountLaws.{count-size}
 use Rattle.frames.specs.Frame.{Field}
 use Rattle.frames.specs.Fields.{fields}
@@ -12,11 +15,18 @@ use Rattle.pieces.proofs.PutLaws.{InTwo}
 use Rattle.whole_fields.specs.View.{IsField, partOf}
 use Rattle.whole_fields.specs.declared.Extent.{Extent}
 use Rattle.whole_fields.proofs.FieldLaws.{Turned, turned, none-left}
-use Rattle.closed_files.specs.File.{writeField, closedData, closedFields}
+use Rattle.use_order.specs.Order.{newNumber}
+use Rattle.mentions.specs.Content.{numbersOf}
+use Rattle.closed_files.specs.File.{mentionsIn, writeField, closedData, closedFields}
+use Rattle.closed_fields.specs.View.{Keeps}
 use Rattle.closed_walks.specs.View.{Walkable}
 use Rattle.closed_fields.proofs.SizeLaws.{data-most, field-length}
 
 module _ (f order table : List ℕ) where
+  -- every number that some fields mention is its own new number
+  abbrev Stay : List Field → Type 0
+  Stay gs = All (λ k. newNumber table k ≡ k) (mentionsIn gs)
+
   -- the fields before the place make `done` of the closed ones
   pub record Going (at : ℕ) (done : List ℕ) : Type 0 where
     pub rest : List Field
@@ -24,9 +34,10 @@ module _ (f order table : List ℕ) where
     pub all : closedFields order table (fields f) ≡ done ++ closedFields order table rest
     pub most : length done ≤ 21000000 * at
     pub within : at ≤ 4194304
+    pub stays : Stay (fields f) → Stay rest
 
   pub going-start : Walkable f → Going 4 []
-  going-start w = record { rest = fields f; covers = w .covers; all = refl; most = omega arith; within = omega arith }
+  going-start w = record { rest = fields f; covers = w .covers; all = refl; most = omega arith; within = omega arith; stays = λ a. a }
 
   module _ (at : ℕ) (done : List ℕ) (g : Going at done) where
     pub going-sum : length done ≤ length (closedFields order table (fields f))
@@ -39,6 +50,16 @@ module _ (f order table : List ℕ) where
     module _ (r : Extent) (l : at < length f) (i : IsField f at r) where
       pub turn : Turned f at (g .rest) r
       turn = turned f at (g .rest) r (g .covers) l i
+
+      -- the mentions of the field and of those behind it
+      stay-turned : Stay (fields f) → Stay (turn .field ∷ turn .others)
+      stay-turned a = subst Stay (turn .split) (g .stays a)
+
+      pub keeps-here : (kept : Bool) → Keeps kept table (mentionsIn (fields f)) → Keeps kept table (numbersOf (r .id) (partOf f r))
+      unfolding mentionsIn
+      keeps-here kept k =
+          let u = turn in
+          record { stay = λ e. rw (u .id, u .body) (all-left (numbersOf (u .field .id) (u .field .body)) (mentionsIn (u .others)) (stay-turned (k .stay e))) }
 
       -- the closed field
       abbrev pub closedAt : List ℕ
@@ -55,7 +76,7 @@ module _ (f order table : List ℕ) where
             rw (field-length (r .id) (closedData order table (r .id) (partOf f r))) (omega arith)
 
         pub going-next : Going (r .end) (done ++ closedAt)
-        unfolding closedFields
+        unfolding closedFields mentionsIn
         going-next =
             let u = turn in
             let m = field-most in
@@ -71,6 +92,7 @@ module _ (f order table : List ℕ) where
                   ∙ sym (append-assoc done closedAt (closedFields order table (u .others)));
               most = rw length-append (omega (arith, g .most, u .farther, u .ordered));
               within = omega (arith, u .within, w .limit);
+              stays = λ a. all-right (numbersOf (u .field .id) (u .field .body)) (mentionsIn (u .others)) (stay-turned a);
             }
 
         pub next-sum : length done + length closedAt ≤ length (closedFields order table (fields f))

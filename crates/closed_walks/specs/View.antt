@@ -1,13 +1,15 @@
 -- What the check of a file has shown, and what the functions rely on. The code's way: internal functions alone use it.
-use Prim.Native.Nat.{ℕ, _≤_, _+_}
+use Prim.Native.Nat.{ℕ, _≤_, _<_, _+_}
 use mathlib.Core.Path.{_≡_}
+use mathlib.Core.Bool.{Bool, true}
 use mathlib.Core.List.{List, [], _∷_}
-use lib.ListN.{length, take}
+use lib.ListN.{length, take, getD}
 use Rattle.renumbering.specs.Table.{Small}
 use mathlib.Core.Option.{Option, none, some}
 use Rattle.frames.specs.Fields.{fields}
 use Rattle.frames.specs.Covers.{Covers}
-use Rattle.closed_files.specs.File.{closedFields}
+use Rattle.closed_files.specs.File.{mentionsIn, closedFields}
+use Rattle.closed_fields.specs.View.{Keeps}
 use Rattle.closed_walks.specs.declared.Unread.{Unread}
 use Rattle.closed_walks.specs.declared.Unread.the-variants.{At, Nothing}
 
@@ -17,12 +19,18 @@ pub record Walkable (f : List ℕ) : Type 0 where
   pub version : take 4 f ≡ 0 ∷ 0 ∷ 0 ∷ 0 ∷ []
   pub limit : length f ≤ 4194304
 
--- an order of pool numbers and a table of new ones, for a file whose closed file is no larger than a file may be
-pub record Closable (f order table : List ℕ) : Type 0 where
+-- where kept holds, each number of an order stands at its own place
+pub record InPlace (kept : Bool) (order : List ℕ) : Type 0 where
+  pub at-place : kept ≡ true → (j : ℕ) → j < length order → getD order j 0 ≡ j
+
+-- an order of pool numbers and a table of new ones, for a file whose closed file is no larger than a file may be; and whether the file's mentions
+-- keep their numbers
+pub record Closable (f order table : List ℕ) (kept : Bool) : Type 0 where
   pub walkable : Walkable f
   pub few : length order ≤ 8192
   pub small : Small table
   pub total : 4 + length (closedFields order table (fields f)) ≤ 4194304
+  pub keeps : Keeps kept table (mentionsIn (fields f))
 
 -- the place of the first field that isn't read, as the code has it
 abbrev pub unreadOf : Option ℕ → Unread

@@ -9,7 +9,8 @@ ghost use Rattle.use_order.specs.Order.{mentionAll};
 ghost use Rattle.pieces.specs.View.{Put};
 ghost use Rattle.renumbering.specs.Table.{Fits};
 ghost use Rattle.closed_files.specs.File.{mentionsIn, closedFields, unreadId, firstUnread};
-ghost use Rattle.closed_walks.specs.View.{Walkable, Closable, unreadOf};
+ghost use Rattle.closed_fields.specs.View.{Keeps};
+ghost use Rattle.closed_walks.specs.View.{Walkable, InPlace, Closable, unreadOf};
 
 // Whether a field with the ID i is one that isn't read.
 fn is_unread(i: u8) -> bool
@@ -61,9 +62,23 @@ pub fn count_mentions(s: &[u8], uses: &mut [u32])
     }
 }
 
+// Whether each number of an order stands at its own place.
+pub fn in_place(order: &[u64]) -> bool
+    ensures { λ r. ⌜ InPlace r (now (order .entry)) ⌝ }
+{
+    let mut i: usize = 0;
+    while i < order.len() {
+        if order[i] != i as u64 {
+            return false;
+        }
+        i += 1;
+    }
+    true
+}
+
 // The length of the closed file.
-pub fn total(s: &[u8], order: &[u64], table: &[u32]) -> usize
-    requires { ⌜ Walkable (now s) × (length (now order) ≤ 8192) ⌝ }
+pub fn total(s: &[u8], order: &[u64], table: &[u32], kept: bool) -> usize
+    requires { ⌜ Walkable (now s) × (length (now order) ≤ 8192) × Keeps kept (now table) (mentionsIn (fields (now s))) ⌝ }
     ensures { λ r. ⌜ r ≡ 4 + length (closedFields (now (order .entry)) (now (table .entry)) (fields (now (s .entry)))) ⌝ }
 {
     let mut n: usize = 0;
@@ -72,15 +87,15 @@ pub fn total(s: &[u8], order: &[u64], table: &[u32]) -> usize
         let f = whole_fields::read_field(s, at);
         let a = f.start;
         let e = f.end;
-        n += closed_fields::field_size(f.id, &s[a..e], order, table);
+        n += closed_fields::field_size(f.id, &s[a..e], order, table, kept);
         at = e;
     }
     4 + n
 }
 
 // Writes the fields of the closed file.
-fn write_fields(s: &[u8], order: &[u64], table: &[u32], out: &mut [u8]) -> usize
-    requires { ⌜ Closable (now s) (now order) (now table) × (length (closedFields (now order) (now table) (fields (now s))) ≤ length (now out)) ⌝ }
+fn write_fields(s: &[u8], order: &[u64], table: &[u32], kept: bool, out: &mut [u8]) -> usize
+    requires { ⌜ Closable (now s) (now order) (now table) kept × (length (closedFields (now order) (now table) (fields (now s))) ≤ length (now out)) ⌝ }
     ensures { λ r. ⌜ Put (closedFields (now (order .entry)) (now (table .entry)) (fields (now (s .entry)))) (now (out .entry)) r (now (out .exit)) ⌝ }
 {
     let mut w: usize = 0;
@@ -89,17 +104,17 @@ fn write_fields(s: &[u8], order: &[u64], table: &[u32], out: &mut [u8]) -> usize
         let f = whole_fields::read_field(s, at);
         let a = f.start;
         let e = f.end;
-        w += closed_fields::write_field(f.id, &s[a..e], order, table, &mut out[w..]);
+        w += closed_fields::write_field(f.id, &s[a..e], order, table, kept, &mut out[w..]);
         at = e;
     }
     w
 }
 
 // Writes the closed file: the version, then the fields.
-pub fn write_file(s: &[u8], order: &[u64], table: &[u32], out: &mut [u8]) -> usize
-    requires { ⌜ Closable (now s) (now order) (now table) × (4 + length (closedFields (now order) (now table) (fields (now s))) ≤ length (now out)) ⌝ }
+pub fn write_file(s: &[u8], order: &[u64], table: &[u32], kept: bool, out: &mut [u8]) -> usize
+    requires { ⌜ Closable (now s) (now order) (now table) kept × (4 + length (closedFields (now order) (now table) (fields (now s))) ≤ length (now out)) ⌝ }
     ensures { λ r. ⌜ Put (0 ∷ 0 ∷ 0 ∷ 0 ∷ closedFields (now (order .entry)) (now (table .entry)) (fields (now (s .entry)))) (now (out .entry)) r (now (out .exit)) ⌝ }
 {
     let w = bytes::copy(&s[..4], out);
-    w + write_fields(s, order, table, &mut out[w..])
+    w + write_fields(s, order, table, kept, &mut out[w..])
 }

@@ -1,5 +1,5 @@
 -- What the check of a file has shown, and the ways out of closing up a pool. Assumes nothing.
-use mathlib.Core.Path.{_≡_, refl, sym, ap, _∙_}
+use mathlib.Core.Path.{_≡_, refl, sym, ap, _∙_, subst, subst⁻¹}
 use mathlib.Core.Bool.{Bool, true, false}
 use mathlib.Core.List.{List, [], _∷_, _++_}
 use mathlib.Core.Option.{Option, none, some}
@@ -9,6 +9,9 @@ use lib.ListN.{length, take, drop, getD, replicate, length-replicate, getD-repli
 use lib.Seq.{take-at}
 use lib.Dec.{ltb}
 use borrow.Author.Tests.{lt-ltb, le-ltb, le-leb, lt-leb, ltb-true, ltb-false}
+use Rattle.base.specs.All.{All}
+use Rattle.base.specs.Bytes.{Bytes}
+use Rattle.base.proofs.AllLaws.{all-map}
 use Rattle.base.proofs.Tests.{clash}
 use Rattle.frames.specs.Frame.{Field}
 use Rattle.frames.specs.Fields.{fields}
@@ -21,14 +24,17 @@ use Rattle.field_checks.specs.declared.Verdict.the-variants.{Good, Refused as I
 use Rattle.field_checks.proofs.WellFormedLaws.{good-well-formed}
 use Rattle.field_checks.proofs.FileLaws.{well-formed-file}
 use Rattle.pieces.specs.View.{Put}
-use Rattle.use_order.specs.Order.{mentionAll, orderOf, numberedFrom}
+use Rattle.use_order.specs.Order.{mentionAll, orderOf, numberedFrom, newNumber}
 use Rattle.use_order.specs.Fill.{Ordered}
 use Rattle.use_order.proofs.NumberLaws.{numbered-most}
 use Rattle.renumbering.specs.Table.{Fits, Small}
 use Rattle.closed_files.specs.File.{mentionsIn, newOrder, newTable, closedFields, closedFile, closed, firstUnread, givenSized, leftSized, closeOf, outputOf}
 use Rattle.closed_files.specs.declared.Closed.{Closed}
 use Rattle.closed_files.specs.declared.Closed.the-variants.{Length, Refused}
-use Rattle.closed_walks.specs.View.{Walkable, unreadOf}
+use Rattle.closed_files.proofs.PlaceLaws.{Placed, mentioned-placed}
+use Rattle.mentioned_numbers.proofs.MentionedLaws.{file-below}
+use Rattle.closed_fields.specs.View.{Keeps}
+use Rattle.closed_walks.specs.View.{Walkable, InPlace, unreadOf}
 use Rattle.closed_walks.specs.declared.Unread.{Unread}
 use Rattle.closed_walks.specs.declared.Unread.the-variants.{At, Nothing}
 
@@ -42,6 +48,10 @@ walkable f e =
     let w = good-well-formed f e in
     let c = listing-covers f (walk-ended job start (w .memory) f (length f) (w .ends) .whole) (w .some-field) in
     record { covers = c; version = well-formed-file f w .framed .version; limit = covers-limit f 4 (fields f) (omega arith) c }
+
+-- and mentions no number past the largest count of a pool
+pub below : (f : List ℕ) → checkOf f ≡ Good → Bytes f → All (λ k. k < 8192) (mentionsIn (fields f))
+below f e b = file-below f (good-well-formed f e) b
 
 unread-some : (o : Option ℕ) (p : ℕ) → unreadOf o ≡ At p → o ≡ some p
 unread-some none p e = clash cc
@@ -123,3 +133,13 @@ module _ (f uses order₀ order table : List ℕ) (n : ℕ) (u : uses ≡ mentio
 
   pub small-is : length (take n order) ≤ 8192 → Small table
   small-is h = rw t (table-small (take n order) h)
+
+  -- where the order is the numbers as they are, each mentioned number is its own new number
+  pub keeps : (kept : Bool) → All (λ k. k < 8192) (mentionsIn (fields f)) → InPlace kept (take n order) → Keeps kept table (mentionsIn (fields f))
+  keeps kept b p = record { stay = λ e. subst⁻¹ (λ (l : List ℕ). All (λ k. newNumber l k ≡ k) (mentionsIn (fields f))) table-is (all-map (stays e) (mentioned-placed (fields f) b)) }
+    where
+      places : InPlace kept (newOrder (fields f))
+      places = subst (InPlace kept) order-is p
+
+      stays : kept ≡ true → (k : ℕ) → Placed (newOrder (fields f)) (newTable (fields f)) k → newNumber (newTable (fields f)) k ≡ k
+      stays e k q = sym (places .at-place e (newNumber (newTable (fields f)) k) (q .inside)) ∙ q .is

@@ -4,13 +4,15 @@ use closed_files::Closed;
 use closed_walks::Unread;
 use field_checks::Verdict;
 ghost use mathlib.Core.Path.{_≡_};
+ghost use Prim.Native.Nat.{_<_};
+ghost use Rattle.base.specs.All.{All};
 ghost use Rattle.frames.specs.Fields.{fields};
-ghost use Rattle.closed_files.specs.File.{closedFile, givenSized, leftSized, closeOf, outputOf};
+ghost use Rattle.closed_files.specs.File.{mentionsIn, closedFile, givenSized, leftSized, closeOf, outputOf};
 ghost use Rattle.closed_walks.specs.View.{Walkable};
 
-// Closes up the pool of a file that is good and has no field that isn't read.
+// Closes up the pool of a file that is good and has no field that isn't read. Where its order is the pool's own, no mention is written anew.
 fn close_read(s: &[u8], out: &mut [u8]) -> Closed
-    requires { ⌜ Walkable (now s) ⌝ }
+    requires { ⌜ Walkable (now s) × All (λ k. k < 8192) (mentionsIn (fields (now s))) ⌝ }
     ensures { λ r. ⌜ (r ≡ givenSized (closedFile (fields (now (s .entry)))) (now (out .entry))) × (now (out .exit) ≡ leftSized (closedFile (fields (now (s .entry)))) (now (out .entry))) ⌝ }
 {
     let mut uses = [0u32; 8192];
@@ -20,14 +22,15 @@ fn close_read(s: &[u8], out: &mut [u8]) -> Closed
     closed_walks::count_mentions(s, &mut uses);
     let n = use_order::ordered(&uses, &mut order, &mut room);
     use_order::number(&order[..n], &mut table);
-    let size = closed_walks::total(s, &order[..n], &table);
+    let kept = closed_walks::in_place(&order[..n]);
+    let size = closed_walks::total(s, &order[..n], &table, kept);
     if 4194304 < size {
         return Closed::Refused(4, 0);
     }
     if out.len() < size {
         return Closed::Refused(15, 0);
     }
-    Closed::Length(closed_walks::write_file(s, &order[..n], &table, out))
+    Closed::Length(closed_walks::write_file(s, &order[..n], &table, kept, out))
 }
 
 // Closes up the pool of a whole file into the front of the output, all checked first.

@@ -6,13 +6,12 @@ ghost use Rattle.base.specs.Moment.{Finite};
 ghost use Rattle.cursors.specs.Cursors.{Points, At};
 
 // A cursor at a later interval that starts no later than t: the next listed one, or in the tail the one that holds t.
-fn next(s: &[u8], pool: u64, c: Cursor, t: u64) -> Cursor
-    requires { ⌜ Points pool (now s) c × (c .held .end ≤ t) × Finite t ⌝ }
-    ensures { λ r. ⌜ Points pool (now (s .entry)) r × (r .held .start ≤ t) × (c .held .end < r .held .end) ⌝ }
+fn next(s: &[u8], pool: u64, c: Cursor, ending: ZoneEnd, t: u64) -> Cursor
+    requires { ⌜ Points pool (now s) ending c × (c .held .end ≤ t) × Finite t ⌝ }
+    ensures { λ r. ⌜ Points pool (now (s .entry)) ending r × (r .held .start ≤ t) × (c .held .end < r .held .end) ⌝ }
 {
     let left = c.left;
     let i = c.next;
-    let ending = c.ending;
     if 0 < left {
         return listed_cursors::at_interval(s, pool, i, left - 1, c.place, ending);
     }
@@ -24,7 +23,6 @@ fn next(s: &[u8], pool: u64, c: Cursor, t: u64) -> Cursor
                 left: 0,
                 next: i,
                 place: c.place,
-                ending: ending,
             }
         }
         // Without a tail the last interval has no end.
@@ -34,13 +32,13 @@ fn next(s: &[u8], pool: u64, c: Cursor, t: u64) -> Cursor
 }
 
 // The cursor moved on to the interval that holds the instant t.
-pub fn seek(s: &[u8], pool: u64, c: Cursor, t: u64) -> Cursor
-    requires { ⌜ Points pool (now s) c × (c .held .start ≤ t) × Finite t ⌝ }
-    ensures { λ r. ⌜ At pool (now (s .entry)) t r ⌝ }
+pub fn seek(s: &[u8], pool: u64, c: Cursor, ending: ZoneEnd, t: u64) -> Cursor
+    requires { ⌜ Points pool (now s) ending c × (c .held .start ≤ t) × Finite t ⌝ }
+    ensures { λ r. ⌜ At pool (now (s .entry)) ending t r ⌝ }
 {
     let mut x = c;
     while x.held.end <= t {
-        x = next(s, pool, x, t);
+        x = next(s, pool, x, ending, t);
     }
     x
 }

@@ -14,6 +14,7 @@ use Rattle.zones.specs.Intervals.{Holds}
 use Rattle.zones.specs.Sound.{FoundOk}
 use Rattle.zones.specs.Lookup.{until, holding, inList, named, inTail, inBody}
 use Rattle.zones.specs.declared.Found.{Found}
+use Rattle.zones.specs.declared.ZoneEnd.{ZoneEnd}
 use Rattle.zones.proofs.PartitionLaws.{behind-start}
 use Rattle.zones.proofs.SoundLaws.{zone-sound}
 use Rattle.zones.proofs.RangeLaws.{zone-found}
@@ -43,8 +44,8 @@ module _ (pool : ℕ) (s : List ℕ) where
     list-same [] e o t f h = rw (lt-ltb t end h)
     list-same (j ∷ js) e o t f h = rw (lt-ltb t end (inside-list (j ∷ js) e o t f h), lt-ltb t (j .start) h)
 
-  module _ (c : Cursor) where
-    list-held : (i : Interval) (is : List Interval) (end : ℕ) (e : Ending) → InList pool s c i is end e → (t : ℕ) → Finite t → Holds (c .held) t
+  module _ (ending : ZoneEnd) (c : Cursor) where
+    list-held : (i : Interval) (is : List Interval) (end : ℕ) (e : Ending) → InList pool s ending c i is end e → (t : ℕ) → Finite t → Holds (c .held) t
         → foundAt pool s t ≡ c .held
     list-held i is end e k t f h =
         k .onward .on t f (omega (arith, h .from, ap (λ (x : Found). x .start) (k .held-is)))
@@ -52,22 +53,23 @@ module _ (pool : ℕ) (s : List ℕ) where
         ∙ sym (k .held-is)
 
     -- WHAT A CURSOR HOLDS IS WHAT THE LOOKUP GIVES AT EACH INSTANT OF THE INTERVAL
-    pub held-same : Points pool s c → (t : ℕ) → Finite t → Holds (c .held) t → foundAt pool s t ≡ c .held
+    pub held-same : Points pool s ending c → (t : ℕ) → Finite t → Holds (c .held) t → foundAt pool s t ≡ c .held
     unfolding inTail
     held-same p t f h = go (p .position)
       where
-        go : Position pool s c → foundAt pool s t ≡ c .held
+        go : Position pool s ending c → foundAt pool s t ≡ c .held
         go (in-list i is end e k) = list-held i is end e k t f h
         go (in-tail n u k) =
             let w : TailHolds (lookup (n .tail) u) t = record {
               from = omega (arith, h .from, ap (λ (x : Found). x .start) (k .held-is));
               to = omega (arith, h .to, ap (λ (x : Found). x .end) (k .held-is));
             } in
-            let b = held (n .tail) (k .tail-ok) (lookup (n .tail) u) (lookup-in (n .tail) (k .tail-ok) u (k .from) (k .finite) .0) t w in
-            k .on t f (b .0) ∙ ap (named n) (same-lookup (n .tail) (k .tail-ok) u t (k .from) (k .finite) w) ∙ sym (k .held-is)
+            let o = k .tail-on .named .tail-ok in
+            let b = held (n .tail) o (lookup (n .tail) u) (lookup-in (n .tail) o u (k .from) (k .finite) .0) t w in
+            k .tail-on .on t f (b .0) ∙ ap (named n) (same-lookup (n .tail) o u t (k .from) (k .finite) w) ∙ sym (k .held-is)
 
     -- its name is a number of the pool
-    pub held-ok : (t : ℕ) → Finite t → At pool s t c → FoundOk pool (c .held)
+    pub held-ok : (t : ℕ) → Finite t → At pool s ending t c → FoundOk pool (c .held)
     unfolding foundIn
     held-ok t f a =
         let w = a .points .whole in
@@ -75,5 +77,5 @@ module _ (pool : ℕ) (s : List ℕ) where
         rw (← e, w .is) (zone-found pool t (w .zone) (zone-sound pool s (w .zone) [] (w .is) .0) f)
 
     -- from the instant at which it stands to the interval's end
-    pub at-same : (t : ℕ) → Finite t → At pool s t c → (u : ℕ) → t ≤ u → u < c .held .end → Finite u → foundAt pool s u ≡ c .held
+    pub at-same : (t : ℕ) → Finite t → At pool s ending t c → (u : ℕ) → t ≤ u → u < c .held .end → Finite u → foundAt pool s u ≡ c .held
     at-same t f a u l h g = held-same (a .points) u g (record { from = omega (arith, a .holds .from); to = h })

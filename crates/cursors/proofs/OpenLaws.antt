@@ -39,16 +39,16 @@ module _ (pool : ℕ) (s : List ℕ) where
   pub opened-bad : (k : ℕ) → parseZone pool s ≡ bad k → OpenedAs pool s (Refused k)
   opened-bad k e = record { to = e }
 
-  pub opened-at : (c : Cursor) (m : ℕ) → m ≡ 0 → Points pool s c × Holds (c .held) m → OpenedAs pool s (Opens c)
-  opened-at c m z h = record { to = (h .0, omega (arith, h .1 .from)) }
+  pub opened-at : (ending : ZoneEnd) (c : Cursor) (m : ℕ) → m ≡ 0 → Points pool s ending c × Holds (c .held) m → OpenedAs pool s (Opens c ending)
+  opened-at ending c m z h = record { to = (h .0, omega (arith, h .1 .from)) }
 
   -- by what was given
   module _ (r : Opened) (h : OpenedAs pool s r) where
     pub refused-is : (k : ℕ) → r ≡ Refused k → parseZone pool s ≡ bad k
     refused-is k e = subst (OpenedAs pool s) e h .to
 
-    pub cursor-is : (c : Cursor) → r ≡ Opens c → Points pool s c × (c .held .start ≡ 0)
-    cursor-is c e = subst (OpenedAs pool s) e h .to
+    pub cursor-is : (c : Cursor) (ending : ZoneEnd) → r ≡ Opens c ending → Points pool s ending c × (c .held .start ≡ 0)
+    cursor-is c ending e = subst (OpenedAs pool s) e h .to
 
   -- a fixed zone is one interval, all of time
   module _ (id offset n : ℕ) (e : (m : FixedName) × (parseZone pool s ≡ got (record { id = id; body = fixed offset m }) []) × (n ≡ fixedNameOf id m)) where
@@ -66,7 +66,7 @@ module _ (pool : ℕ) (s : List ℕ) where
     }
 
     pub opened-fixed : (i : Interval) (place : ℕ)
-        → OpenedAs pool s (Opens (record { held = record { wall = offset; savings = 86400000; name = n; start = 0; end = endOfTime }; left = 0; next = i; place = place; ending = Untailed }))
+        → OpenedAs pool s (Opens (record { held = record { wall = offset; savings = 86400000; name = n; start = 0; end = endOfTime }; left = 0; next = i; place = place }) Untailed)
     unfolding nextStart
     opened-fixed i place = record {
       to = (

@@ -14,16 +14,18 @@ use Rattle.recurrence.specs.Tails.{TailOk, lookup}
 use Rattle.recurrence.proofs.IntervalLaws.{lookup-in}
 use Rattle.intervals.specs.declared.Interval.{Interval}
 use Rattle.intervals.specs.Interval.{parseInterval, startOf}
+use Rattle.tails.specs.Sound.{NamedTailOk}
 use Rattle.tails.specs.declared.NamedTail.{NamedTail}
 use Rattle.zones.specs.Content.{Ending, untailed, tailed}
 use Rattle.zones.specs.Intervals.{Holds}
 use Rattle.zones.specs.Lookup.{until, holding, inList, inTail, behindList, inBody}
 use Rattle.zones.specs.Sound.{EndOk}
+use Rattle.zones.proofs.PartitionLaws.{behind-start}
 use Rattle.zones.specs.declared.Found.{Found}
 use Rattle.zones.specs.declared.ZoneEnd.{ZoneEnd}
 use Rattle.zones.specs.declared.ZoneEnd.the-variants.{Untailed, Tailed, Refused as EndRefused}
 use Rattle.cursors.specs.declared.Cursor.{Cursor}
-use Rattle.cursors.specs.Cursors.{foundAt, listEnd, readOf, Onward, ListAt, nextStart, NextTo, InList, Position, in-list, in-tail, Points}
+use Rattle.cursors.specs.Cursors.{foundAt, listEnd, readOf, Onward, ListAt, nextStart, NextTo, TailOn, InList, Position, in-list, in-tail, Points}
 use Rattle.cursors.proofs.CursorLaws.{start-before}
 
 -- each way out of `list_end`
@@ -69,7 +71,7 @@ list-ends pool is end (tailed n) h = h .2 .starts
 module _ (pool : ℕ) (s : List ℕ) where
   -- a cursor at a listed interval
   module _ (i : Interval) (left place : ℕ) (ending : ZoneEnd) (a : ListAt pool s i left place ending) where
-    list-points : (c : Cursor) → InList pool s c i (a .list) (a .end) (a .behind) → Points pool s c × Holds (c .held) (i .start)
+    list-points : (c : Cursor) → InList pool s ending c i (a .list) (a .end) (a .behind) → Points pool s ending c × Holds (c .held) (i .start)
     list-points c k = (
       record { whole = a .whole; position = in-list i (a .list) (a .end) (a .behind) k },
       record {
@@ -79,7 +81,7 @@ module _ (pool : ℕ) (s : List ℕ) where
     )
 
     pub at-last : left ≡ 0 → (x : Found) (m : ℕ) → m ≡ listEnd ending → x ≡ until i m
-        → Points pool s (record { held = x; left = 0; next = i; place = place; ending = ending }) × Holds x (i .start)
+        → Points pool s ending (record { held = x; left = 0; next = i; place = place }) × Holds x (i .start)
     unfolding nextStart
     at-last z x m e f = go (a .list) refl
       where
@@ -87,9 +89,9 @@ module _ (pool : ℕ) (s : List ℕ) where
         ends = e ∙ ap listEnd (a .ending-is) ∙ list-ends pool (i ∷ a .list) (a .end) (a .behind) (a .onward .end-ok)
 
         here : Cursor
-        here = record { held = x; left = 0; next = i; place = place; ending = ending }
+        here = record { held = x; left = 0; next = i; place = place }
 
-        go : (is : List Interval) → a .list ≡ is → Points pool s here × Holds x (i .start)
+        go : (is : List Interval) → a .list ≡ is → Points pool s ending here × Holds x (i .start)
         go [] l = list-points here (record {
           onward = a .onward;
           held-is = f ∙ ap (until i) ends ∙ ap (λ (is : List Interval). until i (nextStart (a .end) is)) (sym l);
@@ -100,14 +102,14 @@ module _ (pool : ℕ) (s : List ℕ) where
         go (j ∷ js) l = absurd (omega (arith, a .count, ap length l))
 
     pub at-inner : (left ≡ 0 → ⊥) → (j : Interval) (e : ℕ) → Stands s (parseInterval pool (i .start) (drop place s)) (at j e) → (x : Found) → x ≡ until i (j .start)
-        → Points pool s (record { held = x; left = left; next = j; place = e; ending = ending }) × Holds x (i .start)
+        → Points pool s ending (record { held = x; left = left; next = j; place = e }) × Holds x (i .start)
     unfolding nextStart
     at-inner z j e h x f = go (a .list) refl
       where
         here : Cursor
-        here = record { held = x; left = left; next = j; place = e; ending = ending }
+        here = record { held = x; left = left; next = j; place = e }
 
-        go : (is : List Interval) → a .list ≡ is → Points pool s here × Holds x (i .start)
+        go : (is : List Interval) → a .list ≡ is → Points pool s ending here × Holds x (i .start)
         go [] l = absurd (z (a .count ∙ ap length l))
         go (k ∷ ks) l =
             let r : many (parseInterval pool) startOf (suc (length ks)) (i .start) (drop place s) ≡ got (k ∷ ks) (a .stand .rest) =
@@ -157,9 +159,36 @@ module _ (pool : ℕ) (s : List ℕ) where
       ends untailed h = h
       ends (tailed n) h = h
 
-  module _ (c : Cursor) (p : Points pool s c) where
+  -- the tail behind a list
+  list-tail : (i : Interval) (is : List Interval) (end : ℕ) (n : NamedTail) → Onward pool s i is end (tailed n) → TailOn pool s n
+  unfolding inBody behindList behind
+  list-tail i is end n o =
+      let b : n .tail .start ≡ end = o .end-ok .2 .starts in
+      record {
+        on = λ u f l. o .on u f (omega (arith, o .end-ok .0, behind-start pool (i .start) is (o .rising))) ∙ rw (le-ltb u end (omega arith));
+        named = subst (λ (m : ℕ). NamedTailOk pool m n) (sym b) (o .end-ok .2);
+      }
+
+  module _ (ending : ZoneEnd) (c : Cursor) (p : Points pool s ending c) where
+    pub tail-on : (n : NamedTail) → ending ≡ Tailed n → TailOn pool s n
+    tail-on n h = go (p .position)
+      where
+        by-end : (i : Interval) (is : List Interval) (end : ℕ) (e : Ending) → InList pool s ending c i is end e → TailOn pool s n
+        by-end i is end untailed k = let f : Untailed ≡ Tailed n = sym (k .ending-is) ∙ h in clash cc
+        by-end i is end (tailed m) k =
+            let f : Tailed m ≡ Tailed n = sym (k .ending-is) ∙ h in
+            let g : m ≡ n = cc in
+            subst (TailOn pool s) g (list-tail i is end m (k .onward))
+
+        go : Position pool s ending c → TailOn pool s n
+        go (in-list i is end e k) = by-end i is end e k
+        go (in-tail m t k) =
+            let f : Tailed m ≡ Tailed n = sym (k .ending-is) ∙ h in
+            let g : m ≡ n = cc in
+            subst (TailOn pool s) g (k .tail-on)
+
     pub record NextIs : Type 0 where
-      pub list-at : ListAt pool s (c .next) (c .left - 1) (c .place) (c .ending)
+      pub list-at : ListAt pool s (c .next) (c .left - 1) (c .place) ending
       pub start-is : c .next .start ≡ c .held .end
 
     -- the next listed interval
@@ -167,12 +196,12 @@ module _ (pool : ℕ) (s : List ℕ) where
     unfolding nextStart
     next-listed h = go (p .position)
       where
-        by-list : (i : Interval) (is : List Interval) (end : ℕ) (e : Ending) → InList pool s c i is end e → NextIs
+        by-list : (i : Interval) (is : List Interval) (end : ℕ) (e : Ending) → InList pool s ending c i is end e → NextIs
         by-list i [] end e k = absurd (omega (arith, k .count))
         by-list i (j ∷ js) end e k =
             let n : c .next ≡ j = k .next-is .0 in
             record {
-              list-at = subst (λ (y : Interval). ListAt pool s y (c .left - 1) (c .place) (c .ending)) (sym n) (record {
+              list-at = subst (λ (y : Interval). ListAt pool s y (c .left - 1) (c .place) ending) (sym n) (record {
                 list = js;
                 end = end;
                 behind = e;
@@ -185,23 +214,22 @@ module _ (pool : ℕ) (s : List ℕ) where
               start-is = ap (λ (y : Interval). y .start) n ∙ sym (ap (λ (x : Found). x .end) (k .held-is));
             }
 
-        go : Position pool s c → NextIs
+        go : Position pool s ending c → NextIs
         go (in-list i is end e k) = by-list i is end e k
         go (in-tail n t k) = absurd (omega (arith, k .count))
 
     -- the tail, from the end of what is held on
     pub record TailNext : Type 0 where
       pub tail : NamedTail
-      pub ending-is : c .ending ≡ Tailed tail
-      pub on : (u : ℕ) → Finite u → tail .tail .start ≤ u → foundAt pool s u ≡ inTail u tail
-      pub tail-ok : TailOk (tail .tail)
+      pub ending-is : ending ≡ Tailed tail
+      pub on : TailOn pool s tail
       pub from : tail .tail .start ≤ c .held .end
 
     pub next-tailed : c .left ≡ 0 → c .held .end < endOfTime → TailNext
-    unfolding nextStart inBody behindList behind inTail lookup
+    unfolding nextStart inTail lookup
     next-tailed z h = go (p .position)
       where
-        by-end : (i : Interval) (end : ℕ) (e : Ending) → InList pool s c i [] end e → TailNext
+        by-end : (i : Interval) (end : ℕ) (e : Ending) → InList pool s ending c i [] end e → TailNext
         by-end i end untailed k = absurd (omega (arith, k .onward .end-ok, ap (λ (x : Found). x .end) (k .held-is)))
         by-end i end (tailed n) k =
             let o = k .onward in
@@ -210,53 +238,50 @@ module _ (pool : ℕ) (s : List ℕ) where
             record {
               tail = n;
               ending-is = k .ending-is;
-              on = λ u f l. o .on u f (omega (arith, o .end-ok .0)) ∙ rw (le-ltb u end (omega arith));
-              tail-ok = o .end-ok .2 .tail-ok;
+              on = list-tail i [] end n o;
               from = omega arith;
             }
 
-        by-list : (i : Interval) (is : List Interval) (end : ℕ) (e : Ending) → InList pool s c i is end e → TailNext
+        by-list : (i : Interval) (is : List Interval) (end : ℕ) (e : Ending) → InList pool s ending c i is end e → TailNext
         by-list i [] end e k = by-end i end e k
         by-list i (j ∷ js) end e k = absurd (omega (arith, k .count))
 
-        go : Position pool s c → TailNext
+        go : Position pool s ending c → TailNext
         go (in-list i is end e k) = by-list i is end e k
         go (in-tail n t k) =
-            let b : t < lookup (n .tail) t .end = lookup-in (n .tail) (k .tail-ok) t (k .from) (k .finite) .1 .to in
+            let b : t < lookup (n .tail) t .end = lookup-in (n .tail) (k .tail-on .named .tail-ok) t (k .from) (k .finite) .1 .to in
             let e : c .held .end ≡ lookup (n .tail) t .end = ap (λ (x : Found). x .end) (k .held-is) in
             record {
               tail = n;
               ending-is = k .ending-is;
-              on = k .on;
-              tail-ok = k .tail-ok;
+              on = k .tail-on;
               from = omega (arith, k .from);
             }
 
     -- an instant from there on
-    module _ (w : TailNext) (m : NamedTail) (e : c .ending ≡ Tailed m) (t : ℕ) (f : Finite t) (l : c .held .end ≤ t) where
+    module _ (w : TailNext) (m : NamedTail) (e : ending ≡ Tailed m) (t : ℕ) (f : Finite t) (l : c .held .end ≤ t) where
       same-tail : w .tail ≡ m
       same-tail = let g : Tailed (w .tail) ≡ Tailed m = sym (w .ending-is) ∙ e in cc
 
       pub tail-asks : Finite t × TailOk (m .tail)
-      tail-asks = (f, subst (λ (n : NamedTail). TailOk (n .tail)) same-tail (w .tail-ok))
+      tail-asks = (f, subst (λ (n : NamedTail). TailOk (n .tail)) same-tail (w .on .named .tail-ok))
 
       pub tail-points : (x : Found) (next : Interval) (place : ℕ) → x ≡ inTail t m
-          → Points pool s (record { held = x; left = 0; next = next; place = place; ending = Tailed m }) × (x .start ≤ t) × (c .held .end < x .end)
+          → Points pool s ending (record { held = x; left = 0; next = next; place = place }) × (x .start ≤ t) × (c .held .end < x .end)
       unfolding inTail
       tail-points x next place h =
           let g : x ≡ inTail t (w .tail) = h ∙ ap (inTail t) (sym same-tail) in
           let o : w .tail .tail .start ≤ t = omega (arith, w .from) in
-          let b = lookup-in (w .tail .tail) (w .tail-ok) t o f .1 in (
+          let b = lookup-in (w .tail .tail) (w .on .named .tail-ok) t o f .1 in (
             record {
               whole = p .whole;
               position = in-tail (w .tail) t (record {
-                on = w .on;
-                tail-ok = w .tail-ok;
+                tail-on = w .on;
                 finite = f;
                 from = o;
                 held-is = g;
                 count = refl;
-                ending-is = ap Tailed (sym same-tail);
+                ending-is = w .ending-is;
               });
             },
             omega (arith, b .from, ap (λ (y : Found). y .start) g),
@@ -264,8 +289,8 @@ module _ (pool : ℕ) (s : List ℕ) where
           )
 
     -- without a tail the last interval has no end
-    pub no-untailed : {G : Type 0} → TailNext → c .ending ≡ Untailed → G
+    pub no-untailed : {G : Type 0} → TailNext → ending ≡ Untailed → G
     no-untailed w e = let f : Tailed (w .tail) ≡ Untailed = sym (w .ending-is) ∙ e in clash cc
 
-    pub no-refused : {G : Type 0} → TailNext → (k : ℕ) → c .ending ≡ EndRefused k → G
+    pub no-refused : {G : Type 0} → TailNext → (k : ℕ) → ending ≡ EndRefused k → G
     no-refused w k e = let f : Tailed (w .tail) ≡ EndRefused k = sym (w .ending-is) ∙ e in clash cc

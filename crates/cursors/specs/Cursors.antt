@@ -6,10 +6,10 @@ use mathlib.Core.List.{List, [], _∷_}
 use lib.ListN.{length, drop}
 use Rattle.base.specs.Parsed.{Parsed, got, bad, many}
 use Rattle.base.specs.Moment.{Finite, endOfTime}
-use Rattle.recurrence.specs.Tails.{TailOk}
 use Rattle.intervals.specs.declared.Interval.{Interval}
 use Rattle.intervals.specs.Interval.{parseInterval, startOf}
 use Rattle.intervals.specs.Sound.{Rising}
+use Rattle.tails.specs.Sound.{NamedTailOk}
 use Rattle.tails.specs.declared.NamedTail.{NamedTail}
 use Rattle.zones.specs.Content.{Ending, untailed, tailed, listed, Zone}
 use Rattle.zones.specs.Parse.{parseIntervals, parseZone}
@@ -82,35 +82,39 @@ nextStart end [] = end
 nextStart end (j ∷ js) = j .start
 
 -- c holds a listed interval
-pub record InList (pool : ℕ) (s : List ℕ) (c : Cursor) (i : Interval) (is : List Interval) (end : ℕ) (e : Ending) : Type 0 where
+pub record InList (pool : ℕ) (s : List ℕ) (ending : ZoneEnd) (c : Cursor) (i : Interval) (is : List Interval) (end : ℕ) (e : Ending) : Type 0 where
   pub onward : Onward pool s i is end e
   pub held-is : c .held ≡ until i (nextStart end is)
   pub count : c .left ≡ length is
   pub next-is : NextTo pool s is c
-  pub ending-is : c .ending ≡ readOf e
+  pub ending-is : ending ≡ readOf e
+
+-- the zone is the tail n from the tail's start on
+pub record TailOn (pool : ℕ) (s : List ℕ) (n : NamedTail) : Type 0 where
+  pub on : (u : ℕ) → Finite u → n .tail .start ≤ u → foundAt pool s u ≡ inTail u n
+  pub named : NamedTailOk pool (n .tail .start) n
 
 -- c holds the tail's interval at the instant t
-pub record InTail (pool : ℕ) (s : List ℕ) (c : Cursor) (n : NamedTail) (t : ℕ) : Type 0 where
-  pub on : (u : ℕ) → Finite u → n .tail .start ≤ u → foundAt pool s u ≡ inTail u n
-  pub tail-ok : TailOk (n .tail)
+pub record InTail (pool : ℕ) (s : List ℕ) (ending : ZoneEnd) (c : Cursor) (n : NamedTail) (t : ℕ) : Type 0 where
+  pub tail-on : TailOn pool s n
   pub finite : Finite t
   pub from : n .tail .start ≤ t
   pub held-is : c .held ≡ inTail t n
   pub count : c .left ≡ 0
-  pub ending-is : c .ending ≡ Tailed n
+  pub ending-is : ending ≡ Tailed n
 
-pub data Position (pool : ℕ) (s : List ℕ) (c : Cursor) : Type 0 where
-  in-list : (i : Interval) (is : List Interval) (end : ℕ) (e : Ending) → InList pool s c i is end e → Position pool s c
-  in-tail : (n : NamedTail) (t : ℕ) → InTail pool s c n t → Position pool s c
+pub data Position (pool : ℕ) (s : List ℕ) (ending : ZoneEnd) (c : Cursor) : Type 0 where
+  in-list : (i : Interval) (is : List Interval) (end : ℕ) (e : Ending) → InList pool s ending c i is end e → Position pool s ending c
+  in-tail : (n : NamedTail) (t : ℕ) → InTail pool s ending c n t → Position pool s ending c
 
--- c is a cursor over the zone with the data s
-pub record Points (pool : ℕ) (s : List ℕ) (c : Cursor) : Type 0 where
+-- c is a cursor over the zone with the data s, which has that ending
+pub record Points (pool : ℕ) (s : List ℕ) (ending : ZoneEnd) (c : Cursor) : Type 0 where
   pub whole : Whole pool s
-  pub position : Position pool s c
+  pub position : Position pool s ending c
 
 -- a cursor at the interval that holds the instant t
-pub record At (pool : ℕ) (s : List ℕ) (t : ℕ) (c : Cursor) : Type 0 where
-  pub points : Points pool s c
+pub record At (pool : ℕ) (s : List ℕ) (ending : ZoneEnd) (t : ℕ) (c : Cursor) : Type 0 where
+  pub points : Points pool s ending c
   pub holds : Holds (c .held) t
 
 -- the n intervals of a zone s stand at a place
@@ -135,7 +139,7 @@ pub record FirstAt (pool : ℕ) (s : List ℕ) (n place : ℕ) (ending : ZoneEnd
 
 -- a cursor at the first interval, or the number of the zone's fault
 abbrev pub OpenedTo : ℕ → List ℕ → Opened → Type 0
-OpenedTo pool s (Opens c) = Points pool s c × (c .held .start ≡ 0)
+OpenedTo pool s (Opens c ending) = Points pool s ending c × (c .held .start ≡ 0)
 OpenedTo pool s (Refused k) = parseZone pool s ≡ bad k
 
 pub record OpenedAs (pool : ℕ) (s : List ℕ) (r : Opened) : Type 0 where

@@ -6,17 +6,16 @@ use zones::Found;
 use zones::ZoneEnd;
 
 // Where a walk over a zone's intervals stands: the interval held, how many listed ones are behind it, the next of them and the place of what
-// stands behind that, and the zone's ending.
+// stands behind that. The zone's ending goes beside it: it stays the same, and is larger than all the rest.
 pub struct Cursor {
     pub held: Found,
     pub left: u64,
     pub next: Interval,
     pub place: usize,
-    pub ending: ZoneEnd,
 }
 
-// A cursor at the zone's first interval, or the number of the zone's fault.
+// A cursor at the zone's first interval and the zone's ending, or the number of the zone's fault.
 pub enum Opened {
-    Cursor(Cursor),
+    Cursor(Cursor, ZoneEnd),
     Refused(u8),
 }

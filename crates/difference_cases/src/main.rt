@@ -15,7 +15,7 @@ fn show_listing(r: Listing) {
 }
 
 fn run_files(f: &[u8], g: &[u8], id: &[u8], first: i64, last: i64, list: &mut [i64]) {
-    show_listing(differences::difference(f, g, id, first, last, list));
+    show_listing(file_differences::difference(f, g, id, first, last, list));
     cases::say_numbers(list);
     cases::say(b"\n");
 }

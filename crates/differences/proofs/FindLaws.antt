@@ -13,6 +13,7 @@ use Rattle.answers.specs.Answers.{Pool}
 use Rattle.locate.specs.Asked.{Held, held}
 use Rattle.locate.specs.View.{part, poolAt, Lies, zoneOut, Spotted}
 use Rattle.locate.specs.declared.Spot.{Spot}
+use Rattle.zones.specs.declared.ZoneEnd.{ZoneEnd}
 use Rattle.cursors.specs.Cursors.{Points, At, OpenedAs}
 use Rattle.cursors.specs.declared.Cursor.{Cursor}
 use Rattle.cursors.specs.declared.Opened.{Opened}
@@ -44,12 +45,12 @@ module _ (s ix : List ℕ) (t : ℕ) (o : Out Pool Held) where
     pub out-denied : (r : Opened) → OpenedAs (v .count) zone r → (n : ℕ) → r ≡ Unopened n → AskedAs s o ix t (Refused n (v .place))
     out-denied r h n q = out-refused n (v .place) (k .goes ∙ ap (zoneOut v (poolAt s d e)) (refused-is (v .count) zone r h n q))
 
-    pub out-seeks : (r : Opened) → OpenedAs (v .count) zone r → (c : Cursor) → r ≡ Opens c → Finite t → Points (v .count) zone c × (c .held .start ≤ t) × Finite t
-    out-seeks r h c q f = let w = cursor-is (v .count) zone r h c q in (w .0, omega (arith, w .1), f)
+    pub out-seeks : (r : Opened) → OpenedAs (v .count) zone r → (c : Cursor) (b : ZoneEnd) → r ≡ Opens c b → Finite t → Points (v .count) zone b c × (c .held .start ≤ t) × Finite t
+    out-seeks r h c b q f = let w = cursor-is (v .count) zone r h c b q in (w .0, omega (arith, w .1), f)
 
-    pub out-zone : (c : Cursor) → At (v .count) zone t c → Lies s d e → Ready (part d e s) ix
-        → AskedAs s o ix t (Asks (record { pool = d; past = e; from = v .start; to = v .past; count = v .count; cursor = c }))
-    out-zone c a l r = record {
+    pub out-zone : (c : Cursor) (b : ZoneEnd) → At (v .count) zone b t c → Lies s d e → Ready (part d e s) ix
+        → AskedAs s o ix t (Asks (record { pool = d; past = e; from = v .start; to = v .past; count = v .count; ending = b; cursor = c }))
+    out-zone c b a l r = record {
       to = (
         record { lies = l; order = k .order; inside = k .inside; count-is = k .count-is; ready = r; at = a },
         record {

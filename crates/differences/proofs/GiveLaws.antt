@@ -1,6 +1,6 @@
 -- Each way out of the difference of two files. Assumes nothing.
 use mathlib.Core.Path.{_≡_, refl, sym, ap, _∙_, subst}
-use mathlib.Core.List.{List}
+use mathlib.Core.List.{List, [], _∷_}
 use Prim.Native.Nat.{ℕ, _/_, _≤_, _<_}
 use native.Mathlib.Omega.{arith}
 use native.Mathlib.Nat.{zero-add}
@@ -36,6 +36,14 @@ module _ (xs : List Stretch) (d : List ℤ) where
     result = rw (le-leb (length xs) (length d / 2) (omega arith)) (ap Listed (g .0));
     output = g .1 ∙ sets-eq (numbersOf xs) d 0 (omega (arith, numbers-length xs)) ∙ rw (zero-add (length (numbersOf xs)));
   }
+
+  pub lists-none : (n : ℕ) → n ≡ length xs → n ≡ 0 → Lists xs d (Listed 0) d
+  unfolding listed filled numbersOf
+  lists-none n e z = go xs (sym e ∙ z)
+    where
+      go : (ys : List Stretch) → length ys ≡ 0 → Lists ys d (Listed 0) d
+      go [] h = record { result = rw (le-leb 0 (length d / 2) (omega arith)); output = refl }
+      go (y ∷ ys) h = absurd (omega arith)
 
 -- two files, from the instant first to before the instant last
 module _ (f g id : List ℕ) (first last : ℕ) (d : List ℤ) (l : Finite first) where

@@ -36,7 +36,7 @@ pub record SideIn (s ix : List ℕ) (t : ℕ) (x : Side) : Type 0 where
   pub inside : x .to ≤ length s
   pub count-is : x .count ≡ length (stringsOf (poolOf s x))
   pub ready : Ready (poolOf s x) ix
-  pub at : At (x .count) (zoneOf s x) t (x .cursor)
+  pub at : At (x .count) (zoneOf s x) (x .ending) t (x .cursor)
 
 -- and holds the zone to which the walk o comes
 pub record HeldBy (s : List ℕ) (o : Out Pool Held) (x : Side) : Type 0 where

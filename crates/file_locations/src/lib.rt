@@ -25,7 +25,7 @@ fn in_file(s: &[u8], field: LocationField, number: u64) -> LocationAnswer
         FieldPlace::Nowhere => LocationAnswer::Refused(12, s.len()),
         FieldPlace::At(_, b, c) => match field_search::find_field(s, id_of(field)) {
             FieldPlace::Nowhere => LocationAnswer::Refused(12, s.len()),
-            FieldPlace::At(p, a, e) => location_lookup::in_field(s, b, c, p, a, e, field, number),
+            FieldPlace::At(p, a, e) => location_fields::in_field(s, b, c, p, a, e, field, number),
         },
     }
 }

@@ -15,17 +15,13 @@ fn at_first(s: &[u8], place: usize, pool: u64, n: u64, ending: ZoneEnd) -> Opene
     requires { ⌜ FirstAt pool (now s) n place ending ⌝ }
     ensures { λ r. ⌜ OpenedAs pool (now (s .entry)) r ⌝ }
 {
-    match interval_scans::read_interval(s, place, pool, END) {
+    match next_intervals::read_interval(s, place, pool, END) {
         // The zone was read to its end before.
         IntervalRead::Refused(k) => Opened::Refused(k),
-        IntervalRead::Got(i, e) => Opened::Cursor(listed_cursors::at_interval(
-            s,
-            pool,
-            i,
-            n - 1,
-            e,
+        IntervalRead::Got(i, e) => Opened::Cursor(
+            listed_cursors::at_interval(s, pool, i, n - 1, e, ending),
             ending,
-        )),
+        ),
     }
 }
 
@@ -67,13 +63,15 @@ pub fn first(s: &[u8], pool: u64) -> Opened
                 wall: 0,
                 savings: 0,
             };
-            Opened::Cursor(Cursor {
-                held: held,
-                left: 0,
-                next: none,
-                place: 0,
-                ending: ZoneEnd::Untailed,
-            })
+            Opened::Cursor(
+                Cursor {
+                    held: held,
+                    left: 0,
+                    next: none,
+                    place: 0,
+                },
+                ZoneEnd::Untailed,
+            )
         }
         ZoneFront::Listed(_, n, a) => open_listed(s, a, pool, n),
     }

@@ -35,14 +35,14 @@ fn find_with(s: &[u8], d: usize, e: usize, id: &[u8], starts: &mut [u32]) -> Fin
     requires { ⌜ Lies (now s) d e × (roomOf (part d e (now s)) ≤ length (now starts)) ⌝ }
     ensures { λ r. ⌜ FindsOut (now (s .entry)) (byPool (now (id .entry)) (now (s .entry)) d e (parsePool (part d e (now (s .entry))))) r ⌝ }
 {
-    match locate::walk(s, d, e, id, starts) {
+    match asked_zones::walk(s, d, e, id, starts) {
         Located::Refused(n, p) => Finding::Refused(n, p),
         Located::Cut(p) => Finding::Refused(2, p),
         Located::End(p) => Finding::Refused(12, p),
         Located::Found(v) => {
             let from = v.start;
             let to = v.past;
-            match lookups::check(&s[from..to], v.count as u64) {
+            match zone_lookups::check(&s[from..to], v.count as u64) {
                 ZoneVerdict::Refused(n) => Finding::Refused(n, v.place),
                 ZoneVerdict::Good(_) => Finding::Zone(FoundZone {
                     pool: d,
@@ -78,7 +78,7 @@ fn find_long(s: &[u8], d: usize, e: usize, id: &[u8]) -> Finding
 pub fn find_zone(file: &[u8], id: &[u8]) -> Finding
     ensures { λ r. ⌜ FindsZone (now (file .entry)) (now (id .entry)) r ⌝ }
 {
-    match locate::read_first(file) {
+    match first_fields::read_first(file) {
         First::Refused(n, p) => Finding::Refused(n, p),
         First::Cut(p) => Finding::Refused(2, p),
         First::End(p) => Finding::Refused(12, p),
@@ -91,7 +91,8 @@ pub fn find_zone(file: &[u8], id: &[u8]) -> Finding
     }
 }
 
-fn place_in(v: FoundZone) -> usize
+// The place that a question on the zone tells with its fault.
+pub fn place_in(v: FoundZone) -> usize
     ensures { λ r. ⌜ r ≡ placeIn v ⌝ }
 {
     if 4194304 < v.place {
@@ -107,7 +108,7 @@ fn answer_in(file: &[u8], v: FoundZone, t: u64, edition: Edition) -> Answer
 {
     let count = pool::room(location_lookup::lent(file, v.pool, v.past));
     let zone = location_lookup::lent(file, v.start, v.end);
-    match lookups::find(zone, count as u64, t, edition) {
+    match zone_lookups::find(zone, count as u64, t, edition) {
         ZoneAnswer::Refused(n) => Answer::Refused(n, place_in(v)),
         ZoneAnswer::In(x) => {
             let name = location_lookup::text_in(file, v.pool, v.past, x.name);

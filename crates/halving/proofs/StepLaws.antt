@@ -1,8 +1,9 @@
 -- One look of halving. Assumes nothing.
 use mathlib.Core.Path.{_≡_, refl, sym, _∙_}
-use mathlib.Core.Bool.{true, false}
+use mathlib.Core.Bool.{Bool, true, false}
 use mathlib.Core.List.{List}
-use Prim.Native.Nat.{ℕ, zero, suc, _+_, _-_, _/_, _≤_, _<_}
+use Prim.Native.Nat.{ℕ, zero, suc, _+_, _-_, _*_, _/_, _≤_, _<_}
+use native.Mathlib.Nat.{add-zero}
 use native.Mathlib.Omega.{arith}
 use lib.IntN.{ℤ, pos}
 use lib.Signed.{leZ}
@@ -21,6 +22,31 @@ pub record Halved (n : ℕ) : Type 0 where
 
 pub halved : (n : ℕ) → 1 < n → Halved n
 halved n h = record { some = omega arith; fewer = omega arith; rest = omega arith }
+
+-- what the code computes by j, 1 or 0, fits, and is fewer
+pub record Counted (n j : ℕ) : Type 0 where
+  pub one : j ≤ 1
+  pub least : n / 2 ≤ n / 2 * (1 + j)
+  pub most : n / 2 * (1 + j) ≤ n
+  pub fewer : (n + j) / 2 + 1 ≤ n
+
+counted : (n j : ℕ) → 1 < n → j ≤ 1 → Counted n j
+counted n zero h l = record { one = l; least = omega arith; most = omega arith; fewer = omega arith }
+counted n (suc zero) h l = record { one = l; least = omega arith; most = omega arith; fewer = omega arith }
+counted n (suc (suc j)) h l = absurd (omega arith)
+
+pick-one : (b : Bool) → pick b 1 0 ≤ 1
+pick-one true = omega arith
+pick-one false = omega arith
+
+twice : (a b : ℕ) → a + b * (1 + 1) - b ≡ a + b
+twice a b = omega arith
+
+once : (a b : ℕ) → a + b * (1 + 0) - b ≡ a
+once a b = omega arith
+
+upper : (n : ℕ) → (n + 1) / 2 ≡ n - n / 2
+upper n = omega arith
 
 module _ (xs : List ℤ) (z : ℤ) where
   -- a table that is empty is refused
@@ -103,6 +129,17 @@ module _ (xs : List ℤ) (z : ℤ) where
             few = omega (arith, g .few, d .fewer);
             same = g .same ∙ halve-drops low n k h e;
           }
+
+      -- j says whether the entry looked at is kept
+      pub standing-counted : (j : ℕ) → j ≡ pick (leZ (getD xs (low + n / 2) (pos 0)) z) 1 0 → Counted n j
+      standing-counted j is = counted n j h (rw is (pick-one (leZ (getD xs (low + n / 2) (pos 0)) z)))
+
+      pub standing-next : (j : ℕ) → j ≡ pick (leZ (getD xs (low + n / 2) (pos 0)) z) 1 0 → Standing (low + n / 2 * (1 + j) - n / 2) ((n + j) / 2) (k + 1)
+      standing-next j is = go (leZ (getD xs (low + n / 2) (pos 0)) z) refl
+        where
+          go : (t : Bool) → leZ (getD xs (low + n / 2) (pos 0)) z ≡ t → Standing (low + n / 2 * (1 + j) - n / 2) ((n + j) / 2) (k + 1)
+          go true e = rw (is, e, twice low (n / 2), upper n) (standing-kept e)
+          go false e = rw (is, e, once low (n / 2), add-zero n) (standing-before e)
 
     pub standing-done : n ≤ 1 → Entry low k ≡ findStart xs z
     standing-done h = sym (g .same ∙ halve-one n low n k h)

@@ -1,39 +1,70 @@
--- Intervals of five bytes in a row, of which an instant needs only the last. The code's way, tied to the scan of the intervals by `run-scans` and
--- `run-forms` (proofs/RunLaws.antt).
-use Prim.Native.Nat.{ℕ, zero, suc, _+_, _*_}
-use mathlib.Core.Bool.{Bool}
+-- Intervals in a row whose name and offsets take a byte each, of which an instant needs only the last. The code's way, tied to the scan of the
+-- intervals by `run-ran` (proofs/RunLaws.antt).
+use Prim.Native.Nat.{ℕ, zero, suc, _+_, _*_, _≤_}
+use mathlib.Core.Path.{_≡_}
+use mathlib.Core.Bool.{Bool, true}
 use mathlib.Core.List.{List}
-use lib.Dec.{ltb, leb}
-use lib.ListN.{length}
+use lib.Dec.{ltb, leb, eqb}
+use lib.ListN.{length, drop}
 use Rattle.base.specs.Pick.{pick, both}
-use Rattle.base.specs.Moment.{finite, lastInstant, endOfTime}
-use Rattle.transitions.specs.Transition.{hour}
+use Rattle.base.specs.Moment.{Finite, finite, lastInstant, endOfTime}
+use Rattle.transitions.specs.Transition.{hour, readMoment}
+use Rattle.transitions.specs.Later.{laterIn}
 use Rattle.places.specs.Short.{twoBytes, shortDetails}
+use Rattle.long_starts.specs.Long.{startSize}
+use Rattle.pieces.specs.Form.{codePreferred}
 use Rattle.intervals.specs.Short.{shortOk}
 use Rattle.interval_runs.specs.declared.Run.{Run}
 
--- the start of such an interval behind prev: hours in two bytes, then name, wall offset and savings in a byte each; 0 where other codes stand
--- there. It is one where it and prev are instants (`step-start`, proofs/RunLaws.antt)
+-- the start of such an interval of five bytes behind prev, in hours; 0 where other codes stand there. It is one where it and prev are instants
+-- (`step-start`, proofs/RunLaws.antt)
 unfoldable pub stepOf : List ℕ → ℕ → ℕ → ℕ → ℕ
 stepOf s pool place prev =
     pick (both (leb 128 (twoBytes s place)) (both (shortDetails s (place + 2)) (shortOk s pool (place + 2)))) (prev + twoBytes s place * hour) 0
 
-abbrev pub goesOn : List ℕ → ℕ → ℕ → ℕ → ℕ → Bool
-goesOn s pool stop place last =
-    both (leb (place + 5) (length s)) (both (ltb 0 (stepOf s pool place last)) (leb (stepOf s pool place last) stop))
+-- the same of an interval whose start takes n bytes, more than two, where that is in the writer's form or `form` doesn't ask for it
+unfoldable pub longStepOf : List ℕ → ℕ → Bool → ℕ → ℕ → ℕ → ℕ
+longStepOf s pool form place n prev =
+    pick (both (both (shortDetails s (place + n)) (shortOk s pool (place + n))) (pick form (codePreferred prev (drop place s)) true))
+    (laterIn prev n (readMoment prev (drop place s))) 0
+
+-- the same by the size of the start
+unfoldable pub nextOf : List ℕ → ℕ → Bool → ℕ → ℕ → ℕ
+nextOf s pool form place prev =
+    pick (eqb (startSize s place) 2) (stepOf s pool place prev) (longStepOf s pool form place (startSize s place) prev)
+
+-- the place behind the interval
+abbrev pub behind : List ℕ → ℕ → ℕ
+behind s place = place + (startSize s place + 3)
+
+abbrev pub goesOn : List ℕ → ℕ → Bool → ℕ → ℕ → ℕ → Bool
+goesOn s pool form stop place last =
+    both (leb (behind s place) (length s)) (both (ltb 0 (nextOf s pool form place last)) (leb (nextOf s pool form place last) stop))
 
 abbrev pub runAt : ℕ → ℕ → ℕ → Run
 runAt left place last = record { left = left; place = place; last = last }
 
 -- at most so many from a place on, behind the start `last`, none of which starts after stop
-unfoldable pub runFrom : List ℕ → ℕ → ℕ → ℕ → ℕ → ℕ → Run
-runFrom s pool stop zero place last = runAt zero place last
-runFrom s pool stop (suc k) place last =
-    pick (goesOn s pool stop place last) (runFrom s pool stop k (place + 5) (stepOf s pool place last)) (runAt (suc k) place last)
+unfoldable pub runFrom : List ℕ → ℕ → Bool → ℕ → ℕ → ℕ → ℕ → Run
+runFrom s pool form stop zero place last = runAt zero place last
+runFrom s pool form stop (suc k) place last =
+    pick (goesOn s pool form stop place last) (runFrom s pool form stop k (behind s place) (nextOf s pool form place last)) (runAt (suc k) place last)
 
 -- none behind what is no instant
-unfoldable pub runOf : List ℕ → ℕ → ℕ → ℕ → ℕ → ℕ → Run
-runOf s pool stop left place last = pick (finite last) (runFrom s pool stop left place last) (runAt left place last)
+unfoldable pub runOf : List ℕ → ℕ → Bool → ℕ → ℕ → ℕ → ℕ → Run
+runOf s pool form stop left place last = pick (finite last) (runFrom s pool form stop left place last) (runAt left place last)
+
+-- a run from `from` on comes to r: what is left of it from there on is the same
+pub record Passed (s : List ℕ) (pool stop : ℕ) (from r : Run) : Type 0 where
+  pub fewer : r .left ≤ from .left
+  pub inside : r .place ≤ length s
+  pub instant : Finite (r .last)
+  pub same : (form : Bool) → runFrom s pool form stop (from .left) (from .place) (from .last) ≡ runFrom s pool form stop (r .left) (r .place) (r .last)
+
+-- and it ends at r, unless a longer start stands there
+pub record Stopped (s : List ℕ) (pool stop : ℕ) (from r : Run) : Type 0 where
+  pub passed : Passed s pool stop from r
+  pub ends : startSize s (r .place) ≡ 2 → (form : Bool) → r ≡ runFrom s pool form stop (r .left) (r .place) (r .last)
 
 -- the last start that a run may have, where `end` is the first start after t, or end of time while there is none: any instant, and else t
 unfoldable pub stopOf : ℕ → ℕ → ℕ

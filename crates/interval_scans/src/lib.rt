@@ -11,24 +11,7 @@ ghost use Rattle.base.specs.Parsed.{many};
 ghost use Rattle.base.specs.Moment.{endOfTime};
 ghost use Rattle.places.specs.Placed.{Stands};
 ghost use Rattle.intervals.specs.Interval.{parseInterval, startOf};
-ghost use Rattle.intervals.specs.Scan.{ofInterval, ofScan, advance as advanceOf, scanOf, FormOf};
-
-// An interval, as read_any_interval has it. One of twelve bytes, with its start in ticks, takes no call; its first byte tells, so that no
-// other loses time on it.
-pub fn read_interval(s: &[u8], at: usize, pool: u64, prev: u64) -> IntervalRead
-    requires { ⌜ at ≤ length (now s) ⌝ }
-    ensures { λ r. ⌜ Stands (now (s .entry)) (parseInterval pool prev (drop at (now (s .entry)))) (ofInterval r) ⌝ }
-{
-    if at < s.len() {
-        if s[at] == 2 {
-            let m = short_intervals::short_start(s, at, 9, pool, prev);
-            if m != 0 {
-                return IntervalRead::Got(short_intervals::short_interval(s, at + 9, m), at + 12);
-            }
-        }
-    }
-    any_intervals::read_any_interval(s, at, pool, prev)
-}
+ghost use Rattle.intervals.specs.Scan.{ofScan, advance as advanceOf, scanOf, FormOf};
 
 fn advance(t: u64, c: Scan, i: Interval) -> Scan
     ensures { λ r. ⌜ r ≡ advanceOf t c i ⌝ }
@@ -50,8 +33,8 @@ fn advance(t: u64, c: Scan, i: Interval) -> Scan
     }
 }
 
-// n intervals from the place at on, and whether their starts are in the writer's form, which is looked at where `preferred` says so. Those of five
-// bytes, the usual ones, are read in runs, of which only the last is kept; their starts are.
+// n intervals from the place at on, and whether their starts are in the writer's form, which is looked at where `preferred` says so. Those whose
+// name and offsets take a byte each, the usual ones, are read in runs, of which only the last is kept; a run has no start that changes the form.
 pub fn read_intervals(s: &[u8], at: usize, pool: u64, n: u64, t: u64, preferred: bool) -> ScanRead
     requires { ⌜ at ≤ length (now s) ⌝ }
     ensures { λ r. ⌜ Stands (now (s .entry)) (scanOf t (many (parseInterval pool) startOf n endOfTime (drop at (now (s .entry))))) (ofScan r) × FormOf (now (s .entry)) n at preferred r ⌝ }
@@ -71,7 +54,7 @@ pub fn read_intervals(s: &[u8], at: usize, pool: u64, n: u64, t: u64, preferred:
     };
     while 0 < left {
         let stop = interval_runs::stop_at(c.end, t);
-        let r = interval_runs::read_run(s, place, pool, stop, left, c.last);
+        let r = interval_runs::read_run(s, place, pool, stop, left, c.last, form);
         let e = r.place;
         if place < e {
             let i = short_intervals::short_interval(s, e - 3, r.last);
@@ -79,7 +62,7 @@ pub fn read_intervals(s: &[u8], at: usize, pool: u64, n: u64, t: u64, preferred:
             place = e;
             c = advance(t, c, i);
         } else {
-            let item = read_interval(s, place, pool, c.last);
+            let item = any_intervals::read_usual_interval(s, place, pool, c.last);
             match item {
                 IntervalRead::Refused(k) => {
                     return ScanRead::Refused(k);

@@ -1,15 +1,14 @@
 -- Whether the starts of intervals are in the writer's form: where the loop over them stands. Assumes nothing.
 use mathlib.Core.Path.{_≡_, refl, sym, ap, _∙_}
-use mathlib.Core.Bool.{Bool, true, false}
+use mathlib.Core.Bool.{Bool}
 use mathlib.Core.List.{List}
-use Prim.Native.Nat.{ℕ, zero, suc, _+_, _-_, _≤_, _<_}
+use Prim.Native.Nat.{ℕ, zero, suc, _-_, _<_}
 use native.Mathlib.Omega.{arith}
 use lib.Dec.{ltb}
-use lib.ListN.{length, drop}
+use lib.ListN.{drop}
 use Rattle.base.specs.Pick.{both}
 use Rattle.base.specs.Parsed.{got, parse}
 use Rattle.base.specs.Moment.{endOfTime}
-use Rattle.base.proofs.Parts.{Bytes}
 use Rattle.base.proofs.ParseLaws.{got-value, got-rest, bind-good, pick-good}
 use Rattle.counts.specs.Count.{readCount}
 use Rattle.offsets.specs.Offset.{inDay, readSum}
@@ -18,15 +17,13 @@ use Rattle.places.specs.Name.{judgeName, parseName}
 use Rattle.places.specs.Placed.{at, Stands}
 use Rattle.pieces.specs.Content.{Piece, bytesUpTo, parseWall, pieceEnd, afterMoment, parsePiece}
 use Rattle.pieces.specs.Form.{codePreferred, piecesPreferred}
-use Rattle.pieces.proofs.CodeLaws.{both-in, both-true, short-preferred}
+use Rattle.pieces.proofs.CodeLaws.{both-in}
 use Rattle.intervals.specs.declared.Interval.{Interval}
 use Rattle.intervals.specs.declared.Scan.{Scan}
 use Rattle.intervals.specs.declared.ScanRead.the-variants.{Got as ScanGot}
 use Rattle.intervals.specs.Interval.{standardSum, judgeStandard, afterWall, afterName, parseDetails, rises, afterStart, parseInterval, startOf}
 use Rattle.intervals.specs.Scan.{advance, unscanned, FormOf}
-use Rattle.intervals.specs.Short.{shortInterval, shortStart}
 use Rattle.intervals.proofs.ScanLaws.{advance-last}
-use Rattle.intervals.proofs.ShortLaws.{start-means, start-code}
 
 -- a code, then details, are a piece
 piece-of : (n prev m k w v : ℕ) (s q q₁ q₂ r : List ℕ) → parse (readMoment prev) s ≡ got m q → parse readCount q ≡ got k q₁
@@ -92,14 +89,6 @@ module _ (pool t : ℕ) (s : List ℕ) (from n : ℕ) (b : Bool) where
                   ∙ ap (λ (x : Bool). both x (piecesPreferred (suc k) (i .start) (drop e s))) (sym f)
                   ∙ ap (λ (x : ℕ). both after (piecesPreferred (suc k) x (drop e s))) (sym (advance-last t c i));
             })
-
-    -- an interval of five bytes
-    pub forming-short : (m : ℕ) → Bytes s → place ≤ length s → 0 < left → m ≡ shortStart s pool place 2 (c .last) → (m ≡ 0 → ⊥)
-        → Forming (left - 1) (place + 5) (advance t c (shortInterval s (place + 2) m)) form
-    forming-short m h k l e z =
-        let x = start-code s pool place 2 (c .last) m e z in
-        let y = short-preferred (c .last) s place m (place + 2) k (x .within) (x .means) h (omega arith) in
-        forming-next _ _ form l (start-means s pool place 2 (c .last) m e z) (both-true form ∙ ap (both form) (sym y))
 
     pub forming-done : left ≡ 0 → FormOf s n from b (ScanGot c place form)
     forming-done z = record { means = g .means ∙ ap (λ (x : ℕ). both form (piecesPreferred (suc x) (c .last) (drop place s))) z }

@@ -1,16 +1,16 @@
 -- An interval whose codes behind its start take a byte each. Assumes nothing.
-use mathlib.Core.Path.{_≡_, refl, sym}
+use mathlib.Core.Path.{_≡_, refl}
 use mathlib.Core.Bool.{Bool, true, false}
 use mathlib.Core.List.{List}
 use Prim.Native.Nat.{ℕ, _+_, _-_, _≤_, _<_}
 use native.Mathlib.Omega.{arith}
 use lib.Dec.{ltb}
-use lib.ListN.{length, drop, getD}
+use lib.ListN.{drop, getD}
 use borrow.Author.Tests.{lt-ltb, le-ltb, ltb-true, ne-eqb}
 use Rattle.base.specs.Pick.{pick}
 use Rattle.base.specs.Parsed.{bad, parse}
 use Rattle.base.specs.Moment.{endOfTime}
-use Rattle.base.proofs.Tests.{pick-same, both-left, both-right}
+use Rattle.base.proofs.Tests.{both-left, both-right}
 use Rattle.transitions.specs.Transition.{readMoment}
 use Rattle.places.specs.Placed.{at, Stands}
 use Rattle.places.specs.Name.{judgeName, parseName}
@@ -25,7 +25,7 @@ module _ (s : List ℕ) (pool place n prev m : ℕ) where
   later : Short s place n prev m → rises prev m ≡ true
   later h = rw (ne-eqb prev endOfTime (λ e. omega (arith, h .previous .high)), lt-ltb prev m (h .rises), lt-ltb m endOfTime (omega (arith, h .instant .high)))
 
-  interval-at : Short s place n prev m → shortOk s pool (place + n) ≡ true
+  pub interval-at : Short s place n prev m → shortOk s pool (place + n) ≡ true
       → Stands s (parseInterval pool prev (drop place s)) (at (shortInterval s (place + n) m) (place + (n + 3)))
   unfolding parseInterval afterStart parseDetails parseName afterName afterWall judgeStandard shortOk
   interval-at h o =
@@ -60,27 +60,6 @@ module _ (s : List ℕ) (pool place n prev m : ℕ) where
           → Stands s (parse (readMoment prev) (drop place s)) (at m (place + n))
       go true q k = short-means s place n prev m k z .moment
       go false q k = absurd (z k)
-
-  pub short-room : m ≡ shortAt s place n prev → (m ≡ 0 → ⊥) → place + n + 3 ≤ length s
-  short-room e z = short-means s place n prev m e z .details .savings .within
-
-  -- where one stands, the code has room to look at it
-  pub start-room : m ≡ shortStart s pool place n prev → (m ≡ 0 → ⊥) → place + (n + 3) ≤ length s
-  start-room e z = start-means e z .within
-
-  -- ways out of the code
-  pub start-none : m ≡ shortAt s place n prev → m ≡ 0 → 0 ≡ shortStart s pool place n prev
-  unfolding shortStart
-  start-none e z = rw (← e, z) (sym (pick-same (shortOk s pool (place + n)) 0))
-
-  module _ (t : Bool) (o : t ≡ shortOk s pool (place + n)) where
-    pub start-some : m ≡ shortAt s place n prev → t ≡ true → m ≡ shortStart s pool place n prev
-    unfolding shortStart
-    start-some e h = rw (← o, h) e
-
-    pub start-refused : t ≡ false → 0 ≡ shortStart s pool place n prev
-    unfolding shortStart
-    start-refused h = rw (← o, h)
 
 -- the test of its codes
 module _ (s : List ℕ) (pool place : ℕ) where

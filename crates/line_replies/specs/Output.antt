@@ -2,20 +2,15 @@
 use Prim.Native.Nat.{ℕ}
 use mathlib.Core.List.{List, map, flatten}
 use lib.Dec.{leb}
-use lib.IntN.{ℤ}
 use lib.ListN.{length, take}
 use Rattle.base.specs.Pick.{pick}
-use Rattle.zones.specs.declared.Edition.the-variants.{Two}
-use Rattle.questions.specs.Question.{ask, askPlain}
+use Rattle.asked_lines.specs.Asked.{askedBy}
 use Rattle.answers.specs.Answers.{nameOf}
-use Rattle.answers.specs.declared.Mark.the-variants as mark
 use Rattle.answers.specs.declared.Answer.{Answer}
 use Rattle.answers.specs.declared.Answer.the-variants.{In, Refused}
 use Rattle.lines.specs.Question.{parseLine}
 use Rattle.answer_lines.specs.Reply.{answerLine, refusalLine}
 use Rattle.lines.specs.Splitting.{linesOf}
-use Rattle.lines.specs.declared.Kind.{Kind}
-use Rattle.lines.specs.declared.Kind.the-variants.{Plain, Part, All}
 use Rattle.lines.specs.declared.Line.{Line}
 use Rattle.lines.specs.declared.Line.the-variants.{Ask, Unclear}
 
@@ -23,12 +18,6 @@ use Rattle.lines.specs.declared.Line.the-variants.{Ask, Unclear}
 unfoldable pub lineOf : List ℕ → Answer → List ℕ
 lineOf s (In f) = answerLine (f .wall) (f .savings) (f .standard) (nameOf s f)
 lineOf s (Refused number place) = refusalLine number place
-
--- an unmarked line asks the plain question, `part` says "more may come" and `all` "this is all"; Ask 11: "the program's lines mean 2"
-unfoldable pub askedBy : List ℕ → List ℕ → ℤ → Kind → Answer
-askedBy s zone t Plain = askPlain s zone t Two
-askedBy s zone t Part = ask s zone t mark.More Two
-askedBy s zone t All = ask s zone t mark.All Two
 
 -- the ID is the line's front; 16 for a line that isn't understood
 unfoldable pub replyTo : List ℕ → List ℕ → Line → List ℕ

@@ -3,13 +3,10 @@ ghost use mathlib.Core.Path.{_≡_};
 ghost use Prim.Native.Nat.{_≤_};
 ghost use lib.ListN.{length};
 ghost use Rattle.base.specs.Writing.{bytes, wrote, placed};
-ghost use Rattle.line_replies.specs.Output.{replyOf, lineOf, askedBy};
+ghost use Rattle.line_replies.specs.Output.{replyOf, lineOf};
 use answers::Answer;
-use answers::Mark;
 use base::Wrote;
-use lines::Kind;
 use lines::Line;
-use zones::Edition;
 
 // The line that the program writes for a question line, with the file s. It has at most 65,605 bytes: a name of at most 65,536, three
 // numbers of at most 21, and six more.
@@ -20,19 +17,9 @@ pub fn reply(s: &[u8], line: &[u8], out: &mut [u8]) -> Wrote
     if 65536 < s.len() {
         return answer_lines::write_refusal(4, 0, out);
     }
-    match lines::parse_line(line) {
-        Line::Ask(n, t, kind) => write_line(s, ask(s, &line[..n], t, kind), out),
+    match parsed_lines::parse_line(line) {
+        Line::Ask(n, t, kind) => write_line(s, asked_lines::ask(s, &line[..n], t, kind), out),
         Line::Unclear => answer_lines::write_refusal(16, 0, out),
-    }
-}
-
-fn ask(s: &[u8], zone: &[u8], t: i64, kind: Kind) -> Answer
-    ensures { λ r. ⌜ r ≡ askedBy (now (s .entry)) (now (zone .entry)) t kind ⌝ }
-{
-    match kind {
-        Kind::Plain => questions::ask_plain(s, zone, t, Edition::Two),
-        Kind::Part => questions::ask(s, zone, t, Mark::More, Edition::Two),
-        Kind::All => questions::ask(s, zone, t, Mark::All, Edition::Two),
     }
 }
 

@@ -47,7 +47,7 @@ pub fn at_interval(
     ending: ZoneEnd,
 ) -> Cursor
     requires { ⌜ ListAt pool (now s) i left place ending ⌝ }
-    ensures { λ r. ⌜ Points pool (now (s .entry)) r × Holds (r .held) (i .start) ⌝ }
+    ensures { λ r. ⌜ Points pool (now (s .entry)) ending r × Holds (r .held) (i .start) ⌝ }
 {
     if left == 0 {
         let end = list_end(ending);
@@ -57,10 +57,9 @@ pub fn at_interval(
             left: 0,
             next: i,
             place: place,
-            ending: ending,
         };
     }
-    match interval_scans::read_interval(s, place, pool, i.start) {
+    match next_intervals::read_interval(s, place, pool, i.start) {
         IntervalRead::Got(j, e) => {
             let held = until(i, j.start);
             Cursor {
@@ -68,7 +67,6 @@ pub fn at_interval(
                 left: left,
                 next: j,
                 place: e,
-                ending: ending,
             }
         }
         // The zone was read to its end before.
@@ -79,7 +77,6 @@ pub fn at_interval(
                 left: 0,
                 next: i,
                 place: place,
-                ending: ending,
             }
         }
     }

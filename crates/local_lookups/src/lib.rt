@@ -55,7 +55,7 @@ fn read_intervals(s: &[u8], at: usize, pool: u64, n: u64, l: u64) -> LocalScanRe
         last: END,
     };
     while 0 < left {
-        let item = interval_scans::read_interval(s, place, pool, c.last);
+        let item = next_intervals::read_interval(s, place, pool, c.last);
         match item {
             IntervalRead::Refused(k) => {
                 return LocalScanRead::Refused(k);

@@ -27,7 +27,7 @@ fn show_pair(s: &[u8], p: Pair) {
 
 // The country at a view's place; its step goes to `at` and `left`.
 fn show_country(s: &[u8], start: usize, end: usize, at: &mut usize, left: &mut usize) {
-    let next = location_lookup::next_country(s, start, end, *at, *left);
+    let next = country_texts::next_country(s, start, end, *at, *left);
     match next {
         NextPair::NoMore => cases::say(b" none"),
         NextPair::Given(p) => {

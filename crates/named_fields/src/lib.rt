@@ -38,7 +38,7 @@ fn judge_zone(
     requires { ⌜ Ready (now pool) (now starts) × (count ≡ length (stringsOf (now pool))) × (count ≤ length (now flags)) ⌝ }
     ensures { λ r. ⌜ JudgedZone (now (name .entry)) (now (pool .entry)) (parseZone count (now (d .entry))) (now (flags .entry)) (now (flags .exit)) r ⌝ }
 {
-    let j = locate::judge(pool, starts, count, d, name);
+    let j = asked_zones::judge(pool, starts, count, d, name);
     match j {
         Judged::Here => Judged::Here,
         Judged::Fault(n) => Judged::Fault(n),

@@ -170,7 +170,7 @@ fn ask_at(s: &[u8], name: &[u8], t: u64, edition: Edition) -> Outcome
     requires { ⌜ Finite t ⌝ }
     ensures { λ r. ⌜ r ≡ outcomeOf (walk (naming (answerAt edition t) (now (name .entry))) nothing (now (s .entry))) ⌝ }
 {
-    match locate::read_first(s) {
+    match first_fields::read_first(s) {
         First::Refused(n, p) => Outcome::Refused(n, p),
         First::Cut(p) => Outcome::Cut(p),
         First::End(p) => Outcome::End(p),

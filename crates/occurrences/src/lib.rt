@@ -12,7 +12,7 @@ fn month_day(r: Rule, k: u64) -> u64
     requires { ⌜ (k < 20000) × RuleOk r ⌝ }
     ensures { λ d. ⌜ d ≡ monthDay r k ⌝ }
 {
-    let n = calendar::month_length(k, r.month);
+    let n = dates::month_length(k, r.month);
     if r.last {
         n + 1 - r.day
     } else {
@@ -28,7 +28,7 @@ fn move_day(weekday: u64, after: bool, n: u64) -> u64
     if weekday == 0 {
         return n;
     }
-    let w = calendar::weekday(n);
+    let w = dates::weekday(n);
     if after {
         n + (weekday + 7 - w) % 7
     } else {
@@ -41,7 +41,7 @@ fn falls_on(r: Rule, k: u64) -> u64
     requires { ⌜ (1 ≤ k) × (k < 19000) × RuleOk r ⌝ }
     ensures { λ d. ⌜ d ≡ fallsOn r k ⌝ }
 {
-    let n = calendar::day_number(k, r.month, month_day(r, k));
+    let n = dates::day_number(k, r.month, month_day(r, k));
     let m = move_day(r.weekday, r.after, n);
     if r.plus { m + 1 } else { m }
 }

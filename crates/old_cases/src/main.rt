@@ -68,27 +68,33 @@ fn show_wrote(r: Wrote, out: &[u8]) {
 
 fn read_code(kind: u8, s: &[u8]) {
     if kind == b'c' {
-        show_read(old_counts::read_count(s));
+        show_read(old_count_readers::read_count(s));
         return;
     }
     if kind == b'o' {
-        show_signed(old_offsets::read_offset(s));
+        show_signed(old_offset_readers::read_offset(s));
         return;
     }
     if kind == b't' {
         show_text(old_texts::read_text(s));
         return;
     }
-    show_found(old_dictionaries::read_dictionary(s));
+    show_found(old_entries::read_dictionary(s));
 }
 
 // Writes the number that s spells.
 fn write_number(kind: u8, s: &[u8], out: &mut [u8]) {
     if kind == b'c' {
-        show_wrote(old_counts::write_count(cases::natural(s), out), &*out);
+        show_wrote(
+            old_count_writers::write_count(cases::natural(s), out),
+            &*out,
+        );
         return;
     }
-    show_wrote(old_offsets::write_offset(cases::integer(s), out), &*out);
+    show_wrote(
+        old_offset_writers::write_offset(cases::integer(s), out),
+        &*out,
+    );
 }
 
 fn write_text(t: &[u8], out: &mut [u8]) {
@@ -98,7 +104,7 @@ fn write_text(t: &[u8], out: &mut [u8]) {
 // Writes the dictionary of so many pairs.
 fn write_dictionary(count: &[u8], pairs: &[u8], out: &mut [u8]) {
     show_wrote(
-        old_dictionaries::write_dictionary(cases::natural(count), pairs, out),
+        old_dictionary_writers::write_dictionary(cases::natural(count), pairs, out),
         &*out,
     );
 }

@@ -42,12 +42,12 @@ fn show_answer(s: &[u8], a: Answer) {
 fn run_file(s: &[u8], older: &[u8], name: &[u8], ticks: i64) {
     show_answer(
         s,
-        old_named_questions::ask_named_old(s, older, name, ticks, Edition::Two),
+        old_name_answers::ask_named_old(s, older, name, ticks, Edition::Two),
     );
     cases::say(b" | ");
     show_answer(
         s,
-        old_named_questions::ask_named_old(s, older, name, ticks, Edition::One),
+        old_name_answers::ask_named_old(s, older, name, ticks, Edition::One),
     );
     cases::say(b"\n");
 }

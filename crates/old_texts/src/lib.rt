@@ -12,7 +12,7 @@ ghost use Rattle.old_texts.specs.OldText.{readOldText, writeOldText, old
 pub fn read_text(s: &[u8]) -> Text
     ensures { λ r. ⌜ r ≡ readOldText (now (s .entry)) ⌝ }
 {
-    match old_counts::read_count(s) {
+    match old_count_readers::read_count(s) {
         Read::Refused(k) => Text::Refused(k),
         Read::Value(n, a) => texts::text_behind(s, a, n as usize, 0),
     }
@@ -24,11 +24,11 @@ pub fn write_sized(t: &[u8], out: &mut [u8]) -> Wrote
     ensures { λ r. ⌜ Writes (bytes (writeOldText (now (t .entry)))) (now (out .entry)) r (now (out .exit)) ⌝ }
 {
     let n = t.len();
-    let a = old_counts::count_size(n as u64);
+    let a = old_count_writers::count_size(n as u64);
     if out.len() < a + n {
         return Wrote::Refused(15);
     }
-    old_counts::write_count(n as u64, out);
+    old_count_writers::write_count(n as u64, out);
     bytes::copy(t, &mut out[a..]);
     Wrote::Length(a + n)
 }

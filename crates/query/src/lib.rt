@@ -35,7 +35,7 @@ fn answer_block(s: &[u8], block: &[u8], held: &mut [u8], n: usize, out: &mut [u8
     let mut begun = n;
     let mut at = 0;
     while at < block.len() {
-        match lines::gather(&block[at..], held, begun) {
+        match gathered_lines::gather(&block[at..], held, begun) {
             Gathered::Whole(m, used) => {
                 answer(s, &held[..m], out, to);
                 begun = 0;

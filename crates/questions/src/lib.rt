@@ -1,6 +1,4 @@
 // Asking one zone at one instant, on any bytes: the walk to the asked zone, the lookup there and the answer.
-use answers::Answer;
-use answers::Mark;
 use answers::Outcome;
 use locate::First;
 use locate::Located;
@@ -15,7 +13,7 @@ ghost use Rattle.pool.specs.Index.{roomOf, Ready};
 ghost use Rattle.frames.specs.Machine.{walk};
 ghost use Rattle.answers.specs.Answers.{noPool};
 ghost use Rattle.locate.specs.View.{part, poolAt, Lies, byPool, locatedOut, Within};
-ghost use Rattle.questions.specs.Question.{question, ask as askOf, askPlain};
+ghost use Rattle.questions.specs.Question.{question};
 ghost use Rattle.questions.specs.View.{outcomeOf, outcomeAt};
 
 // What a walk comes to at the instant t under an edition, by what it located; the data of field 0 is s[d..e].
@@ -38,7 +36,7 @@ pub fn answer_at(
         Located::Found(v) => {
             let from = v.start;
             let to = v.past;
-            match lookups::find(&s[from..to], v.count as u64, t, edition) {
+            match zone_lookups::find(&s[from..to], v.count as u64, t, edition) {
                 ZoneAnswer::Refused(n) => Outcome::Refused(n, v.place),
                 ZoneAnswer::In(x) => Outcome::Answered(answers::answered(&s[d..e], starts, d, x)),
             }
@@ -59,7 +57,7 @@ fn ask_with(
     requires { ⌜ Lies (now s) d e × (roomOf (part d e (now s)) ≤ length (now starts)) × Finite t ⌝ }
     ensures { λ r. ⌜ r ≡ outcomeAt edition t (byPool (now (id .entry)) (now (s .entry)) d e (parsePool (part d e (now (s .entry))))) ⌝ }
 {
-    let l = locate::walk(s, d, e, id, starts);
+    let l = asked_zones::walk(s, d, e, id, starts);
     answer_at(s, &*starts, d, e, t, edition, l)
 }
 
@@ -86,7 +84,7 @@ pub fn ask_at(s: &[u8], id: &[u8], t: u64, edition: Edition) -> Outcome
     requires { ⌜ Finite t ⌝ }
     ensures { λ r. ⌜ r ≡ outcomeOf (walk (question edition (now (id .entry)) t) noPool (now (s .entry))) ⌝ }
 {
-    match locate::read_first(s) {
+    match first_fields::read_first(s) {
         First::Refused(n, p) => Outcome::Refused(n, p),
         First::Cut(p) => Outcome::Cut(p),
         First::End(p) => Outcome::End(p),
@@ -97,23 +95,4 @@ pub fn ask_at(s: &[u8], id: &[u8], t: u64, edition: Edition) -> Outcome
             ask_long(s, d, e, id, t, edition)
         }
     }
-}
-
-// The marked question: the zone with the bytes id, at a tick since 1970, under an edition.
-pub fn ask(s: &[u8], id: &[u8], ticks: i64, mark: Mark, edition: Edition) -> Answer
-    ensures { λ r. ⌜ r ≡ askOf (now (s .entry)) (now (id .entry)) ticks mark edition ⌝ }
-{
-    let t = signed::instant(ticks);
-    if t == 0 {
-        return Answer::Refused(14, 0);
-    }
-    let o = ask_at(s, id, t, edition);
-    answers::finish(o, mark)
-}
-
-// The plain question: more may come.
-pub fn ask_plain(s: &[u8], id: &[u8], ticks: i64, edition: Edition) -> Answer
-    ensures { λ r. ⌜ r ≡ askPlain (now (s .entry)) (now (id .entry)) ticks edition ⌝ }
-{
-    ask(s, id, ticks, Mark::More, edition)
 }

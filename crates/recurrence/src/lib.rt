@@ -42,7 +42,7 @@ fn occurrences_at(r: Rule, offset: u64, t: u64) -> Occurrences
     requires { ⌜ Finite t × (offset ≤ 172800000) × RuleOk r ⌝ }
     ensures { λ x. ⌜ x ≡ around (occurrence r offset) t ⌝ }
 {
-    let y0 = calendar::year_of(t / DAY) - 2;
+    let y0 = dates::year_of(t / DAY) - 2;
     let y1 = y0 + 1;
     let a = occurrences::occurrence_in(r, offset, y1);
     if t < a {

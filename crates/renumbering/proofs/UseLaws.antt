@@ -3,8 +3,7 @@ use mathlib.Core.Path.{_≡_, refl, sym, ap, _∙_}
 use mathlib.Core.List.{List, _∷_}
 use Prim.Native.Nat.{ℕ, _+_, _-_, _≤_, _<_}
 use native.Mathlib.Omega.{arith}
-use lib.ListN.{length, getD, set, drop}
-use lib.Seq.{set-out}
+use lib.ListN.{length, getD, drop}
 use Rattle.use_order.specs.Order.{mention, mentionAll}
 use Rattle.use_order.proofs.NumberLaws.{length-mention, mention-most}
 use Rattle.mentions.specs.declared.Stage.{Stage}
@@ -12,15 +11,8 @@ use Rattle.mentions.specs.Walk.{firstStage}
 use Rattle.mentions.specs.Content.{Content, contentAt, numbersIn, numbersOf}
 use Rattle.mentions.specs.View.{MentionAt, NoMention}
 use Rattle.mentions.proofs.ContentLaws.{content-next, content-end}
+use Rattle.mention_runs.specs.Run.{Room, Counted}
 use Rattle.renumbering.specs.Table.{Fits}
-
-pub mention-some : (k : ℕ) (u : List ℕ) → set u k (getD u k 0 + 1) ≡ mention k u
-unfolding mention
-mention-some k u = refl
-
-pub mention-none : (k : ℕ) (u : List ℕ) → length u ≤ k → u ≡ mention k u
-unfolding mention
-mention-none k u h = sym (set-out u k (getD u k 0 + 1) h)
 
 module _ (i : ℕ) (s start : List ℕ) where
   -- the walk stands at a place: the uses so far and the mentions from there on make the uses of the whole
@@ -34,6 +26,19 @@ module _ (i : ℕ) (s start : List ℕ) where
   counting-start σ e f = rw e (record { within = omega arith; all = refl; room = λ k. omega (arith, f .room k); same = refl })
 
   module _ (uses : List ℕ) (place : ℕ) (σ : Stage) (c : Counting uses place σ) where
+    -- behind a run
+    pub run-room : Room uses (length s - place)
+    run-room = record { room = c .room }
+
+    pub counting-run : (b : ℕ) (τ : Stage) (w : List ℕ) → Counted s place σ uses b τ w → Counting w b τ
+    counting-run b τ w r =
+        record {
+          within = r .within;
+          all = r .all ∙ c .all;
+          room = λ k. omega (arith, c .room k, r .most k, r .onward, r .within);
+          same = r .same ∙ c .same;
+        }
+
     pub counting-next : (τ : Stage) (v p e : ℕ) (after : List ℕ) → MentionAt s place σ τ v p e → after ≡ mention v uses → Counting after e τ
     unfolding numbersIn mentionAll
     counting-next τ v p e after m h =

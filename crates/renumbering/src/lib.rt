@@ -3,23 +3,13 @@ use base::Wrote;
 use mentions::Mentioned;
 ghost use mathlib.Core.Path.{_≡_};
 ghost use mathlib.Core.List.{_++_};
-ghost use Prim.Native.Nat.{_≤_, _<_};
-ghost use lib.ListN.{length, getD};
+ghost use Prim.Native.Nat.{_≤_};
+ghost use lib.ListN.{length};
 ghost use Rattle.counts.specs.Count.{writeCount};
-ghost use Rattle.use_order.specs.Order.{mention as mentionOf, mentionAll, newNumber};
+ghost use Rattle.use_order.specs.Order.{mentionAll, newNumber};
 ghost use Rattle.mentions.specs.Content.{numbersOf, renumbered};
 ghost use Rattle.pieces.specs.View.{Put};
 ghost use Rattle.renumbering.specs.Table.{Fits, Small};
-
-// One use more of k.
-fn mention(uses: &mut [u32], k: usize)
-    requires { ⌜ getD (now uses) k 0 < 4294967295 ⌝ }
-    ensures { λ _. ⌜ now (uses .exit) ≡ mentionOf k (now (uses .entry)) ⌝ }
-{
-    if k < uses.len() {
-        uses[k] = uses[k] + 1;
-    }
-}
 
 // Counts the mentions in the data of a field with the ID i.
 pub fn count(i: u8, s: &[u8], uses: &mut [u32])
@@ -29,13 +19,16 @@ pub fn count(i: u8, s: &[u8], uses: &mut [u32])
     let mut at: usize = 0;
     let mut stage = mention_steps::first(i);
     loop {
-        let m = mention_steps::next(s, at, stage);
+        let c = mention_runs::count_run(s, at, stage, uses);
+        let place = c.place;
+        let behind_run = c.stage;
+        let m = mention_steps::next(s, place, behind_run);
         match m {
             Mentioned::Nothing => {
                 return;
             }
             Mentioned::Here(behind, v, _, e) => {
-                mention(uses, v as usize);
+                mention_runs::mention(uses, v as usize);
                 at = e;
                 stage = behind;
             }

@@ -6,7 +6,8 @@ use Prim.Native.Nat.{ℕ, zero, suc, _+_, _-_, _*_, _<_}
 use native.Mathlib.Omega.{arith}
 use Rattle.base.specs.Pick.{pick}
 use Rattle.base.proofs.Tests.{clash}
-use Rattle.replay.specs.Reports.{agrees, firstWrong}
+use Rattle.trace_records.specs.Record.{agrees}
+use Rattle.replay.specs.Reports.{firstWrong}
 use Rattle.replay.specs.Facts.{First}
 use Rattle.replay.specs.declared.Report.the-variants.{Record, Nothing}
 

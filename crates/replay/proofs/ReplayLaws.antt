@@ -1,85 +1,25 @@
 -- Replaying record by record. Assumes nothing.
-use mathlib.Core.Path.{_≡_, refl, sym, ap, _∙_}
+use mathlib.Core.Path.{_≡_, refl, sym, ap, _∙_, subst}
 use mathlib.Core.Bool.{Bool, true, false}
 use mathlib.Core.List.{List}
 use Prim.Native.Nat.{ℕ, zero, suc, _+_, _-_, _*_, _≤_, _<_}
 use native.Mathlib.Omega.{arith}
-use lib.IntN.{ℤ, pos, negsuc}
-use lib.Signed.{ltZ}
-use lib.ListN.{length, take, drop}
-use borrow.Author.Tests.{ltb-false, le-ltb}
+use lib.Dec.{eqb}
+use lib.ListN.{length, getD, set, replicate, length-set, length-replicate, getD-replicate}
+use lib.Seq.{getD-set-same, getD-set-other}
+use borrow.Author.Tests.{eqb-true, eqb-false}
 use Rattle.base.specs.Pick.{pick}
-use Rattle.base.proofs.Tests.{never}
-use Rattle.zones.specs.declared.Edition.the-variants.{Two}
-use Rattle.answers.specs.declared.Mark.the-variants.{All}
-use Rattle.answers.specs.declared.Found.{Found}
-use Rattle.answers.specs.declared.Answer.the-variants.{In, Refused as Denied}
-use Rattle.questions.specs.Question.{ask}
-use Rattle.traces.specs.Trace.{recordCount, recordsAt, namesAt, namesSize, instantAt, nameStart, nameLength, shownAt, nameAt, namesWithin, traceOk}
+use Rattle.traces.specs.Trace.{recordCount, recordsAt, namesAt, namesSize, nameStart, nameLength, namesWithin, traceOk}
 use Rattle.traces.proofs.TraceLaws.{Fits, trace-fits, names-first, names-rest}
-use Rattle.replay.specs.Reports.{sameAs, gives, shows, agrees, firstWrong, replay}
+use Rattle.trace_records.specs.Record.{agrees}
+use Rattle.trace_records.specs.Kept.{KeptOk, Takes}
+use Rattle.trace_records.specs.declared.Kept.{Kept}
+use Rattle.trace_records.specs.declared.Taken.{Taken}
+use Rattle.trace_records.proofs.KeptLaws.{none-ok}
+use Rattle.replay.specs.Reports.{firstWrong, replay}
 use Rattle.replay.specs.View.{Records}
 use Rattle.replay.specs.declared.Report.{Report}
 use Rattle.replay.specs.declared.Report.the-variants.{Record, Nothing, Refused}
-
--- integers of which neither is less are equal
-not-less : (a b : ℤ) → ltZ a b ≡ false → ltZ b a ≡ false → a ≡ b
-not-less (pos a) (pos b) e f = ap pos (omega (arith, ltb-false a b e, ltb-false b a f))
-not-less (pos a) (negsuc b) e f = never refl f
-not-less (negsuc a) (pos b) e f = never refl e
-not-less (negsuc a) (negsuc b) e f = ap negsuc (omega (arith, ltb-false b a e, ltb-false a b f))
-
-itself : (a : ℤ) → ltZ a a ≡ false
-itself (pos a) = le-ltb a a (omega arith)
-itself (negsuc a) = le-ltb a a (omega arith)
-
-pub same-self : (a : ℤ) → sameAs a a ≡ true
-unfolding sameAs
-same-self a = rw (itself a) refl
-
-pub same-one : (a b : ℤ) → sameAs a b ≡ true → a ≡ b
-unfolding sameAs
-same-one a b e = go (ltZ a b) refl (ltZ b a) refl e
-  where
-    go : (t : Bool) → ltZ a b ≡ t → (u : Bool) → ltZ b a ≡ u → pick t false (pick u false true) ≡ true → a ≡ b
-    go true k u l e = never e refl
-    go false k true l e = never e refl
-    go false k false l e = not-less a b k l
-
-module _ (a b : ℤ) where
-  pub less-no : ltZ a b ≡ true → false ≡ sameAs a b
-  unfolding sameAs
-  less-no e = rw e refl
-
-  pub more-no : ltZ a b ≡ false → ltZ b a ≡ true → false ≡ sameAs a b
-  unfolding sameAs
-  more-no e f = rw (e, f) refl
-
-  pub same-yes : ltZ a b ≡ false → ltZ b a ≡ false → true ≡ sameAs a b
-  unfolding sameAs
-  same-yes e f = rw (e, f) refl
-
--- what a question says of the offset shown
-module _ (f id : List ℕ) (z shown : ℤ) where
-  pub shows-answer : (x : Found) → In x ≡ ask f id z All Two → sameAs (x .wall) shown ≡ shows f id z shown
-  unfolding shows
-  shows-answer x e = ap (gives shown) e
-
-  pub shows-none : (n p : ℕ) → Denied n p ≡ ask f id z All Two → false ≡ shows f id z shown
-  unfolding shows
-  shows-none n p e = ap (gives shown) e
-
--- a record, by its numbers
-pub agrees-is : (f : List ℕ) (names : ℕ) (s : List ℕ) (at start len : ℕ) (z w : ℤ) (r : Bool)
-    → r ≡ shows f (take (names + start + len - (names + start)) (drop (names + start) s)) z w
-    → start ≡ nameStart at s → len ≡ nameLength at s → z ≡ instantAt at s → w ≡ shownAt at s → r ≡ agrees f names s at
-unfolding agrees
-agrees-is f names s at start len z w r e a b c d =
-    let k : names + start + len - (names + start) ≡ len = omega arith in
-    e ∙ ap (λ (n : ℕ). shows f (take n (drop (names + start) s)) z w) (k ∙ b)
-    ∙ ap (λ (n : ℕ). shows f (take (nameLength at s) (drop (names + n) s)) z w) a
-    ∙ ap (λ (y : ℤ). shows f (nameAt names at s) y w) c
-    ∙ ap (λ (y : ℤ). shows f (nameAt names at s) (instantAt at s) y) d
 
 -- a record's name lies in the trace
 module _ (s : List ℕ) (names : ℕ) where
@@ -95,44 +35,69 @@ module _ (s : List ℕ) (names : ℕ) where
     each-name = names-rest s (r .size) n at h (r .each-name);
   }
 
--- the loop over the records
+-- the loop over the records, by the marks and the zones kept
 module _ (f : List ℕ) (names : ℕ) (s : List ℕ) (n at : ℕ) where
-  pub record Replayed (left i place : ℕ) : Type 0 where
+  pub record Replayed (marks : List ℕ) (kept : List Kept) (left i place : ℕ) : Type 0 where
     pub records : Records s names left place
     pub count : i + left ≡ n
     pub same : firstWrong f names s n 0 at ≡ firstWrong f names s left i place
+    pub marked : length marks ≡ 512
+    pub slots : length kept ≡ 512
+    pub good : (j : ℕ) (d : Kept) → j < 512 → KeptOk f names s (getD kept j d)
 
-  pub replayed-start : Records s names n at → Replayed n 0 at
-  replayed-start r = record { records = r; count = omega arith; same = refl }
+  pub replayed-start : Records s names n at → (k : Kept) → k .end ≡ 0 → Replayed (replicate 512 0) (replicate 512 k) n 0 at
+  replayed-start r k e = record {
+    records = r;
+    count = omega arith;
+    same = refl;
+    marked = length-replicate {A = ℕ} 512 0;
+    slots = length-replicate 512 k;
+    good = λ j d h. subst (KeptOk f names s) (sym (getD-replicate 512 j k d h)) (none-ok f names s k e);
+  }
 
-  module _ (left i place : ℕ) (g : Replayed left i place) where
-    pub replayed-next : 0 < left → true ≡ agrees f names s place → Replayed (left - 1) (i + 1) (place + 20)
+  module _ (marks : List ℕ) (kept : List Kept) (left i place : ℕ) (g : Replayed marks kept left i place) (h : 0 < left) (r : Taken)
+      (t : Takes f names s (agrees f names s place) r) where
+    pub replayed-next : r .agrees ≡ true → (j m : ℕ) → j < 512 → Replayed (set marks j m) (set kept j (r .kept)) (left - 1) (i + 1) (place + 20)
     unfolding firstWrong
-    replayed-next h e = record {
+    replayed-next e j m l = record {
       records = records-rest s names left place (g .records) h;
       count = omega (arith, g .count);
       same = g .same ∙ go left h;
+      marked = length-set marks j m ∙ g .marked;
+      slots = length-set kept j (r .kept) ∙ g .slots;
+      good = λ k d u. put k d u (eqb k j) refl;
     }
       where
         go : (m : ℕ) → 0 < m → firstWrong f names s m i place ≡ firstWrong f names s (m - 1) (i + 1) (place + 20)
         go zero h = absurd (omega arith)
-        go (suc m) h = let w : m ≡ suc m - 1 = omega arith in rw (sym e) (ap (λ (k : ℕ). firstWrong f names s k (i + 1) (place + 20)) w)
+        go (suc m) h =
+            let w : m ≡ suc m - 1 = omega arith in
+            let a : agrees f names s place ≡ true = sym (t .agreed) ∙ e in
+            rw a (ap (λ (k : ℕ). firstWrong f names s k (i + 1) (place + 20)) w)
 
-    pub replayed-wrong : 0 < left → false ≡ agrees f names s place → Record i ≡ firstWrong f names s n 0 at
+        put : (k : ℕ) (d : Kept) → k < 512 → (b : Bool) → eqb k j ≡ b → KeptOk f names s (getD (set kept j (r .kept)) k d)
+        put k d u true q =
+            let w : j < length kept = omega (arith, g .slots) in
+            subst (λ (x : ℕ). KeptOk f names s (getD (set kept j (r .kept)) x d)) (sym (eqb-true k j q))
+            (subst (KeptOk f names s) (sym (getD-set-same kept j (r .kept) d w)) (t .kept))
+        put k d u false q = subst (KeptOk f names s) (sym (getD-set-other kept j k (r .kept) d (eqb-false k j q))) (g .good k d u)
+
+    pub replayed-wrong : r .agrees ≡ false → Record i ≡ firstWrong f names s n 0 at
     unfolding firstWrong
-    replayed-wrong h e = sym (g .same ∙ go left h)
+    replayed-wrong e = sym (g .same ∙ go left h)
       where
         go : (m : ℕ) → 0 < m → firstWrong f names s m i place ≡ Record i
         go zero h = absurd (omega arith)
-        go (suc m) h = rw (sym e) refl
+        go (suc m) h = let a : agrees f names s place ≡ false = sym (t .agreed) ∙ e in rw a refl
 
-    pub replayed-done : left ≡ 0 → Nothing ≡ firstWrong f names s n 0 at
-    unfolding firstWrong
-    replayed-done h = sym (g .same ∙ go left h)
-      where
-        go : (m : ℕ) → m ≡ 0 → firstWrong f names s m i place ≡ Nothing
-        go zero h = refl
-        go (suc m) h = absurd (omega arith)
+  pub replayed-done : (marks : List ℕ) (kept : List Kept) (left i place : ℕ) → Replayed marks kept left i place → left ≡ 0
+      → Nothing ≡ firstWrong f names s n 0 at
+  unfolding firstWrong
+  replayed-done marks kept left i place g h = sym (g .same ∙ go left h)
+    where
+      go : (m : ℕ) → m ≡ 0 → firstWrong f names s m i place ≡ Nothing
+      go zero h = refl
+      go (suc m) h = absurd (omega arith)
 
 module _ (f s : List ℕ) where
   pub replay-bad : false ≡ traceOk s → Refused 21 0 ≡ replay f s

@@ -3,7 +3,7 @@ use Prim.Native.Nat.{ℕ, _+_, _*_, _<_}
 use mathlib.Core.Bool.{true, false}
 use mathlib.Core.List.{List}
 use mathlib.Core.Path.{_≡_}
-use Rattle.replay.specs.Reports.{agrees}
+use Rattle.trace_records.specs.Record.{agrees}
 
 -- of n records at a place, the one with the number i is the first that the file contradicts
 pub record First (f : List ℕ) (names : ℕ) (s : List ℕ) (at n i : ℕ) : Type 0 where

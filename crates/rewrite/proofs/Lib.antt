@@ -6,8 +6,7 @@ pub mod MovedLaws
 pub mod PassMovedLaws
 pub mod ZoneMovedLaws
 pub mod Rewriting
-pub mod ReadyLaws
-pub mod VersionLaws
+pub mod OutcomeLaws
 pub mod ShortestLaws
 pub mod Example
 pub mod AbsenceLaws

@@ -12,6 +12,8 @@ use Rattle.frames.specs.Fields.{endAt, listing, fields, over}
 use Rattle.frames.proofs.ChainLaws.{Chain, listing-chain}
 use Rattle.frames.proofs.PartLaws.{walk-ended}
 use Rattle.frames.proofs.WalkLaws.{walk-pass}
+use Rattle.frames.specs.Covers.{Covers}
+use Rattle.frames.proofs.CoverLaws.{listing-covers}
 use Rattle.field_checks.specs.Check.{start, job, WellFormed}
 use Rattle.rewrite.specs.Preferred.{contents, content, preferred, printFile}
 use Rattle.rewrite.proofs.MovedLaws.{moved, preferred-listing, moved-contents, preferred-within}
@@ -32,6 +34,10 @@ none-moved at (g ∷ gs) e = clash cc
 pub version-there : (f : List ℕ) (gs : List Field) → Chain f false 0 4 gs → (gs ≡ [] → ⊥) → 4 ≤ length f
 version-there f [] c n = absurd (n refl)
 version-there f (g ∷ gs) c n = omega (arith, c .0, c .1 .starts, c .1 .ends, c .1 .within)
+
+-- the fields of a well-formed file cover it
+pub file-covers : (f : List ℕ) → WellFormed f → Covers f 4 (fields f)
+file-covers f w = listing-covers f (walk-ended job start (w .memory) f (length f) (w .ends) .whole) (w .some-field)
 
 module _ (f : List ℕ) (w : WellFormed f) (b : Bytes f) where
   -- THE FIELDS OF THE PREFERRED FILE are those of f in their order with their preferred data, one behind the other to its end

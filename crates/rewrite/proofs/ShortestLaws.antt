@@ -25,8 +25,7 @@ use Rattle.frames.specs.Covers.{Covers}
 use Rattle.rewrite.proofs.KeptLaws.{preferredData, FieldKept}
 use Rattle.rewrite.proofs.MovedLaws.{headFor, printed-size, printed-within}
 use Rattle.rewrite.proofs.PassMovedLaws.{fields-kept}
-use Rattle.rewrite.proofs.ReadyLaws.{file-covers}
-use Rattle.rewrite.proofs.Rewriting.{same-preferred, version-there}
+use Rattle.rewrite.proofs.Rewriting.{file-covers, same-preferred, version-there}
 
 -- the bytes of a field: its ID, its size's code, its data
 pub field-bytes-are : (f : List ℕ) (g : Field) (o : FieldOf f g) (code : List ℕ)

@@ -1,4 +1,3 @@
 pub mod Preferred
-pub mod View
 pub mod Numbers
 pub mod Kept

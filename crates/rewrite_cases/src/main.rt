@@ -14,7 +14,7 @@ fn show_result(r: Rewritten) {
 }
 
 fn run_file(s: &[u8], out: &mut [u8]) {
-    show_result(rewrite::normalize(s, out));
+    show_result(normalizing::normalize(s, out));
     cases::say(b" ");
     outputs::say(out);
     cases::say(b"\n");

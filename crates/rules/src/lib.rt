@@ -61,9 +61,9 @@ fn most_day(month: u64, last: bool) -> u64
     ensures { λ r. ⌜ r ≡ mostDay month last ⌝ }
 {
     if last {
-        return calendar::month_length(2422, month);
+        return dates::month_length(2422, month);
     }
-    calendar::month_length(2423, month)
+    dates::month_length(2423, month)
 }
 
 // Whether the time of day of a rule, as an offset, is allowed.

@@ -3,7 +3,7 @@ use intervals::Interval;
 ghost use mathlib.Core.Path.{_≡_};
 ghost use Prim.Native.Nat.{_+_, _≤_};
 ghost use lib.ListN.{length};
-ghost use Rattle.intervals.specs.Short.{shortInterval, shortOk, shortStart};
+ghost use Rattle.intervals.specs.Short.{shortInterval, shortOk};
 
 // Whether the codes of a byte each at a place have a name of the pool and a standard offset inside 24 hours. In half hours two bytes tell that;
 // their difference, with what keeps it above 0, is in one range, which is one test of the machine's.
@@ -19,22 +19,6 @@ pub fn short_ok(s: &[u8], at: usize, pool: u64) -> bool
         return false;
     }
     standard < 351
-}
-
-// The start of an interval whose start takes n bytes, two of hours or nine of ticks, and whose other codes take one each; 0 where other codes
-// stand there, or where it is refused.
-pub fn short_start(s: &[u8], at: usize, n: usize, pool: u64, prev: u64) -> u64
-    requires { ⌜ (at ≤ length (now s)) × (n ≤ 9) ⌝ }
-    ensures { λ r. ⌜ r ≡ shortStart (now (s .entry)) pool at n prev ⌝ }
-{
-    let m = short_places::short_at(s, at, n, prev);
-    if m == 0 {
-        return 0;
-    }
-    if short_ok(s, at + n, pool) {
-        return m;
-    }
-    0
 }
 
 // An interval with the start m and the codes of a byte each at a place.

@@ -28,7 +28,7 @@ fn fill_with(
     requires { ⌜ Lies (now s) d e × (roomOf (part d e (now s)) ≤ length (now starts)) ⌝ }
     ensures { λ r. ⌜ FillsAt (byPool (now (id .entry)) (now (s .entry)) d e (parsePool (part d e (now (s .entry))))) (now (out .entry)) r (now (out .exit)) ⌝ }
 {
-    match locate::walk(s, d, e, id, starts) {
+    match asked_zones::walk(s, d, e, id, starts) {
         Located::Refused(n, p) => Filling::Refused(n, p),
         Located::Cut(p) => Filling::Refused(2, p),
         Located::End(p) => Filling::Refused(12, p),
@@ -66,7 +66,7 @@ fn fill_long(s: &[u8], d: usize, e: usize, id: &[u8], out: &mut [i64]) -> Fillin
 pub fn fill_starts(s: &[u8], id: &[u8], out: &mut [i64]) -> Filling
     ensures { λ r. ⌜ FillsFrom (now (s .entry)) (now (id .entry)) (now (out .entry)) r (now (out .exit)) ⌝ }
 {
-    match locate::read_first(s) {
+    match first_fields::read_first(s) {
         First::Refused(n, p) => Filling::Refused(n, p),
         First::Cut(p) => Filling::Refused(2, p),
         First::End(p) => Filling::Refused(12, p),

@@ -1,7 +1,7 @@
 -- Many instants at once: where the test is the same from t to before e, the stretches go on from e. Assumes nothing.
 use mathlib.Core.Path.{_≡_, refl, sym, ap, _∙_}
 use mathlib.Core.Bool.{Bool, true, false}
-use mathlib.Core.List.{List, [], _∷_, _++_}
+use mathlib.Core.List.{List, [], _∷_, _++_, append-nil}
 use Prim.Native.Nat.{ℕ, zero, suc, _+_, _-_, _*_, _≤_, _<_}
 use native.Mathlib.Omega.{arith}
 use lib.IntN.{ℤ}
@@ -97,6 +97,28 @@ same-from P Q (suc n) since t h =
 pub same-stretches : (P Q : ℕ → Bool) (first last : ℕ) → ((u : ℕ) → first ≤ u → u < last → P u ≡ Q u) → stretches P first last ≡ stretches Q first last
 unfolding stretches
 same-stretches P Q first last h = same-from P Q (last - first) 0 first (λ u i j. h u i (omega arith))
+
+-- the test fails from an instant on: the window may end there
+none-from : (P : ℕ → Bool) (n since t : ℕ) → ((u : ℕ) → t ≤ u → u < t + n → P u ≡ false) → stretchesFrom P since n t ≡ closed since t
+unfolding stretchesFrom
+none-from P zero since t h = refl
+none-from P (suc n) since t h =
+    rw (h t (omega arith) (omega arith))
+    (ap (λ (xs : List Stretch). closed since t ++ xs) (none-from P n 0 (suc t) (λ u i j. h u (omega arith) (omega arith)) ∙ closed-none (suc t)) ∙ append-nil (closed since t))
+
+short-from : (P : ℕ → Bool) (k m since t : ℕ) → k ≤ m → ((u : ℕ) → t + k ≤ u → u < t + m → P u ≡ false) → stretchesFrom P since k t ≡ stretchesFrom P since m t
+unfolding stretchesFrom
+short-from P zero m since t l h = sym (none-from P m since t (λ u i j. h u (omega arith) j))
+short-from P (suc k) zero since t l h = absurd (omega arith)
+short-from P (suc k) (suc m) since t l h =
+    rw (
+      short-from P k m (opened since t) (suc t) (omega arith) (λ u i j. h u (omega arith) (omega arith)),
+      short-from P k m 0 (suc t) (omega arith) (λ u i j. h u (omega arith) (omega arith)),
+    )
+
+pub short-window : (P : ℕ → Bool) (first stop last : ℕ) → stop ≤ last → ((u : ℕ) → stop ≤ u → u < last → P u ≡ false) → stretches P first stop ≡ stretches P first last
+unfolding stretches
+short-window P first stop last l h = short-from P (stop - first) (last - first) 0 first (omega arith) (λ u i j. h u (omega arith) (omega arith))
 
 -- two numbers each
 pub numbers-length : (xs : List Stretch) → length (numbersOf xs) ≡ 2 * length xs

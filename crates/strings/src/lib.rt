@@ -1,5 +1,4 @@
 // The strings of a pool by number, through its index, and texts that lie in the pool or in a field.
-use base::Read;
 use pool::Span;
 ghost use mathlib.Core.Path.{_≡_};
 ghost use mathlib.Core.List.{[]};
@@ -12,19 +11,19 @@ ghost use Rattle.pool.specs.Index.{Ready, spanOf};
 ghost use Rattle.base.specs.Equal.{equal};
 ghost use Rattle.strings.specs.Holder.{partAt, textOf};
 
-// Where the k-th string lies, by the index.
+// Where the k-th string lies, by the index. It has at most 1,024 bytes, so its length takes one byte or two.
 pub fn span_by(d: &[u8], starts: &[u32], k: usize) -> Span
     requires { ⌜ Ready (now d) (now starts) × (k < length (stringsOf (now d))) ⌝ }
     ensures { λ r. ⌜ r ≡ spanOf (now (d .entry)) k ⌝ }
 {
     let p = starts[k] as usize;
-    let g = counts::read_count(&d[p..]);
-    match g {
-        Read::Refused(_) => Span { at: 0, len: 0 },
-        Read::Value(n, a) => Span {
-            at: p + a,
-            len: n as usize,
-        },
+    let b = d[p] as usize;
+    if b < 128 {
+        return Span { at: p + 1, len: b };
+    }
+    Span {
+        at: p + 2,
+        len: b % 128 + 128 * d[p + 1] as usize,
     }
 }
 
@@ -92,11 +91,20 @@ pub fn same(a: &[u8], b: &[u8]) -> bool
     m == 0
 }
 
-// Whether the k-th string is id.
+// Whether the k-th string is id. Names of one length mostly differ in their last byte, which is looked at first.
 pub fn has_id(d: &[u8], starts: &[u32], k: usize, id: &[u8]) -> bool
     requires { ⌜ Ready (now d) (now starts) × (k < length (stringsOf (now d))) ⌝ }
     ensures { λ r. ⌜ r ≡ equal (getD (stringsOf (now (d .entry))) k []) (now (id .entry)) ⌝ }
 {
     let t = text_by(d, starts, k);
+    let n = t.len();
+    if n != id.len() {
+        return false;
+    }
+    if 0 < n {
+        if t[n - 1] != id[n - 1] {
+            return false;
+        }
+    }
     same(t, id)
 }

@@ -22,11 +22,11 @@ use Rattle.wall_times.specs.View.{localOf, mappingOf, mappingAt, mapping
 use Rattle.wall_times.specs.declared.Mapping.{Mapping}
 use Rattle.wall_times.proofs.MapLaws.{map-some, map-one}
 
-tally-count : (ts : List ℕ) → tallyOf ts .count ≡ length ts
+pub tally-count : (ts : List ℕ) → tallyOf ts .count ≡ length ts
 tally-count [] = refl
 tally-count (t ∷ ts) = refl
 
-mapping-bounded : (a : Tally) → a .count ≤ 4098 → Bounded (mappingOf a)
+pub mapping-bounded : (a : Tally) → a .count ≤ 4098 → Bounded (mappingOf a)
 unfolding mappingOf
 mapping-bounded a h = pick-holds Bounded (eqb (a .count) 0) (λ e. record { to = omega arith }) (λ e. record { to = h })
 

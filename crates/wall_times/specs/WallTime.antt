@@ -26,12 +26,16 @@ askAll f id z = ask f id z All Two
 abbrev pub localTime : ℤ → ℤ → ℤ
 localTime z wall = z +ℤ wall *ℤ pos 10000
 
--- THE INSTANT z READS AS THE LOCAL TIME: it is in range, and with the wall offset that the question answers there it comes to that time
-pub record ReadsAs (f id : List ℕ) (local z : ℤ) : Type 0 where
+-- THE INSTANT z READS AS THE LOCAL TIME, by a question: it is in range, and with the wall offset that the question answers there it comes to
+-- that time
+pub record ReadsBy (q : ℤ → Answer) (local z : ℤ) : Type 0 where
   pub in-range : InRange z
   pub given : Found
-  pub answer : askAll f id z ≡ In given
+  pub answer : q z ≡ In given
   pub sum : localTime z (given .wall) ≡ local
+
+abbrev pub ReadsAs : List ℕ → List ℕ → ℤ → ℤ → Type 0
+ReadsAs f id local z = ReadsBy (askAll f id) local z
 
 -- zs has exactly the integers with P, each once, in rising order
 abbrev pub Among : ℤ → List ℤ → Type 0
@@ -65,8 +69,12 @@ pub record Counts (P : ℤ → Type 0) (r : Mapping) : Type 0 where
   pub lists : Lists P instants
   pub is : r ≡ countOf instants
 
--- ASK 3. What a "this is all" question refuses at an instant in range, r refuses so; else r counts the instants that read as the local
--- time. (map-one and map-some in proofs/MapLaws.antt: on any bytes there is one such r.)
-pub record MapsTo (f id : List ℕ) (local : ℤ) (r : Mapping) : Type 0 where
-  pub refuses : (z : ℤ) (n p : ℕ) → InRange z → askAll f id z ≡ Denied n p → r ≡ Refused n p
-  pub counts : (z : ℤ) (x : Found) → InRange z → askAll f id z ≡ In x → Counts (ReadsAs f id local) r
+-- What a question refuses at an instant in range, r refuses so; else r counts the instants that read as the local time. (one-mapping in
+-- proofs/MapLaws.antt: there is one such r at most.)
+pub record MapsBy (q : ℤ → Answer) (local : ℤ) (r : Mapping) : Type 0 where
+  pub refuses : (z : ℤ) (n p : ℕ) → InRange z → q z ≡ Denied n p → r ≡ Refused n p
+  pub counts : (z : ℤ) (x : Found) → InRange z → q z ≡ In x → Counts (ReadsBy q local) r
+
+-- ASK 3, by the "this is all" question (map-one and map-some in proofs/MapLaws.antt: on any bytes there is one such r)
+abbrev pub MapsTo : List ℕ → List ℕ → ℤ → Mapping → Type 0
+MapsTo f id local r = MapsBy (askAll f id) local r

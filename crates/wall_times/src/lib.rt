@@ -23,7 +23,7 @@ pub enum Mapping {
 
 // A local time with the epoch and the 86,400,000 ms of an offset added, or 0 where no instant in range reads as it. The bounds are tested
 // first, so that no sum leaves 64 bits.
-fn local_number(local: i64) -> u64
+pub fn local_number(local: i64) -> u64
     ensures { λ r. ⌜ r ≡ localOf local ⌝ }
 {
     if local < -621356832000000000 {
@@ -35,7 +35,7 @@ fn local_number(local: i64) -> u64
     (local + 747584640000000000) as u64
 }
 
-fn in_ticks(a: Tally) -> Mapping
+pub fn in_ticks(a: Tally) -> Mapping
     ensures { λ r. ⌜ r ≡ mappingOf a ⌝ }
 {
     if a.count == 0 {
@@ -51,7 +51,7 @@ fn map_with(s: &[u8], d: usize, e: usize, id: &[u8], l: u64, starts: &mut [u32])
     requires { ⌜ Lies (now s) d e × (roomOf (part d e (now s)) ≤ length (now starts)) ⌝ }
     ensures { λ r. ⌜ r ≡ mappingAt l (byPool (now (id .entry)) (now (s .entry)) d e (parsePool (part d e (now (s .entry))))) ⌝ }
 {
-    match locate::walk(s, d, e, id, starts) {
+    match asked_zones::walk(s, d, e, id, starts) {
         Located::Refused(n, p) => Mapping::Refused(n, p),
         Located::Cut(p) => Mapping::Refused(2, p),
         Located::End(p) => Mapping::Refused(12, p),
@@ -88,7 +88,7 @@ fn map_long(s: &[u8], d: usize, e: usize, id: &[u8], l: u64) -> Mapping
 fn map_number(s: &[u8], id: &[u8], l: u64) -> Mapping
     ensures { λ r. ⌜ r ≡ mappingAt l (walk (holder (now (id .entry))) noPool (now (s .entry))) ⌝ }
 {
-    match locate::read_first(s) {
+    match first_fields::read_first(s) {
         First::Refused(n, p) => Mapping::Refused(n, p),
         First::Cut(p) => Mapping::Refused(2, p),
         First::End(p) => Mapping::Refused(12, p),

@@ -66,11 +66,11 @@ fn look_up(s: &[u8], pool: u64, t: u64) {
     if END <= t {
         return;
     }
-    show_answer(lookups::find(s, pool, t, Edition::Two));
+    show_answer(zone_lookups::find(s, pool, t, Edition::Two));
 }
 
 fn run_zone(s: &[u8], pool: u64, text: &[u8]) {
-    show_verdict(lookups::check(s, pool));
+    show_verdict(zone_lookups::check(s, pool));
     if !is_dash(text) {
         look_up(s, pool, signed::instant(cases::integer(text)));
     }

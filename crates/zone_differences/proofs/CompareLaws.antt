@@ -12,6 +12,7 @@ use Rattle.base.specs.Equal.{equal}
 use Rattle.base.specs.Moment.{Finite}
 use Rattle.pool.specs.Pool.{stringsOf}
 use Rattle.zones.specs.declared.Found.{Found}
+use Rattle.zones.specs.declared.ZoneEnd.{ZoneEnd}
 use Rattle.stretches.specs.Stretches.{Stretch, closed, stretchesFrom, stretches, numbersOf}
 use Rattle.stretches.specs.View.{ending, opening, Marked}
 use Rattle.stretches.specs.declared.Marks.{Marks}
@@ -38,20 +39,20 @@ module _ (px py : List ℕ) (x y : Found) where
     by-name h b e = rw (eq-eqb (x .wall) (y .wall) w, eq-eqb (x .savings) (y .savings) h) (ap not e)
 
 -- a side at an instant
-module _ (z p ix : List ℕ) (c : Cursor) (k t : ℕ) (a : SideAt z p ix c k t) (f : Finite t) where
+module _ (z p ix : List ℕ) (d : ZoneEnd) (c : Cursor) (k t : ℕ) (a : SideAt z p ix d c k t) (f : Finite t) where
   pub side-name : c .held .name < length (stringsOf p)
-  side-name = omega (arith, held-ok k z c t f (a .at) .name-ok, a .count)
+  side-name = omega (arith, held-ok k z d c t f (a .at) .name-ok, a .count)
 
   side-same : (u : ℕ) → t ≤ u → u < c .held .end → Finite u → foundBy z p u ≡ c .held
-  side-same u l h g = subst (λ (n : ℕ). foundAt n z u ≡ c .held) (a .count) (at-same k z c t f (a .at) u l h g)
+  side-same u l h g = subst (λ (n : ℕ). foundAt n z u ≡ c .held) (a .count) (at-same k z d c t f (a .at) u l h g)
 
-  pub side-points : (e : ℕ) → t ≤ e → Finite e → Points k z c × (c .held .start ≤ e) × Finite e
+  pub side-points : (e : ℕ) → t ≤ e → Finite e → Points k z d c × (c .held .start ≤ e) × Finite e
   side-points e l g = (a .at .points, omega (arith, a .at .holds .from), g)
 
-  pub side-on : (d : Cursor) (e : ℕ) → At k z e d → SideAt z p ix d k e
-  side-on d e q = record { ready = a .ready; count = a .count; at = q }
+  pub side-on : (x : Cursor) (e : ℕ) → At k z d e x → SideAt z p ix d x k e
+  side-on x e q = record { ready = a .ready; count = a .count; at = q }
 
-module _ (zx px sx zy py sy : List ℕ) (kx ky first last : ℕ) (d₀ : List ℤ) where
+module _ (zx px sx : List ℕ) (ex : ZoneEnd) (zy py sy : List ℕ) (ey : ZoneEnd) (kx ky first last : ℕ) (d₀ : List ℤ) where
   abbrev all : List Stretch
   all = stretches (differAt zx px zy py) first last
 
@@ -60,13 +61,13 @@ module _ (zx px sx zy py sy : List ℕ) (kx ky first last : ℕ) (d₀ : List �
 
   -- where the walk stands
   pub record Comparing (t : ℕ) (x y : Cursor) (m : Marks) (d : List ℤ) : Type 0 where
-    pub both-at : ComparedAt zx px sx x zy py sy y kx ky t last
+    pub both-at : ComparedAt zx px sx ex x zy py sy ey y kx ky t last
     pub few : m .count + first ≤ t
     pub size : length d ≡ length d₀
     pub count : m .count + length (rest m t) ≡ length all
     pub kept : sets d (2 * m .count) (numbersOf (rest m t)) ≡ sets d₀ 0 (numbersOf all)
 
-  pub comparing-start : (a b : Cursor) → ComparedAt zx px sx a zy py sy b kx ky first last → Comparing first a b (record { count = 0; since = 0 }) d₀
+  pub comparing-start : (a b : Cursor) → ComparedAt zx px sx ex a zy py sy ey b kx ky first last → Comparing first a b (record { count = 0; since = 0 }) d₀
   unfolding stretches
   comparing-start a b h = record { both-at = h; few = omega arith; size = refl; count = omega arith; kept = refl }
 
@@ -86,23 +87,23 @@ module _ (zx px sx zy py sy : List ℕ) (kx ky first last : ℕ) (d₀ : List �
       same u a b =
           let f : Finite u = record { low = omega (arith, g .both-at .from .low); high = omega (arith, step-finite .high) } in
           rw (
-            side-same zx px sx x kx t (g .both-at .left) (g .both-at .from) u a (omega arith) f,
-            side-same zy py sy y ky t (g .both-at .right) (g .both-at .from) u a (omega arith) f,
+            side-same zx px sx ex x kx t (g .both-at .left) (g .both-at .from) u a (omega arith) f,
+            side-same zy py sy ey y ky t (g .both-at .right) (g .both-at .from) u a (omega arith) f,
           )
 
       module _ (b : Bool) (p : b ≡ unlike px (x .held) py (y .held)) where
         goes-on : rest m t ≡ ending b (m .since) t ++ stretchesFrom (differAt zx px zy py) (opening b (m .since) t) (last - e) e
         goes-on = stays (differAt zx px zy py) b (m .since) t e last (omega (arith, g .both-at .from .low)) step-later (omega arith) (λ u a c. same u a c ∙ sym p)
 
-        pub comparing-next : (r : Marks) (d′ : List ℤ) → Marked d m t b r d′ → (x′ y′ : Cursor) → At kx zx e x′ → At ky zy e y′ → Comparing e x′ y′ r d′
+        pub comparing-next : (r : Marks) (d′ : List ℤ) → Marked d m t b r d′ → (x′ y′ : Cursor) → At kx zx ex e x′ → At ky zy ey e y′ → Comparing e x′ y′ r d′
         comparing-next r d′ k x′ y′ u v =
             let ys : List Stretch = rest r e in
             let q : rest m t ≡ ending b (m .since) t ++ ys =
             goes-on ∙ ap (λ (o : ℕ). ending b (m .since) t ++ stretchesFrom (differAt zx px zy py) o (last - e) e) (sym (k .since)) in
             record {
               both-at = record {
-                left = side-on zx px sx x kx t (g .both-at .left) (g .both-at .from) x′ e u;
-                right = side-on zy py sy y ky t (g .both-at .right) (g .both-at .from) y′ e v;
+                left = side-on zx px sx ex x kx t (g .both-at .left) (g .both-at .from) x′ e u;
+                right = side-on zy py sy ey y ky t (g .both-at .right) (g .both-at .from) y′ e v;
                 from = step-finite;
                 to = g .both-at .to;
               };

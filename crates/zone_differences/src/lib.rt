@@ -2,6 +2,7 @@
 use cursors::Cursor;
 use stretches::Marks;
 use zones::Found;
+use zones::ZoneEnd;
 ghost use mathlib.Core.Path.{_≡_};
 ghost use Prim.Native.Nat.{_<_};
 ghost use lib.ListN.{length};
@@ -32,15 +33,18 @@ fn unlike(px: &[u8], sx: &[u32], x: Found, py: &[u8], sy: &[u32], y: Found) -> b
 }
 
 // The stretches of a window at whose instants the zone with the data zx and the pool px differs from the one with zy and py, put in the lent
-// list. How many there are; those for which the list has no place are counted too. a and b are cursors at the window's first instant.
+// list. How many there are; those for which the list has no place are counted too. ex and ey are the endings of the zones, a and b cursors at the
+// window's first instant.
 pub fn compare(
     zx: &[u8],
     px: &[u8],
     sx: &[u32],
+    ex: ZoneEnd,
     a: Cursor,
     zy: &[u8],
     py: &[u8],
     sy: &[u32],
+    ey: ZoneEnd,
     b: Cursor,
     kx: u64,
     ky: u64,
@@ -48,7 +52,7 @@ pub fn compare(
     last: u64,
     out: &mut [i64],
 ) -> usize
-    requires { ⌜ ComparedAt (now zx) (now px) (now sx) a (now zy) (now py) (now sy) b kx ky first last ⌝ }
+    requires { ⌜ ComparedAt (now zx) (now px) (now sx) ex a (now zy) (now py) (now sy) ey b kx ky first last ⌝ }
     ensures { λ r. ⌜ (r ≡ length (stretches (differAt (now (zx .entry)) (now (px .entry)) (now (zy .entry)) (now (py .entry))) first last)) × (now (out .exit) ≡ sets (now (out .entry)) 0 (numbersOf (stretches (differAt (now (zx .entry)) (now (px .entry)) (now (zy .entry)) (now (py .entry))) first last))) ⌝ }
 {
     let mut t = first;
@@ -61,8 +65,8 @@ pub fn compare(
         let e = occurrences::smaller(occurrences::smaller(u.end, v.end), last);
         let d = unlike(px, sx, u, py, sy, v);
         m = stretches::mark(out, m, t, d);
-        x = cursor_steps::seek(zx, kx, x, e);
-        y = cursor_steps::seek(zy, ky, y, e);
+        x = cursor_steps::seek(zx, kx, x, ex, e);
+        y = cursor_steps::seek(zy, ky, y, ey, e);
         t = e;
     }
     stretches::put_stretch(out, m.count, m.since, t)

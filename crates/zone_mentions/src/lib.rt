@@ -1,13 +1,19 @@
 // From a stage inside a zone to the next mention.
 use base::END;
+use base::FIRST;
+use base::LAST;
 use base::Read;
 use mentions::Skipped;
 use mentions::Stage;
-ghost use Prim.Native.Nat.{_≤_};
+use transitions::HOUR;
+ghost use mathlib.Core.Path.{_≡_};
+ghost use Prim.Native.Nat.{_+_, _≤_};
 ghost use lib.ListN.{length, drop};
 ghost use Rattle.places.specs.Placed.{Stands};
+ghost use Rattle.places.specs.Short.{halfHours};
 ghost use Rattle.mentions.specs.Walk.{behindRule, behindEnd, behindStart, behindDetails, behindOffset, behindIntervalCount, behindId};
 ghost use Rattle.mentions.specs.View.{ofSkipped};
+ghost use Rattle.zone_mentions.specs.Short.{HoursAt, ShortAt};
 
 // Behind the standard name of a tail: its rule.
 pub fn behind_rule(s: &[u8], at: usize) -> Skipped
@@ -117,4 +123,60 @@ pub fn behind_id(s: &[u8], at: usize) -> Skipped
             Skipped::At(Stage::Rest, s.len())
         }
     }
+}
+
+// Whether a byte is an offset of half hours.
+fn half_hours(b: u8) -> bool
+    ensures { λ r. ⌜ r ≡ halfHours b ⌝ }
+{
+    if b == 0 {
+        return false;
+    }
+    b < 96
+}
+
+// The start after prev at a place, in two bytes of hours; 0 where no such stands there.
+fn hours_at(s: &[u8], at: usize, prev: u64) -> u64
+    requires { ⌜ at + 2 ≤ length (now s) ⌝ }
+    ensures { λ r. ⌜ HoursAt (now (s .entry)) at prev r ⌝ }
+{
+    let b = s[at] as u64;
+    if b < 128 {
+        return 0;
+    }
+    let d = s[at + 1] as u64;
+    if d == 0 {
+        return 0;
+    }
+    if 127 < d {
+        return 0;
+    }
+    if prev < FIRST {
+        return 0;
+    }
+    if LAST < prev {
+        return 0;
+    }
+    let m = prev + (b % 128 + 128 * d) * HOUR;
+    if LAST < m {
+        return 0;
+    }
+    m
+}
+
+// Behind the name of an interval that starts at prev: the start of the next, where the codes up to it take four bytes, as is usual; 0 where others
+// stand there.
+pub fn short_start(s: &[u8], at: usize, prev: u64) -> u64
+    requires { ⌜ at ≤ length (now s) ⌝ }
+    ensures { λ r. ⌜ ShortAt (now (s .entry)) at prev r ⌝ }
+{
+    if s.len() - at < 4 {
+        return 0;
+    }
+    if half_hours(s[at]) {
+        if half_hours(s[at + 1]) {
+            return hours_at(s, at + 2, prev);
+        }
+    }
+    0
 }

@@ -27,7 +27,7 @@ fn put_starts(s: &[u8], at: usize, pool: u64, n: u64, out: &mut [i64])
     let mut place = at;
     let mut last = END;
     while 0 < left {
-        let item = interval_scans::read_interval(s, place, pool, last);
+        let item = next_intervals::read_interval(s, place, pool, last);
         match item {
             IntervalRead::Refused(_) => {
                 return;
@@ -48,7 +48,7 @@ fn fill_listed(s: &[u8], at: usize, pool: u64, n: u64, out: &mut [i64]) -> ZoneS
     requires { ⌜ ListedAt pool (now s) n at ⌝ }
     ensures { λ r. ⌜ Fills (parseZone pool (now (s .entry))) (now (out .entry)) r (now (out .exit)) ⌝ }
 {
-    match lookups::check(s, pool) {
+    match zone_lookups::check(s, pool) {
         ZoneVerdict::Refused(k) => ZoneStarts::Refused(k),
         ZoneVerdict::Good(_) => {
             if (out.len() as u64) < n {

@@ -1,5 +1,5 @@
-//! What is measured: normalizing, with room and without, a question by ID or by name, all intervals of a zone, a local time, a location, all
-//! countries of a field, a file in pieces, or a tool, by the library and by the peer; and the floor, which memory sets.
+//! What is measured: normalizing, with room and without, a question by ID, by name or of a found zone, all intervals of a zone, a local
+//! time, a location, all countries of a field, a file in pieces, or a tool, by the library and by the peer; and the floor, which memory sets.
 
 use crate::measure::Piece;
 use crate::tools::Tool;
@@ -21,6 +21,11 @@ pub enum Work {
         name: Vec<u8>,
         ticks: i64,
         edition: Edition,
+    },
+    /// A question of a zone that was found before.
+    AskZone {
+        id: Vec<u8>,
+        ticks: i64,
     },
     /// All intervals of a zone from year 1 on, each asked for at the end of the one before.
     Intervals {
@@ -99,6 +104,10 @@ impl Work {
                 let ours = said(nzd::ask_named(file, name, *ticks, Mark::ThisIsAll, *edition));
                 ours == peer_said(peer::ask_named(file, name, *ticks, false, *edition == Edition::One))
             }
+            Work::AskZone { id, ticks } => {
+                let ours = said(nzd::Zone::find(file, id).and_then(|zone| zone.ask(*ticks, Edition::Two)));
+                ours == peer_said(peer::Zone::find(file, id).and_then(|zone| zone.ask(*ticks, false)))
+            }
             Work::Intervals { id } => intervals(file, id) == peer_intervals(file, id),
             Work::AskNamedOld { older, name, ticks } => {
                 let ours = said(nzd::ask_named_old(file, older, name, *ticks, Edition::Two));
@@ -150,6 +159,16 @@ impl Work {
                 [
                     piece(move || nzd::ask_named(black_box(file), black_box(name), *ticks, Mark::ThisIsAll, *edition)),
                     piece(move || peer::ask_named(black_box(file), black_box(name), *ticks, false, first)),
+                ]
+            }
+            Work::AskZone { id, ticks } => {
+                let (ours, theirs) = (nzd::Zone::find(file, id).ok(), peer::Zone::find(file, id).ok());
+                [
+                    piece(move || black_box(&ours).map(|zone| zone.ask(black_box(*ticks), Edition::Two))),
+                    piece(move || {
+                        let zone = black_box(&theirs).as_ref();
+                        black_box(zone.map(|zone| zone.ask(black_box(*ticks), false)));
+                    }),
                 ]
             }
             Work::Intervals { id } => [

@@ -98,13 +98,18 @@ static void make_others(void) {
 
 static const struct bytes *file;
 static struct nzd_answer answer;
+/* Of the file. */
+static struct nzd_zone zone;
 static int64_t count;
 
 #define ID(s) (const uint8_t *)(s), strlen(s)
 
+static const char *zone_id(void) {
+    return file == &largest ? "0000" : "Europe/Oslo";
+}
+
 static void ask(void) {
-    const char *id = file == &largest ? "0000" : "Europe/Oslo";
-    nzd_ask(file->at, file->n, ID(id), LATE, false, false, &answer);
+    nzd_ask(file->at, file->n, ID(zone_id()), LATE, false, false, &answer);
 }
 static void ask_plain(void) {
     nzd_ask_plain(file->at, file->n, ID("WET"), LATE, false, &answer);
@@ -117,7 +122,17 @@ static void ask_named_old(void) {
 }
 static void map_local(void) {
     struct nzd_local local;
-    nzd_map_local(file->at, file->n, ID(file == &largest ? "0000" : "Europe/Oslo"), LATE, &local);
+    nzd_map_local(file->at, file->n, ID(zone_id()), LATE, &local);
+}
+static void find_zone(void) {
+    nzd_find_zone(file->at, file->n, ID(zone_id()), &zone);
+}
+static void ask_zone(void) {
+    nzd_ask_zone(file->at, file->n, &zone, LATE, false, &answer);
+}
+static void map_zone_local(void) {
+    struct nzd_local local;
+    nzd_map_zone_local(file->at, file->n, &zone, LATE, &local);
 }
 static void location(void) {
     struct nzd_pin pin;
@@ -142,7 +157,7 @@ static void replay(void) {
     nzd_replay(file->at, file->n, trace.at, trace.n, &count);
 }
 static void interval_starts(void) {
-    nzd_interval_starts(file->at, file->n, ID(file == &largest ? "0000" : "Europe/Oslo"), numbers, 4096, &count);
+    nzd_interval_starts(file->at, file->n, ID(zone_id()), numbers, 4096, &count);
 }
 static void find_start(void) {
     struct nzd_search found;
@@ -158,6 +173,9 @@ static const struct {
     {"nzd_ask_named", ask_named},
     {"nzd_ask_named_old", ask_named_old},
     {"nzd_map_local", map_local},
+    {"nzd_find_zone", find_zone},
+    {"nzd_ask_zone", ask_zone},
+    {"nzd_map_zone_local", map_zone_local},
     {"nzd_location", location},
     {"nzd_version_text", version_text},
     {"nzd_normalize", normalize},
@@ -207,6 +225,7 @@ int main(int argc, char **argv) {
         const struct bytes *files[] = {&realistic, &largest};
         for (size_t at = 0; at < 2; at++) {
             file = files[at];
+            find_zone();
             /* With two paints, since a call may write the paint's own value. */
             for (int paint = 0x5a; paint <= 0xa5; paint += 0xa5 - 0x5a) {
                 size_t taken = measure(calls[i].call, paint);

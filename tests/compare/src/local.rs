@@ -1,4 +1,4 @@
-//! Local times: the instants that read as one, by the C function and by the wrapper.
+//! Local times: the instants that read as one, by the C functions of a file and of a found zone, and by the wrapper.
 
 use crate::lent;
 use crate::questions::Question;
@@ -16,7 +16,16 @@ pub fn map(tally: &mut Tally, file: &[u8], id: &[u8], local: i64) -> Result<(), 
         .map_err(pair);
     tally.same(&asked, file, lent::numbers(file, |out| ffi::map_local(file, id, local, out))?, theirs)?;
     let wrapped = nzd::map_local(file, id, local).map_err(error_pair).and_then(numbers_of);
-    tally.same(&format!("{asked}, by the wrapper"), file, wrapped, theirs)
+    tally.same(&format!("{asked}, by the wrapper"), file, wrapped, theirs)?;
+    let mut numbers = [0; 5];
+    if ffi::find_zone(file, id, &mut numbers) == 0 {
+        let found = format!("the found {asked}");
+        let ours = lent::numbers(file, |out| ffi::map_zone_local(file, &numbers, local, out))?;
+        tally.same(&found, file, ours, theirs)?;
+        let wrapped = nzd::Zone::find(file, id).map_err(error_pair).and_then(|zone| numbers_of(zone.map_local(local)));
+        tally.same(&format!("{found}, by the wrapper"), file, wrapped, theirs)?;
+    }
+    Ok(())
 }
 
 /// The numbers of the C function again.

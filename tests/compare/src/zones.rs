@@ -9,9 +9,10 @@ use nzd::ffi;
 use second_reader::codes::read_count;
 use second_reader::file::read_file;
 use second_reader::generate::{damaged, instants, plan, random_content, Damage, Forms, Prng, Size};
+use second_reader::local::instants_of_local;
 use second_reader::pool::MOST_STRINGS;
 use second_reader::transition::{in_range, FIRST, LAST};
-use second_reader::zone::{read_zone, Rest};
+use second_reader::zone::{read_zone, Rest, Zone};
 use second_reader::{Answer, Edition, Mark};
 
 /// What lent memory holds before a call.
@@ -84,11 +85,8 @@ fn string(strings: &[u8], number: usize) -> Option<(usize, usize)> {
     None
 }
 
-/// A question on five numbers, worked out with the second reader's zone.
-fn plainly(file: &[u8], five: Five, ticks: i64, edition: Edition) -> Outcome<[i64; 7]> {
-    if !in_range(ticks) {
-        return Err((14, 0));
-    }
+/// The pool and the zone that five numbers name.
+fn named(file: &[u8], five: Five) -> Outcome<(&[u8], Zone)> {
     let [pool, past, start, end, place] = five;
     let part = |from: u64, to: u64| file.get(from as usize..to as usize).unwrap_or(&[]);
     let strings = part(pool, past);
@@ -96,13 +94,30 @@ fn plainly(file: &[u8], five: Five, ticks: i64, edition: Edition) -> Outcome<[i6
     let count = if count <= MOST_STRINGS { count } else { 0 };
     let place = if place <= LAST_PLACE { place } else { 0 };
     let zone = read_zone(part(start, end), count).map_err(|number| (number.value(), place))?;
+    Ok((strings, zone))
+}
+
+/// A local time of five numbers, worked out with the second reader's zone.
+fn mapped(file: &[u8], five: Five, local: i64) -> Outcome<[i64; 3]> {
+    let (_, zone) = named(file, five)?;
+    let found = instants_of_local(&zone, local);
+    let ends = found.first().zip(found.last()).ok_or((17, 0))?;
+    Ok([found.len() as i64, *ends.0, *ends.1])
+}
+
+/// A question on five numbers, worked out with the second reader's zone.
+fn plainly(file: &[u8], five: Five, ticks: i64, edition: Edition) -> Outcome<[i64; 7]> {
+    if !in_range(ticks) {
+        return Err((14, 0));
+    }
+    let (strings, zone) = named(file, five)?;
     let holding = zone.at(ticks);
     let number = match (&zone.rest, edition) {
         (Rest::Fixed { .. }, Edition::One) => zone.id,
         _ => holding.interval.name,
     };
     let (at, length) = string(strings, number).unwrap_or((0, 0));
-    let at = pool as usize + at;
+    let at = five[0] as usize + at;
     let interval = holding.interval;
     Ok(numbers_of(&Answer {
         wall: interval.wall,
@@ -147,6 +162,9 @@ fn any(tally: &mut Tally, file: &[u8], found: Five, times: usize, prng: &mut Prn
             let what = format!("the zone at {five:?} at {ticks}, edition {edition:?}");
             tally.same(&what, file, ours, plainly(file, five, ticks, their_edition))?;
         }
+        let ours = lent::numbers(file, |out| ffi::map_zone_local(file, &five, ticks, out))?;
+        let what = format!("the zone at {five:?} at the local time {ticks}");
+        tally.same(&what, file, ours, mapped(file, five, ticks))?;
     }
     Ok(())
 }

@@ -1,12 +1,13 @@
 //! Codes, read from the front of what is left of a field's data, and the writer's form of transitions.
 
 use crate::number::{BAD_CODE, BAD_DATA, BAD_TEXT, TOO_LARGE};
+use crate::runs::{are_short, half_hours, interval_of};
 use crate::zone::Interval;
 use crate::{END_OF_TIME, FIRST, LAST, START_OF_TIME};
 
 /// 24 hours in milliseconds, outside which no offset is.
 pub const DAY_MS: i32 = 86_400_000;
-const TICKS_PER_HOUR: i64 = 36_000_000_000;
+pub const TICKS_PER_HOUR: i64 = 36_000_000_000;
 const TICKS_PER_MINUTE: i64 = 600_000_000;
 /// 1800-01-01T00:00Z.
 const YEAR_1800: i64 = -53_646_624_000_000_000;
@@ -170,32 +171,51 @@ impl<'a> Cursor<'a> {
         }
     }
 
-    /// An interval behind an instant, read at once: its start in two bytes of hours or nine of ticks, its name and offsets in a byte
-    /// each. None where other codes stand there, or where one of them is to be refused.
-    #[inline]
+    /// An interval behind an instant, read at once: its start in two to four bytes or in ticks, its name and offsets in a byte each.
+    /// None where other codes stand there, or where one of them is to be refused.
+    #[inline(always)]
     pub fn short_interval(&mut self, previous: i64, pool_count: u32) -> Option<Interval> {
-        let (start, [name @ 0..0x80, wall @ 0x01..=0x5f, savings @ 0x01..=0x5f], rest) = (match *self.rest {
-            [low @ 0x80..=0xff, high @ 0x01..0x80, name, wall, savings, ref rest @ ..] => {
-                let hours = i64::from(low & 0x7f) | i64::from(high) << 7;
-                Some((previous + hours * TICKS_PER_HOUR, [name, wall, savings], rest))
+        let hours = |hours: u32| previous + i64::from(hours) * TICKS_PER_HOUR;
+        let minutes = |minutes: u32| YEAR_1800 + i64::from(minutes) * TICKS_PER_MINUTE;
+        let (start, details, rest) = match *self.rest {
+            [a @ 0x80..=0xff, b @ 0x01..0x80, name, wall, savings, ref rest @ ..] => {
+                (hours(groups([a, b])), [name, wall, savings], rest)
+            }
+            [a @ 0x80..=0xff, b @ 0x80..=0xff, c @ 0x01..0x80, name, wall, savings, ref rest @ ..] => {
+                (hours(groups([a, b, c])), [name, wall, savings], rest)
+            }
+            [a @ 0x80..=0xff, b @ 0x80..=0xff, c @ 0x80..=0xff, d @ 0x01..0x80, name, wall, savings, ref rest @ ..] => {
+                (minutes(groups([a, b, c, d])), [name, wall, savings], rest)
             }
             [2, a, b, c, d, e, f, g, h, name, wall, savings, ref rest @ ..] => {
-                Some((i64::from_be_bytes([a, b, c, d, e, f, g, h]), [name, wall, savings], rest))
+                (i64::from_be_bytes([a, b, c, d, e, f, g, h]), [name, wall, savings], rest)
             }
-            _ => None,
-        })?
-        else {
-            return None;
+            _ => return None,
         };
-        if start <= previous || start > LAST || u32::from(name) >= pool_count {
-            return None;
-        }
-        // Wall minus savings, in half hours, is inside 24 hours.
-        if wall.abs_diff(savings) >= 48 {
+        if start <= previous || start > LAST || !are_short(details, pool_count.min(0x80) as u8) {
             return None;
         }
         self.rest = rest;
-        Some(Interval { start, name: name.into(), wall: half_hours(wall), savings: half_hours(savings) })
+        Some(interval_of(start, details))
+    }
+
+    /// Whether a byte comes next.
+    #[inline]
+    pub fn starts_with(&self, byte: u8) -> bool {
+        self.rest.first() == Some(&byte)
+    }
+
+    /// What is left in parts of `N` bytes, at most `most` of them.
+    #[inline]
+    pub fn chunks<const N: usize>(&self, most: usize) -> &'a [[u8; N]] {
+        let all = self.rest.as_chunks().0;
+        &all[..all.len().min(most)]
+    }
+
+    /// Steps over bytes that are there.
+    #[inline]
+    pub fn skip(&mut self, length: usize) {
+        self.rest = &self.rest[length..];
     }
 
     /// A text: its length and its bytes.
@@ -229,10 +249,10 @@ impl<'a> Cursor<'a> {
     }
 }
 
-/// The offset, in milliseconds, of a byte of half hours.
+/// Seven bits a byte, low first.
 #[inline]
-fn half_hours(byte: u8) -> i32 {
-    (i32::from(byte) - 48) * 1_800_000
+fn groups<const N: usize>(bytes: [u8; N]) -> u32 {
+    bytes.iter().rev().fold(0, |value, &byte| value << 7 | u32::from(byte & 0x7f))
 }
 
 /// The writer's form of a transition.

@@ -1,8 +1,10 @@
 //! A quick reader of `.nzd` files in safe Rust: the peer that the proved reader's speed is measured against.
 //!
 //! It makes the same checks in the same order, over slices and in one pass, and has every shortcut that the proved
-//! reader has but the runs of five-byte intervals. Beyond those, a replay keeps the zones that it has read, a difference goes straight to its window and ends
-//! where both tails are the same, a search has no branches, and a pool that is in order already is copied.
+//! reader has. Beyond those, a found zone keeps the pool's index and its tail and is not checked again, so that a question reads
+//! no more of it than it needs; a local time passes over the intervals that are more than a day away; a replay keeps the last
+//! answer's interval and goes on from the last zone that it has read; a difference keeps the first stretches while it counts
+//! them; and closing up a pool counts its strings' uses in the check.
 //!
 //! It allocates the index of the pool's strings, for a whole-file check and for a replay the table of zone
 //! IDs, and for normalizing the list of the fields that change.
@@ -14,6 +16,7 @@ mod close_pool;
 mod codes;
 mod difference;
 mod fields;
+mod found;
 mod ids;
 mod local;
 mod locations;
@@ -22,6 +25,7 @@ mod older;
 mod pool;
 mod receiver;
 mod replay;
+mod runs;
 mod starts;
 mod tail;
 mod whole;
@@ -31,6 +35,7 @@ mod zone;
 pub use aliases::ask_named;
 pub use close_pool::close_pool;
 pub use difference::difference;
+pub use found::Zone;
 pub use local::LocalInstants;
 pub use locations::{location, Countries, Location};
 pub use normalize::normalize;
@@ -153,7 +158,7 @@ fn find_zone<'a>(file: &'a [u8], id: &[u8], more: bool, visit: &mut impl Visit) 
 fn zone_of(data: &[u8], pool: &Pool, asked: &[u8], visit: &mut impl Visit) -> Result<bool, u8> {
     let mut cursor = codes::Cursor::new(data);
     let id = cursor.pool_number(pool.count())?;
-    let found = pool.string(id) == asked;
+    let found = pool.is(id, asked);
     match found {
         true => read_rest(cursor, id, pool.count(), visit)?,
         false => read_rest(cursor, id, pool.count(), &mut ())?,

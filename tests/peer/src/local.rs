@@ -5,6 +5,7 @@ use crate::zone::{Interval, Visit};
 use crate::{FIRST, LAST, START_OF_TIME};
 
 const TICKS_PER_MS: i64 = 10_000;
+const DAY: i64 = 864_000_000_000;
 
 /// The instants that read as a local time.
 #[derive(Clone, Copy, Debug, PartialEq, Eq)]
@@ -66,6 +67,17 @@ impl Count {
 }
 
 impl Visit for Count {
+    /// No offset reaches a day, so an interval that ends a day before the local time, or starts a day after it, holds no such instant.
+    #[inline]
+    fn stop(&self) -> i64 {
+        let before = self.local.saturating_sub(DAY);
+        if self.start > self.local.saturating_add(DAY) {
+            LAST
+        } else {
+            before
+        }
+    }
+
     #[inline]
     fn interval(&mut self, interval: Interval) {
         self.ended(interval.start);

@@ -53,6 +53,12 @@ impl<'a> Pool<'a> {
             _ => &[],
         }
     }
+
+    /// Whether a string is `text`: the last byte tells strings apart that begin alike.
+    pub fn is(&self, number: u32, text: &[u8]) -> bool {
+        let string = self.string(number);
+        string.len() == text.len() && string.last() == text.last() && string == text
+    }
 }
 
 /// How many bytes at the front are ASCII, found block by block: there may be more.

@@ -28,6 +28,11 @@ impl Visit for Count {
     fn interval(&mut self, _interval: Interval) {
         self.0 += 1;
     }
+
+    #[inline]
+    fn run(&mut self, count: u32, _last: Interval) {
+        self.0 += count as usize;
+    }
 }
 
 /// Puts each start in its entry.
@@ -35,12 +40,25 @@ struct Fill<'a> {
     entries: std::slice::IterMut<'a, i64>,
 }
 
-impl Visit for Fill<'_> {
+impl Fill<'_> {
     #[inline]
-    fn interval(&mut self, interval: Interval) {
+    fn put(&mut self, start: i64) {
         if let Some(entry) = self.entries.next() {
-            *entry = interval.start;
+            *entry = start;
         }
+    }
+}
+
+impl Visit for Fill<'_> {
+    /// The last one, an end, finds no entry left.
+    #[inline]
+    fn transition(&mut self, value: i64, _previous: i64, _before: usize, _after: usize) {
+        self.put(value);
+    }
+
+    #[inline]
+    fn fixed(&mut self, _id: u32, interval: Interval) {
+        self.put(interval.start);
     }
 }
 

@@ -3,8 +3,9 @@
 use crate::codes::{Cursor, DAY_MS};
 use crate::number::{BAD_DATA, BAD_INTERVAL, TOO_LARGE};
 use crate::pool::Pool;
+use crate::runs::read_run;
 use crate::tail::Tail;
-use crate::{Answer, END_OF_TIME, START_OF_TIME};
+use crate::{Answer, END_OF_TIME, LAST, START_OF_TIME};
 
 const MOST_INTERVALS: u32 = 4096;
 
@@ -15,6 +16,16 @@ pub struct Interval {
     pub name: u32,
     pub wall: i32,
     pub savings: i32,
+}
+
+impl Interval {
+    /// The answer of an instant that it holds.
+    #[inline]
+    pub fn answer<'a>(&self, end: i64, pool: &Pool<'a>) -> Answer<'a> {
+        let Interval { start, name, wall, savings } = *self;
+        let (standard_offset_ms, name) = (wall - savings, pool.string(name));
+        Answer { wall_offset_ms: wall, savings_ms: savings, standard_offset_ms, name, start, end }
+    }
 }
 
 /// Is shown the parts of a field as they are read. A later part may still be refused.
@@ -30,6 +41,18 @@ pub trait Visit {
     /// A listed interval.
     #[inline]
     fn interval(&mut self, _interval: Interval) {}
+
+    /// Where a run ends: of intervals in a row that start no later, all but the last need not be shown.
+    #[inline]
+    fn stop(&self) -> i64 {
+        LAST
+    }
+
+    /// A run of so many listed intervals, of which this is the last. Their transitions and mentions were shown before.
+    #[inline]
+    fn run(&mut self, _count: u32, last: Interval) {
+        self.interval(last);
+    }
 
     /// The only interval of a fixed zone with this ID.
     #[inline]
@@ -70,22 +93,19 @@ fn read_listed(cursor: &mut Cursor, pool_count: u32, visit: &mut impl Visit) -> 
         return Err(TOO_LARGE);
     }
     let mut previous = START_OF_TIME;
-    for number in 0..count {
+    let mut number = 0;
+    while number < count {
         // Behind the second one stands an instant, and most are short.
         if number > 1 {
-            let before = cursor.left();
-            if let Some(interval) = cursor.short_interval(previous, pool_count) {
-                let after = cursor.left();
-                visit.transition(interval.start, previous, before, after + 3);
-                visit.mention(interval.name, after + 3, after + 2);
-                visit.interval(interval);
-                previous = interval.start;
-                continue;
+            let (read, last) = read_run(cursor, previous, pool_count, count - number, visit);
+            (number, previous) = (number + read, last);
+            if number == count {
+                break;
             }
         }
-        let interval = read_long_interval(cursor, number, previous, pool_count, visit)?;
+        let interval = read_interval(cursor, number, previous, pool_count, visit)?;
         visit.interval(interval);
-        previous = interval.start;
+        (number, previous) = (number + 1, interval.start);
     }
     let end = read_transition(cursor, previous, visit)?;
     match cursor.byte()? {
@@ -100,9 +120,30 @@ fn read_listed(cursor: &mut Cursor, pool_count: u32, visit: &mut impl Visit) -> 
     Ok(())
 }
 
-/// The listed interval with a number, from 0, behind one that starts at `previous`, whatever its codes.
+/// The listed interval with a number, from 0, behind one that starts at `previous`.
 #[inline]
-pub fn read_long_interval(
+pub fn read_interval(
+    cursor: &mut Cursor,
+    number: u32,
+    previous: i64,
+    pool_count: u32,
+    visit: &mut impl Visit,
+) -> Result<Interval, u8> {
+    if number > 1 {
+        let before = cursor.left();
+        if let Some(interval) = cursor.short_interval(previous, pool_count) {
+            let after = cursor.left();
+            visit.transition(interval.start, previous, before, after + 3);
+            visit.mention(interval.name, after + 3, after + 2);
+            return Ok(interval);
+        }
+    }
+    read_long_interval(cursor, number, previous, pool_count, visit)
+}
+
+/// The same, whatever its codes.
+#[inline]
+fn read_long_interval(
     cursor: &mut Cursor,
     number: u32,
     previous: i64,
@@ -156,13 +197,20 @@ impl Find {
 
     /// The answer, once the zone is read.
     pub fn answer<'a>(&self, pool: &Pool<'a>) -> Answer<'a> {
-        let Interval { start, name, wall, savings } = self.held;
-        let (standard_offset_ms, name) = (wall - savings, pool.string(name));
-        Answer { wall_offset_ms: wall, savings_ms: savings, standard_offset_ms, name, start, end: self.end }
+        self.held.answer(self.end, pool)
     }
 }
 
 impl Visit for Find {
+    #[inline]
+    fn stop(&self) -> i64 {
+        if self.end == END_OF_TIME {
+            self.ticks
+        } else {
+            LAST
+        }
+    }
+
     #[inline]
     fn interval(&mut self, interval: Interval) {
         if interval.start <= self.ticks {

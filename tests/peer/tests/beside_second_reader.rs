@@ -78,6 +78,11 @@ fn same_question(file: &[u8], id: &[u8], ticks: i64, seen: &mut Seen) {
         seen.asked.insert(number_of(&asked));
         let ours = given(file, peer::ask(file, id, ticks, more, first));
         assert_eq!(ours, asked, "{shown:02x?}, {id:?} at {ticks}, {mark:?}, {edition:?}");
+        // A zone is found without an instant, so that one out of range is told of later.
+        if !more && (FIRST..=LAST).contains(&ticks) {
+            let ours = given(file, peer::Zone::find(file, id).and_then(|zone| zone.ask(ticks, first)));
+            assert_eq!(ours, asked, "{shown:02x?}, {id:?} found and asked at {ticks}, {edition:?}");
+        }
         let named = expected(second_reader::ask_named(file, id, ticks, mark, edition));
         seen.named.insert(number_of(&named));
         let ours = given(file, peer::ask_named(file, id, ticks, more, first));

@@ -8,7 +8,7 @@ use Rattle.closed_fields.proofs.write_field.Statement.{statement}
 use Rattle.closed_fields.proofs.write_field.Tie as tie
 
 data-size-requires : tie.Need-data-size-requires
-data-size-requires c κs = (c .before .before .before .before .pre .0 .short, c .before .before .before .before .pre .0 .few)
+data-size-requires c κs = (c .before .before .before .before .pre .0 .short, c .before .before .before .before .pre .0 .few, c .before .before .before .before .pre .3)
 
 write-head-requires : tie.Need-write-head-requires
 write-head-requires c κs = (rw (c .before .data-size .ensures) (data-less _ _ (c .before .before .before .before .before .before .pre .1)), front-room (field-two _ _ (now (c .before .before .before .before .before .before .args .out)) _ (c .before .data-size .ensures) (c .before .before .before .before .before .before .pre .2)))
@@ -20,7 +20,7 @@ part-write-data-start : tie.Need-part-write-data-start
 part-write-data-start c = front-within (field-two _ _ _ _ (c .before .before .before .before .data-size .ensures) (c .before .before .before .before .before .before .before .before .before .pre .2)) (c .before .before .write-head .ensures)
 
 write-data-requires : tie.Need-write-data-requires
-write-data-requires c κs = (c .before .before .before .before .before .before .before .before .before .before .pre .0 .few, c .before .before .before .before .before .before .before .before .before .before .pre .0 .small, rest-room (field-two _ _ _ _ (c .before .before .before .before .before .data-size .ensures) (c .before .before .before .before .before .before .before .before .before .before .pre .2)) (c .before .before .before .write-head .ensures))
+write-data-requires c κs = (c .before .before .before .before .before .before .before .before .before .before .pre .0 .few, c .before .before .before .before .before .before .before .before .before .before .pre .0 .small, rest-room (field-two _ _ _ _ (c .before .before .before .before .before .data-size .ensures) (c .before .before .before .before .before .before .before .before .before .before .pre .2)) (c .before .before .before .write-head .ensures), c .before .before .before .before .before .before .before .before .before .before .pre .3)
 
 add-result : tie.Need-add-result
 add-result c = omega (arith, both-sum (field-two _ _ _ _ (c .before .before .before .before .before .before .before .before .data-size .ensures) (c .before .before .before .before .before .before .before .before .before .before .before .before .before .pre .2)) (c .before .before .before .before .before .before .write-head .ensures) (c .before .before .write-data .ensures), c .before .before .before .before .before .before .before .before .before .before .before .before .before .good)

@@ -3,15 +3,15 @@ use mathlib.Core.List.{List, []}
 use Prim.Native.Nat.{ℕ, _+_, _-_}
 use native.Mathlib.Omega.{arith}
 use lib.ListN.{length}
-use Rattle.closed_walks.proofs.WriteLaws.{Going, going-start, going-end, turn, part-short, going-next, sum-next, sum-most}
+use Rattle.closed_walks.proofs.WriteLaws.{Going, going-start, going-end, turn, part-short, keeps-here, going-next, sum-next, sum-most}
 use Rattle.closed_walks.proofs.total.Statement.{statement}
 use Rattle.closed_walks.proofs.total.Tie as tie
 
 abbrev Inv-loop : tie.InvT-loop
-Inv-loop s order table n₀ at₀ n at = (done : List ℕ) × Going s order table at done × (n ≡ length done)
+Inv-loop s order table kept n₀ at₀ n at = (done : List ℕ) × Going s order table at done × (n ≡ length done)
 
 abbrev μ-loop : tie.MeasureT-loop
-μ-loop s order table n₀ at₀ n at = length s - at
+μ-loop s order table kept n₀ at₀ n at = length s - at
 
 loop-holds : tie.Need-loop-holds Inv-loop μ-loop
 loop-holds c = ([], going-start _ _ _ (c .before .before .before .pre .0), refl)
@@ -29,7 +29,7 @@ part-field-size-end : tie.Need-part-field-size-end Inv-loop μ-loop
 part-field-size-end c = (turn _ _ _ _ _ (c .before .before .loop .inv .1) _ (c .before .loop-test .taken) (c .read-field .ensures)) .within
 
 field-size-requires : tie.Need-field-size-requires Inv-loop μ-loop
-field-size-requires c κs = (part-short _ _ _ _ _ (c .before .before .before .loop .inv .1) _ (c .before .before .loop-test .taken) (c .before .read-field .ensures) (c .before .before .before .before .before .before .before .pre .0) (c .before .before .before .before .before .before .before .pre .1), c .before .before .before .before .before .before .before .pre .1)
+field-size-requires c κs = (part-short _ _ _ _ _ (c .before .before .before .loop .inv .1) _ (c .before .before .loop-test .taken) (c .before .read-field .ensures) (c .before .before .before .before .before .before .before .pre .0) (c .before .before .before .before .before .before .before .pre .1), c .before .before .before .before .before .before .before .pre .1, keeps-here _ _ _ _ _ (c .before .before .before .loop .inv .1) _ (c .before .before .loop-test .taken) (c .before .read-field .ensures) _ (c .before .before .before .before .before .before .before .pre .2))
 
 add-n : tie.Need-add-n Inv-loop μ-loop
 add-n c = omega (arith, sum-most _ _ _ _ _ (c .before .before .before .before .loop .inv .1) _ (c .before .before .before .loop-test .taken) (c .before .before .read-field .ensures) (c .before .before .before .before .before .before .before .before .pre .0) (c .before .before .before .before .before .before .before .before .pre .1) _ _ (c .before .before .before .before .loop .inv .2) (c .field-size .ensures))

@@ -1,15 +1,22 @@
+use denote.Ref.{now}
 use mathlib.Core.Path.{sym, _∙_}
 use Prim.Native.Nat.{_-_}
-use Rattle.closing.proofs.CloseLaws.{walkable, close-refused, close-unread, close-read as read-closed}
+use native.Mathlib.Omega.{arith}
+use Rattle.base.proofs.Parts.{Bytes}
+use Rattle.closing.proofs.CloseLaws.{walkable, below, close-refused, close-unread, close-read as read-closed}
 use borrow.Author.Needs.{needs}
 use Rattle.closing.proofs.close_pool.Statement.{statement}
 use Rattle.closing.proofs.close_pool.Tie as tie
+
+bytes : (c : tie.After-shared-slice-known) → Bytes (now (c .before .args .s))
+bytes c i = omega (arith, c .shared-slice-known .given i)
 
 first-unread-requires : tie.Need-first-unread-requires
 first-unread-requires c κs = walkable _ (sym (c .before .before .check .ensures) ∙ c .enum-told .given .1)
 
 close-read-requires : tie.Need-close-read-requires
-close-read-requires c κs = walkable _ (sym (c .before .before .before .before .before .before .check .ensures) ∙ c .before .before .before .before .enum-told .given .1)
+close-read-requires c κs = let e = sym (c .before .before .before .before .before .before .check .ensures) ∙ c .before .before .before .before .enum-told .given .1 in
+    (walkable _ e, below _ e (bytes (c .before .before .before .before .before .before .before .before)))
 
 returns : tie.Need-returns
 returns c = close-refused _ _ _ (c .before .before .before .check .ensures) _ _ (c .before .n .given .1)

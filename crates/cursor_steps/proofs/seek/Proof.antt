@@ -6,10 +6,10 @@ use Rattle.cursor_steps.proofs.seek.Statement.{statement}
 use Rattle.cursor_steps.proofs.seek.Tie as tie
 
 abbrev Inv-loop : tie.InvT-loop
-Inv-loop s pool t x₀ x = Points pool s x × (x .held .start ≤ t)
+Inv-loop s pool ending t x₀ x = Points pool s ending x × (x .held .start ≤ t)
 
 abbrev μ-loop : tie.MeasureT-loop
-μ-loop s pool t x₀ x = endOfTime - x .held .end
+μ-loop s pool ending t x₀ x = endOfTime - x .held .end
 
 loop-holds : tie.Need-loop-holds Inv-loop μ-loop
 loop-holds c = (c .before .pre .0, c .before .pre .1)

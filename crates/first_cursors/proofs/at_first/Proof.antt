@@ -13,7 +13,7 @@ returns : tie.Need-returns
 returns c = first-none _ _ _ _ _ (c .before .before .before .before .before .pre) _ (stands-is (c .before .before .before .read-interval .ensures) (ap ofInterval (c .before .k .given .1)))
 
 returns-2 : tie.Need-returns-2
-returns-2 c = opened-at _ _ _ _ (first-start _ _ _ _ _ (c .before .before .before .before .before .before .pre) _ _ (stands-is (c .before .before .before .before .read-interval .ensures) (ap ofInterval (c .before .before .i .given .1)))) (c .at-interval .ensures)
+returns-2 c = opened-at _ _ _ _ _ (first-start _ _ _ _ _ (c .before .before .before .before .before .before .pre) _ _ (stands-is (c .before .before .before .before .read-interval .ensures) (ap ofInterval (c .before .before .i .given .1)))) (c .at-interval .ensures)
 
 pub at-first-spec : {M : Type 1} → statement M
 at-first-spec =

@@ -55,13 +55,13 @@ loop-again c =
     rw (c .advance .ensures, c .before .short-interval .ensures)
     (ran (c .before .before .before) .scans (c .before .before .if1 .taken), ran (c .before .before .before) .forms (c .before .before .if1 .taken))
 
-read-interval-requires : tie.Need-read-interval-requires Inv-loop μ-loop
-read-interval-requires c κs = scanning-in _ _ _ _ _ _ _ _ (c .before .before .before .before .loop .inv .0)
+read-usual-interval-requires : tie.Need-read-usual-interval-requires Inv-loop μ-loop
+read-usual-interval-requires c κs = scanning-in _ _ _ _ _ _ _ _ (c .before .before .before .before .loop .inv .0)
 
 returns : tie.Need-returns Inv-loop μ-loop
 returns c = (
   scanning-bad _ _ _ _ _ _ _ _ (c .before .before .before .before .before .before .before .before .loop .inv .0) (omega arith) _
-      (stands-is (c .before .before .before .read-interval .ensures) (ap ofInterval (c .before .item .given .1))),
+      (stands-is (c .before .before .before .read-usual-interval .ensures) (ap ofInterval (c .before .item .given .1))),
   record { means = tt },
 )
 
@@ -70,7 +70,7 @@ code-preferred-requires c κs = scanning-in _ _ _ _ _ _ _ _ (c .before .before .
 
 loop-again-2 : tie.Need-loop-again-2 Inv-loop μ-loop
 loop-again-2 c =
-    let i = stands-is (c .before .before .before .before .before .read-interval .ensures) (ap ofInterval (c .before .before .before .item2 .given .1)) in
+    let i = stands-is (c .before .before .before .before .before .read-usual-interval .ensures) (ap ofInterval (c .before .before .before .item2 .given .1)) in
     rw (c .advance2 .ensures) (
       scanning-next _ _ _ _ _ _ _ _ (c .before .before .before .before .before .before .before .before .before .before .loop .inv .0) (omega arith) _ _ i,
       forming-next _ _ _ _ _ _ _ _ _ _ (c .before .before .before .before .before .before .before .before .before .before .loop .inv .1) _ _ _ (omega arith) i (c .before .code-preferred .ensures),
@@ -93,7 +93,7 @@ read-intervals-spec =
     (λ c κs. search needs)
     loop-less
     loop-again
-    read-interval-requires
+    read-usual-interval-requires
     (λ c. search needs)
     returns
     (λ c. search needs)

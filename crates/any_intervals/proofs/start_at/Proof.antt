@@ -1,0 +1,33 @@
+use Rattle.any_intervals.proofs.StartLaws.{mark-at, ticks-at}
+use borrow.Author.Needs.{needs}
+use Rattle.any_intervals.proofs.start_at.Statement.{statement}
+use Rattle.any_intervals.proofs.start_at.Tie as tie
+
+returns-2 : tie.Need-returns-2
+returns-2 c = mark-at _ _ _ (c .before .before .before .before .pre) (c .before .before .if1 .left) (c .if2 .taken)
+
+returns-3 : tie.Need-returns-3
+returns-3 c =
+    ticks-at _ _ _ (c .before .before .before .before .before .before .before .before .before .before .pre) (c .before .before .before .before .before .before .before .before .if1 .left) _ _ (c .before .before .before .before .if3 .taken) (c .before .before .fixed-from .ensures) (c .before .from-raw .ensures) (c .if4 .taken)
+
+pub start-at-spec : {M : Type 1} → statement M
+start-at-spec =
+    tie.close
+    (tie.spec
+    (λ c. search needs)
+    (λ c κs. search needs)
+    (λ c. search needs)
+    (λ c. search needs)
+    (λ c. search needs)
+    returns-2
+    (λ c. search needs)
+    (λ c. search needs)
+    (λ c. search needs)
+    (λ c. search needs)
+    (λ c. search needs)
+    (λ c κs. search needs)
+    (λ c κs. search needs)
+    (λ c. search needs)
+    returns-3
+    (λ c κs. search needs)
+    (λ c. search needs))

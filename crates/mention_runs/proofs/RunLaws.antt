@@ -1,0 +1,64 @@
+-- Uses counted over a run of mentions. Assumes nothing.
+use mathlib.Core.Path.{_≡_, refl, sym, ap, _∙_, subst⁻¹}
+use mathlib.Core.Bool.{Bool}
+use mathlib.Core.List.{List, _∷_}
+use Prim.Native.Nat.{ℕ, _+_, _-_, _≤_, _<_}
+use native.Mathlib.Omega.{arith}
+use lib.ListN.{length, getD, set, drop}
+use lib.Seq.{set-out}
+use Rattle.base.specs.Parsed.{parse}
+use Rattle.counts.specs.Count.{readCount}
+use Rattle.places.specs.Placed.{at, Stands}
+use Rattle.use_order.specs.Order.{mention, mentionAll}
+use Rattle.use_order.proofs.NumberLaws.{length-mention, mention-most}
+use Rattle.mentions.specs.declared.Stage.{Stage}
+use Rattle.mentions.specs.declared.Stage.the-variants.{Interval, Names}
+use Rattle.mentions.specs.Walk.{aheadOf}
+use Rattle.mentions.specs.Content.{Content, contentAt, numbersIn}
+use Rattle.mentions.specs.View.{MentionAt}
+use Rattle.mentions.proofs.WalkLaws.{names-more}
+use Rattle.mentions.proofs.ContentLaws.{content-next, mention-here}
+use Rattle.zone_mentions.specs.Short.{ShortAt}
+use Rattle.mention_runs.specs.Run.{Room, Counted}
+
+pub mention-some : (k : ℕ) (u : List ℕ) → set u k (getD u k 0 + 1) ≡ mention k u
+unfolding mention
+mention-some k u = refl
+
+pub mention-none : (k : ℕ) (u : List ℕ) → length u ≤ k → u ≡ mention k u
+unfolding mention
+mention-none k u h = sym (set-out u k (getD u k 0 + 1) h)
+
+-- the next mention in a run
+module _ (s : List ℕ) (place : ℕ) (h : place ≤ length s) (n : ℕ) (l : 0 < n) (v e : ℕ) where
+  pub interval-here : (last m : ℕ) → ShortAt s place last m → (m ≡ 0 → ⊥) → Stands s (parse readCount (drop (place + 4) s)) (at v e)
+      → MentionAt s place (Interval last n) (Interval m (n - 1)) v (place + 4) e
+  unfolding aheadOf
+  interval-here last m a z c = mention-here s place (Interval last n) _ _ (a .ahead z n (λ y. omega arith)) h v e c
+
+  pub name-here : (locations : ℕ) (numbered : Bool) → Stands s (parse readCount (drop place s)) (at v e)
+      → MentionAt s place (Names n locations numbered) (Names (n - 1) locations numbered) v place e
+  unfolding aheadOf
+  name-here locations numbered c = mention-here s place (Names n locations numbered) _ _ (names-more s place n locations numbered l h) h v e c
+
+pub counted-none : (s : List ℕ) (a : ℕ) (σ : Stage) (u : List ℕ) → a ≤ length s → Counted s a σ u a σ u
+counted-none s a σ u h = record { onward = omega arith; within = h; all = refl; most = λ k. omega arith; same = refl }
+
+module _ (s : List ℕ) (a : ℕ) (σ : Stage) (u : List ℕ) (b : ℕ) (τ : Stage) (w : List ℕ) (c : Counted s a σ u b τ w) (υ : Stage) (v p e : ℕ) (m : MentionAt s b τ υ v p e) where
+  pub counted-room : Room u (length s - a) → getD w v 0 < 4294967295
+  counted-room r = omega (arith, r .room v, c .most v, c .onward, m .first, m .rises, m .last)
+
+  pub counted-next : (after : List ℕ) → after ≡ mention v w → Counted s a σ u e υ after
+  unfolding numbersIn mentionAll
+  counted-next after h =
+      rw h (record {
+        onward = omega (arith, c .onward, m .first, m .rises);
+        within = m .last;
+        all = length-mention v w ∙ c .all;
+        most = λ k. let z = mention-most v k w in omega (arith, c .most k, m .first, m .rises);
+        same = sym (ap (λ (x : Content). mentionAll (numbersIn (x .mentions)) w) (content-next τ (drop b s) _ (drop e s) (m .read))) ∙ c .same;
+      })
+
+-- from a stage, where it is known which
+pub counted-is : (s : List ℕ) (a : ℕ) (σ σ′ : Stage) (u : List ℕ) (b : ℕ) (τ : Stage) (w : List ℕ) → σ ≡ σ′ → Counted s a σ′ u b τ w → Counted s a σ u b τ w
+counted-is s a σ σ′ u b τ w e c = subst⁻¹ (λ (υ : Stage). Counted s a υ u b τ w) e c

@@ -1,0 +1,140 @@
+// Mentions counted in runs: names of intervals behind short codes, and names behind names.
+use base::Read;
+use mentions::Stage;
+ghost use mathlib.Core.Path.{_≡_};
+ghost use Prim.Native.Nat.{_-_, _≤_, _<_};
+ghost use lib.ListN.{length, getD};
+ghost use Rattle.use_order.specs.Order.{mention as mentionOf};
+ghost use Rattle.mentions.specs.declared.Stage.the-variants.{Interval, Names};
+ghost use Rattle.mention_runs.specs.Run.{Room, Counted};
+
+// One use more of k.
+pub fn mention(uses: &mut [u32], k: usize)
+    requires { ⌜ getD (now uses) k 0 < 4294967295 ⌝ }
+    ensures { λ _. ⌜ now (uses .exit) ≡ mentionOf k (now (uses .entry)) ⌝ }
+{
+    if k < uses.len() {
+        uses[k] = uses[k] + 1;
+    }
+}
+
+// Behind the name of an interval: its start, and how many follow.
+pub struct Run {
+    pub place: usize,
+    pub start: u64,
+    pub left: u64,
+}
+
+// Counts the names of the intervals that follow, as long as the codes before them are short.
+fn count_intervals(s: &[u8], at: usize, start: u64, left: u64, uses: &mut [u32]) -> Run
+    requires { ⌜ (at ≤ length (now s)) × Room (now uses) (length (now s) - at) ⌝ }
+    ensures { λ r. ⌜ Counted (now (s .entry)) at (Interval start left) (now (uses .entry)) (r .place) (Interval (r .start) (r .left)) (now (uses .exit)) ⌝ }
+{
+    let mut place = at;
+    let mut last = start;
+    let mut n = left;
+    while 0 < n {
+        let m = zone_mentions::short_start(s, place, last);
+        if m == 0 {
+            return Run {
+                place: place,
+                start: last,
+                left: n,
+            };
+        }
+        match places::count_at(s, place + 4) {
+            Read::Refused(_) => {
+                return Run {
+                    place: place,
+                    start: last,
+                    left: n,
+                };
+            }
+            Read::Value(v, e) => {
+                mention(uses, v as usize);
+                place = e;
+                last = m;
+                n -= 1;
+            }
+        }
+    }
+    Run {
+        place: place,
+        start: last,
+        left: n,
+    }
+}
+
+// Before so many names.
+pub struct Row {
+    pub place: usize,
+    pub left: u64,
+}
+
+// Counts the names in a row at a place.
+fn count_names(
+    s: &[u8],
+    at: usize,
+    left: u64,
+    locations: u64,
+    numbered: bool,
+    uses: &mut [u32],
+) -> Row
+    requires { ⌜ (at ≤ length (now s)) × Room (now uses) (length (now s) - at) ⌝ }
+    ensures { λ r. ⌜ Counted (now (s .entry)) at (Names left locations numbered) (now (uses .entry)) (r .place) (Names (r .left) locations numbered) (now (uses .exit)) ⌝ }
+{
+    let mut place = at;
+    let mut n = left;
+    while 0 < n {
+        match places::count_at(s, place) {
+            Read::Refused(_) => {
+                return Row {
+                    place: place,
+                    left: n,
+                };
+            }
+            Read::Value(v, e) => {
+                mention(uses, v as usize);
+                place = e;
+                n -= 1;
+            }
+        }
+    }
+    Row {
+        place: place,
+        left: n,
+    }
+}
+
+// A place and the stage there.
+pub struct Stood {
+    pub place: usize,
+    pub stage: Stage,
+}
+
+// Counts the run that follows a stage at a place, if any.
+pub fn count_run(s: &[u8], at: usize, stage: Stage, uses: &mut [u32]) -> Stood
+    requires { ⌜ (at ≤ length (now s)) × Room (now uses) (length (now s) - at) ⌝ }
+    ensures { λ r. ⌜ Counted (now (s .entry)) at stage (now (uses .entry)) (r .place) (r .stage) (now (uses .exit)) ⌝ }
+{
+    match stage {
+        Stage::Interval(start, left) => {
+            let r = count_intervals(s, at, start, left, uses);
+            Stood {
+                place: r.place,
+                stage: Stage::Interval(r.start, r.left),
+            }
+        }
+        Stage::Names(n, locations, numbered) => {
+            let r = count_names(s, at, n, locations, numbered, uses);
+            Stood {
+                place: r.place,
+                stage: Stage::Names(r.left, locations, numbered),
+            }
+        }
+        _ => Stood {
+            place: at,
+            stage: stage,
+        },
+    }
+}

@@ -1,0 +1,23 @@
+-- What the walk over a well-formed file relies on. The code's way: internal functions alone use it; what the rewriter gives is said by
+-- Preferred.antt.
+use Prim.Native.Nat.{ℕ, _≤_}
+use mathlib.Core.Path.{_≡_}
+use mathlib.Core.List.{List}
+use lib.ListN.{length}
+use Rattle.frames.specs.Frame.{Field}
+use Rattle.frames.specs.Fields.{fields}
+use Rattle.frames.specs.Covers.{Covers}
+use Rattle.base.specs.All.{All}
+use Rattle.preferred_fields.specs.View.{Told}
+use Rattle.rewrite.specs.Preferred.{preferred}
+
+-- the data of every zone have a content, and its flag says whether they are in their preferred form
+abbrev pub Readable : List ℕ → Field → Type 0
+Readable flags g = g .id ≡ 1 → Told flags (g .body)
+
+-- what the check of f has shown, and the flags that it left
+pub record Rewritable (f flags : List ℕ) : Type 0 where
+  pub covers : Covers f 4 (fields f)
+  pub readable : All (Readable flags) (fields f)
+  pub shorter : length (preferred f) ≤ length f
+  pub limit : length (preferred f) ≤ 4194304

@@ -20,14 +20,15 @@
  *
  * Memory. A pointer and the length behind it name that many readable (out: writable) bytes, or numbers where it points to
  * int64_t. Where the length is 0 the pointer is not followed and may be null. A pointer to a struct, or to one number, is
- * never null. out, count and record overlap nothing else that is lent.
+ * never null. out, rows that are written, count and record overlap nothing else that is lent.
  * No function keeps a pointer, allocates, or has state, so any number of threads may call them. A receiver's state is
  * yours.
  *
- * Stack, measured and not proved (tests/bench/stack/run): up to 296 KB for nzd_close_pool, 80 KB for nzd_normalize, 72 KB
- * for nzd_version_text, nzd_location, nzd_ask_named_old and nzd_difference, 64 KB for nzd_ask_named, 56 KB for nzd_replay,
- * 43 KB for nzd_map_local, 40 KB for nzd_ask, nzd_ask_plain, nzd_find_zone and nzd_interval_starts, as much for the same of
- * a receiver, 2 KB for nzd_ask_zone and nzd_map_zone_local, below 1 KB for nzd_find_start, nzd_receiver_add and a small code.
+ * Stack, measured and not proved (tests/bench/stack/run): up to 323 KB for nzd_close_pool, 141 KB for nzd_replay, 82 KB for
+ * nzd_ask_named_old, 75 KB for nzd_normalize, 68 KB for nzd_version_text, nzd_location and nzd_difference, 58 KB for
+ * nzd_ask_named, 35 KB for nzd_map_local, nzd_ask, nzd_ask_plain, nzd_find_zone, nzd_list_answers and nzd_interval_starts, as much
+ * for the same of a receiver, 2 KB for nzd_ask_zone, nzd_ask_listed and nzd_map_zone_local, below 1 KB for nzd_find_start,
+ * nzd_receiver_add and a small code.
  */
 #ifndef NZD_H
 #define NZD_H
@@ -195,6 +196,27 @@ uint64_t nzd_find_zone(const uint8_t *file, size_t n, const uint8_t *id, size_t 
  */
 uint64_t nzd_ask_zone(const uint8_t *file, size_t n, const struct nzd_zone *zone, int64_t ticks, bool first_edition,
                       struct nzd_answer *out);
+
+/*
+ * For repeated questions whose time doesn't grow with the zone's list: puts the answers of a found zone one after the other, from the
+ * interval that holds ticks on, listed ones and those of the yearly rules. A row is the seven numbers of an nzd_answer in their
+ * order, so rows, of rows_n numbers, has room for rows_n / 7. *count gets how many rows there are: as many as there is room for, or up
+ * to the interval that ends with NZD_END_OF_TIME; each starts where the one before ends. Numbers behind the last row stay as found.
+ * The refusals of nzd_ask_zone come first, then 15 if there is no room for one row. 32 rows are 1,792 bytes; a zone with yearly rules
+ * has two a year, from its listed ones to the end of 9999.
+ */
+uint64_t nzd_list_answers(const uint8_t *file, size_t n, const struct nzd_zone *zone, int64_t ticks, bool first_edition,
+                          int64_t *rows, size_t rows_n, int64_t *count);
+
+/*
+ * Asks a found zone over the rows that nzd_list_answers put, rows_n being 7 * *count: on the same file, zone and edition it gives what
+ * nzd_ask_zone gives, at every instant. A row that holds the instant is found by halving, without a look at the file; for an instant
+ * outside the rows it is nzd_ask_zone. With any other numbers in rows it is still safe, and name_place and name_length are still a part
+ * of file: 14 comes first; then the rows are halved by their starts, and the row left is given, with 0 for a place or a length below
+ * 0, if it holds the instant and its name is a part of file; else it is nzd_ask_zone.
+ */
+uint64_t nzd_ask_listed(const uint8_t *file, size_t n, const struct nzd_zone *zone, const int64_t *rows, size_t rows_n,
+                        int64_t ticks, bool first_edition, struct nzd_answer *out);
 
 /* The instants at which clocks of a zone show a local time. */
 struct nzd_local {
@@ -460,7 +482,8 @@ uint64_t nzd_old_write_string(const uint8_t *t, size_t t_n, uint8_t *out, size_t
 /*
  * A dictionary: a count, and so many pairs of strings, key and value. Its value is how many entries it has: they are parts
  * of s, behind the count. 19 at the second of two equal keys, before its value. Takes time for the bytes where the keys
- * are in the order of their bytes; each key that is not goes through the entries before it.
+ * are in the order of their bytes. In another order n keys take n log n comparisons up to 8,192; each key behind these
+ * goes through the entries before it.
  */
 uint64_t nzd_old_read_dictionary(const uint8_t *s, size_t n, struct nzd_value *out);
 

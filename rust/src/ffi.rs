@@ -88,6 +88,26 @@ mod c {
             first_edition: bool,
             out: *mut [i64; 7],
         ) -> u64;
+        pub fn nzd_list_answers(
+            file: *const u8,
+            n: usize,
+            zone: *const [u64; 5],
+            ticks: i64,
+            first_edition: bool,
+            rows: *mut i64,
+            rows_n: usize,
+            count: *mut [i64; 1],
+        ) -> u64;
+        pub fn nzd_ask_listed(
+            file: *const u8,
+            n: usize,
+            zone: *const [u64; 5],
+            rows: *const i64,
+            rows_n: usize,
+            ticks: i64,
+            first_edition: bool,
+            out: *mut [i64; 7],
+        ) -> u64;
         pub fn nzd_map_local(
             file: *const u8,
             n: usize,
@@ -287,6 +307,32 @@ pub fn find_zone(file: &[u8], id: &[u8], out: &mut [u64; 5]) -> u64 {
 /// `nzd_ask_zone`.
 pub fn ask_zone(file: &[u8], zone: &[u64; 5], ticks: i64, first_edition: bool, out: &mut [i64; 7]) -> u64 {
     unsafe { c::nzd_ask_zone(file.as_ptr(), file.len(), zone, ticks, first_edition, out) }
+}
+
+/// `nzd_list_answers`.
+pub fn list_answers(
+    file: &[u8],
+    zone: &[u64; 5],
+    ticks: i64,
+    first_edition: bool,
+    rows: &mut [i64],
+    count: &mut [i64; 1],
+) -> u64 {
+    unsafe {
+        c::nzd_list_answers(file.as_ptr(), file.len(), zone, ticks, first_edition, rows.as_mut_ptr(), rows.len(), count)
+    }
+}
+
+/// `nzd_ask_listed`.
+pub fn ask_listed(
+    file: &[u8],
+    zone: &[u64; 5],
+    rows: &[i64],
+    ticks: i64,
+    first_edition: bool,
+    out: &mut [i64; 7],
+) -> u64 {
+    unsafe { c::nzd_ask_listed(file.as_ptr(), file.len(), zone, rows.as_ptr(), rows.len(), ticks, first_edition, out) }
 }
 
 /// `nzd_map_local`.

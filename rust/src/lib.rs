@@ -7,7 +7,7 @@
 //! Instants are ticks of 100 ns since 1970-01-01T00:00Z, which [`ticks_of_unix_seconds`] and [`ticks_of_system_time`]
 //! give; offsets and savings are milliseconds. A local time is ticks since 1970-01-01T00:00 as clocks of a zone show it;
 //! [`map_local`] gives the instants that read that way. [`intervals`] gives all intervals of a zone from an instant on.
-//! Of a [`Zone`], which is found once, repeated questions cost less.
+//! Of a [`Zone`], which is found once, repeated questions cost less, and over a [`ZoneTable`] of its answers, in lent room, least.
 //! [`locations`] gives the places of zones on the map.
 //!
 //! [`difference`] lists where two files differ in a zone, and [`replay`] finds the first record of a trace that a file
@@ -60,7 +60,7 @@ pub use starts::{find_start, interval_starts, Search};
 #[cfg(feature = "std")]
 pub use ticks::ticks_of_system_time;
 pub use ticks::{ticks_of_unix_seconds, FIRST_INSTANT, LAST_INSTANT, TICKS_PER_SECOND};
-pub use zone::{Zone, ZoneIntervals};
+pub use zone::{Zone, ZoneIntervals, ZoneTable, ROW_NUMBERS};
 
 use error::decode;
 

@@ -1,6 +1,8 @@
 //! A zone found once answers as the file does.
 
-use nzd::{ask, ffi, intervals, map_local, Edition, Error, Mark, Number, Zone, FIRST_INSTANT, LAST_INSTANT};
+use nzd::{
+    ask, ffi, intervals, map_local, Bound, Edition, Error, Mark, Number, Zone, FIRST_INSTANT, LAST_INSTANT, ROW_NUMBERS,
+};
 
 const INSTANTS: [i64; 8] = [
     FIRST_INSTANT,
@@ -72,8 +74,46 @@ fn every_zone_answers_as_the_file() {
             assert_eq!(zone.offset_at(ticks), Ok(answer.wall_offset_ms));
             assert_eq!(Ok(zone.map_local(ticks)), map_local(&file, id, ticks));
         }
-        let some = intervals(&file, id, 0, Mark::ThisIsAll, Edition::Two).take(50);
-        assert!(zone.intervals(0, Edition::Two).take(50).eq(some));
+        for edition in [Edition::One, Edition::Two] {
+            let some = intervals(&file, id, 0, Mark::ThisIsAll, edition).take(100);
+            assert!(zone.intervals(0, edition).take(100).eq(some));
+        }
+    }
+}
+
+#[test]
+fn a_table_answers_as_the_zone() {
+    let file = europe();
+    for id in ids(&file) {
+        let zone = Zone::find(&file, id).expect("a zone");
+        for edition in [Edition::One, Edition::Two] {
+            for rows in [1, 2, 3, 60, 400] {
+                for from in [FIRST_INSTANT, 0] {
+                    let mut room = vec![-7; rows * ROW_NUMBERS + 3];
+                    let table = zone.table(from, edition, &mut room).expect("a table");
+                    let count = table.count();
+                    assert!(0 < count && count <= rows);
+                    assert!(count == rows || table.end() == Bound::EndOfTime);
+                    for ticks in INSTANTS {
+                        assert_eq!(table.ask(ticks), zone.ask(ticks, edition));
+                        assert_eq!(table.offset_at(ticks), zone.offset_at(ticks));
+                    }
+                    for at in zone.intervals(from, edition).take(count + 3) {
+                        if let Bound::At(end) = at.expect("an interval").end {
+                            assert_eq!(table.ask(end), zone.ask(end, edition));
+                            assert_eq!(table.ask(end - 1), zone.ask(end - 1, edition));
+                        }
+                    }
+                    let out = Err(Error { number: Number::InstantOutOfRange, place: 0 });
+                    assert_eq!(table.ask(LAST_INSTANT + 1), out);
+                    assert!(room[count * ROW_NUMBERS..].iter().all(|&number| number == -7));
+                }
+            }
+        }
+        let mut none = [-7; ROW_NUMBERS - 1];
+        assert_eq!(zone.table(0, Edition::Two, &mut none).unwrap_err().number, Number::OutputTooShort);
+        assert_eq!(zone.table(i64::MAX, Edition::Two, &mut none).unwrap_err().number, Number::InstantOutOfRange);
+        assert_eq!(none, [-7; ROW_NUMBERS - 1]);
     }
 }
 
@@ -107,6 +147,11 @@ fn any_five_numbers_are_safe() {
                     } else {
                         assert!(out[3] >= 0 && out[4] >= 0 && (out[3] + out[4]) as u64 <= length);
                     }
+                    // The first row of a table is what the question gives, refusals among them.
+                    let (mut rows, mut count) = ([-7; 2 * ROW_NUMBERS], [-7]);
+                    let listed =
+                        ffi::list_answers(&file, &[pool, past, start, end, start], 0, false, &mut rows, &mut count);
+                    assert_eq!((listed, rows[..ROW_NUMBERS] == out), (result, true));
                 }
             }
         }

@@ -112,6 +112,43 @@ static void editions(void) {
     }
 }
 
+/* A table of the answers of a zone "A" that goes from +01:00 to +00:00 at minute 100,000,000: rows are answers in a row, and a question over
+   them is the one on the zone, in the table or not. */
+static void tables(void) {
+    static const uint8_t s[] = {0,    0, 0, 0, 0, 3,    1,    1,    'A',  1,    16,   0, 2,    2,
+                                0, 0, 0x32, 0x32, 0x80, 0xc2, 0xd7, 0x2f, 0, 0x30, 0x30, 1, 0};
+    static const int64_t change = INT64_C(6353376000000000);
+    struct nzd_zone zone;
+    struct nzd_answer rows[3], asked, listed;
+    int64_t *numbers = &rows[0].wall_ms, count = -1;
+    size_t room, i;
+    EXPECT(nzd_find_zone(s, sizeof s, (const uint8_t *)"A", 1, &zone) == NZD_ANSWERED);
+    for (room = 0; room <= 21; room++) {
+        size_t most = room / 7 < 2 ? room / 7 : 2;
+        uint64_t r;
+        memset(rows, -1, sizeof rows);
+        count = -1;
+        r = nzd_list_answers(s, sizeof s, &zone, NZD_FIRST_INSTANT, false, numbers, room, &count);
+        EXPECT(r == (most == 0 ? NZD_OUTPUT_TOO_SHORT : NZD_ANSWERED));
+        EXPECT(count == (most == 0 ? -1 : (int64_t)most));
+        for (i = 7 * most; i < 21; i++) EXPECT(numbers[i] == -1);
+        if (most > 0) EXPECT(rows[0].wall_ms == 3600000 && rows[0].start == NZD_START_OF_TIME && rows[0].end == change);
+        if (most > 1) EXPECT(rows[1].wall_ms == 0 && rows[1].start == change && rows[1].end == NZD_END_OF_TIME);
+        for (i = 0; i < 4; i++) {
+            int64_t ticks = i == 0 ? NZD_FIRST_INSTANT : i == 1 ? change - 1 : i == 2 ? change : NZD_LAST_INSTANT;
+            EXPECT(nzd_ask_zone(s, sizeof s, &zone, ticks, false, &asked) == NZD_ANSWERED);
+            EXPECT(nzd_ask_listed(s, sizeof s, &zone, numbers, 7 * most, ticks, false, &listed) == NZD_ANSWERED);
+            EXPECT(memcmp(&asked, &listed, sizeof asked) == 0);
+        }
+    }
+    EXPECT(nzd_list_answers(s, sizeof s, &zone, NZD_LAST_INSTANT + 1, false, NULL, 0, &count) == NZD_INSTANT_OUT_OF_RANGE);
+    EXPECT(nzd_ask_listed(s, sizeof s, &zone, numbers, 14, NZD_LAST_INSTANT + 1, false, &listed) == NZD_INSTANT_OUT_OF_RANGE);
+    /* A row whose name leaves the file is not given. */
+    rows[1].name_place = (int64_t)sizeof s;
+    EXPECT(nzd_ask_listed(s, sizeof s, &zone, numbers, 14, change, false, &listed) == NZD_ANSWERED);
+    EXPECT(listed.name_place == 8 && listed.name_length == 1);
+}
+
 /* Names, in files with strings "A" and "B" and a zone "A": "B" leads to "A", to itself, stands twice, and has not come. */
 static void names(void) {
     static const uint8_t alias[] = {0, 0, 0, 0, 0, 5, 2, 1, 'A', 1, 'B', 1, 3, 0, 1, 0x30, 3, 3, 1, 1, 0};
@@ -251,6 +288,7 @@ int main(void) {
     names();
     normalizes();
     editions();
+    tables();
     local_times();
     receiver();
     words();

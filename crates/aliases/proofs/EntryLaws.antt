@@ -4,7 +4,7 @@ use mathlib.Core.Bool.{Bool, true, false}
 use mathlib.Core.List.{List, [], _∷_, _++_}
 use Prim.Native.Nat.{ℕ, zero, suc, _+_, _-_, _≤_, _<_}
 use native.Mathlib.Omega.{arith}
-use lib.ListN.{length, drop, getD, replicate, length-replicate}
+use lib.ListN.{length, drop, getD, replicate}
 use Rattle.base.specs.Parsed.{Parsed, bad, bind, parse, ended}
 use Rattle.base.specs.declared.Read.{Read}
 use Rattle.base.specs.declared.Read.the-variants.{Value, Refused}
@@ -14,7 +14,7 @@ use Rattle.places.specs.Name.{parseName}
 use Rattle.places.proofs.PlaceLaws.{then-in, then-got, then-bad, ended-here, ended-over}
 use Rattle.places.proofs.ValueLaws.{name-ok}
 use Rattle.ids.specs.Memory.{Keeps, Taken}
-use Rattle.ids.proofs.MemoryLaws.{keeps-none}
+use Rattle.ids.proofs.MemoryLaws.{keeps-start}
 use Rattle.aliases.specs.Dictionary.{entry, Dictionary, keys}
 use Rattle.aliases.specs.Field.{afterKey, parseEntry, parseEntries, allEntries, parseAliases}
 use Rattle.aliases.specs.View.{verdictOf, TurnTo, Turned}
@@ -71,9 +71,9 @@ pub record Going (ts : List (List ℕ)) (d : List ℕ) (whole : Parsed Dictionar
 
 module _ (ts : List (List ℕ)) (d : List ℕ) where
   pub going-start : (n place : ℕ) → place ≤ length d
-      → Going ts d (allEntries ts n (drop place d)) n place (replicate 8192 0) 0
+      → Going ts d (allEntries ts n (drop place d)) n place (replicate 8449 0) 0
   unfolding allEntries keys
-  going-start n place h = record { inside = h; pre = []; keeps = keeps-none ts (replicate 8192 0) (length-replicate {A = ℕ} 8192 0); rest = refl }
+  going-start n place h = record { inside = h; pre = []; keeps = keeps-start ts; rest = refl }
 
   module _ (whole : Parsed Dictionary) (left place : ℕ) (od : List ℕ) (many : ℕ) (g : Going ts d whole left place od many) where
     module _ (od′ : List ℕ) (some : 0 < left) (r : Turn) (t : Turned ts d place od many od′ r) where

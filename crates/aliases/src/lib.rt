@@ -29,7 +29,7 @@ fn take_entry(
     count: usize,
     d: &[u8],
     at: usize,
-    order: &mut [u16; 8192],
+    order: &mut [u16; 8449],
     n: usize,
 ) -> Turn
     requires { ⌜ Ready (now pool) (now starts) × (count ≡ length (stringsOf (now pool))) × (at ≤ length (now d)) × Sorted (stringsOf (now pool)) (now order) n ⌝ }
@@ -54,7 +54,7 @@ fn take_entries(pool: &[u8], starts: &[u32], count: usize, d: &[u8], from: usize
     requires { ⌜ Ready (now pool) (now starts) × (count ≡ length (stringsOf (now pool))) × (from ≤ length (now d)) ⌝ }
     ensures { λ r. ⌜ r ≡ verdictOf (allEntries (stringsOf (now (pool .entry))) n (drop from (now (d .entry)))) ⌝ }
 {
-    let mut order = [0u16; 8192];
+    let mut order = [0u16; 8449];
     let mut keys: usize = 0;
     let mut at = from;
     let mut left = n;

@@ -31,7 +31,7 @@ pub fn judge(pool: &[u8], starts: &[u32], count: usize, d: &[u8], id: &[u8]) -> 
             if strings::has_id(pool, starts, k, id) {
                 return Judged::Here;
             }
-            match zone_lookups::check(d, count as u64) {
+            match zone_checks::check(d, count as u64) {
                 ZoneVerdict::Refused(n) => Judged::Fault(n),
                 ZoneVerdict::Good(_) => Judged::Keep,
             }
@@ -83,7 +83,7 @@ pub fn walk_zones(
     let mut at = end;
     let mut prev: usize = 0;
     loop {
-        let f = headers::read_frame(&s[at..], 1, at, true, prev);
+        let f = headers::next_frame(&s[at..], 1, at, true, prev);
         match f {
             Frame::End => {
                 return Located::End(at);

@@ -9,6 +9,7 @@ ghost use Rattle.texts.specs.Text.{readText, textForm};
 ghost use Rattle.field_checks.specs.Check.{versionOf};
 ghost use Rattle.questions.specs.Question.{ask as askOf, askPlain};
 ghost use Rattle.found_zones.specs.FoundZone.{askZone};
+ghost use Rattle.answer_tables.specs.Table.{askListed};
 ghost use Rattle.zone_replies.specs.Zones.{zoneBy};
 ghost use Rattle.named_fields.specs.Named.{askNamed};
 ghost use Rattle.old_counts.specs.OldCount.{readOldCount, oldCountForm};
@@ -23,7 +24,7 @@ ghost use Rattle.receivers.specs.Receive.{fresh, Adds};
 ghost use Rattle.replies.specs.Reply.{Gives, Puts};
 ghost use Rattle.replies.specs.Functions.{readReply, numberReply, textReply, momentReply, previousOf, integerForm};
 ghost use Rattle.file_replies.specs.Functions.{markOf, answerReply, versionReply, editionOf};
-ghost use Rattle.capi_contracts.specs.Functions.{FindsFoundZone, MapsLocal, MapsZoneLocal, kindForm, StepsView, Normalizes, FillsStarts, ListsDifference, ClosesPool};
+ghost use Rattle.capi_contracts.specs.Functions.{FindsFoundZone, ListsZoneAnswers, MapsLocal, MapsZoneLocal, kindForm, StepsView, Normalizes, FillsStarts, ListsDifference, ClosesPool};
 ghost use Rattle.capi_contracts.specs.Received.{askReceived, askPlainReceived, askNamedReceived, locationReceived, MapsReceived, versionReceived, NormalizesReceived};
 ghost use Rattle.file_locations.specs.ByField.{locationBy};
 ghost use Rattle.location_replies.specs.Locations.{GivesLocation};
@@ -130,6 +131,42 @@ pub extern "C" fn nzd_ask_zone(
     let v = zone_replies::zone_by(zone);
     let edition = file_replies::edition_of(first);
     let a = found_zones::ask_zone(file, v, ticks, edition);
+    file_replies::give_answer(a, out)
+}
+
+// The answers of a found zone's intervals, from the one at a tick on, put in a lent table.
+#[no_mangle]
+pub extern "C" fn nzd_list_answers(
+    file: &[u8],
+    zone: &[u64; 5],
+    ticks: i64,
+    first: bool,
+    rows: &mut [i64],
+    count: &mut [i64; 1],
+) -> u64
+    ensures { λ r. ⌜ ListsZoneAnswers (now (file .entry)) (now (zone .entry)) ticks first (now (rows .entry)) (now (count .entry)) r (now (rows .exit)) (now (count .exit)) ⌝ }
+{
+    let v = zone_replies::zone_by(zone);
+    let edition = file_replies::edition_of(first);
+    let x = answer_lists::list_answers(file, v, ticks, edition, rows);
+    zone_replies::give_listed(x, count)
+}
+
+// The question over a table of a found zone's answers, whatever its rows are.
+#[no_mangle]
+pub extern "C" fn nzd_ask_listed(
+    file: &[u8],
+    zone: &[u64; 5],
+    rows: &[i64],
+    ticks: i64,
+    first: bool,
+    out: &mut [i64; 7],
+) -> u64
+    ensures { λ r. ⌜ Gives (answerReply (askListed (now (file .entry)) (zoneBy (now (zone .entry))) (now (rows .entry)) ticks (editionOf first))) (now (out .entry)) r (now (out .exit)) ⌝ }
+{
+    let v = zone_replies::zone_by(zone);
+    let edition = file_replies::edition_of(first);
+    let a = table_questions::ask_listed(file, v, rows, ticks, edition);
     file_replies::give_answer(a, out)
 }
 

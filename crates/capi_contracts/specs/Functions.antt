@@ -12,7 +12,9 @@ use Rattle.answers.specs.Answers.{noPool}
 use Rattle.locate.specs.Asked.{holder}
 use Rattle.found_zones.specs.FoundZone.{FindsZone}
 use Rattle.found_zones.specs.declared.Finding.{Finding}
-use Rattle.zone_replies.specs.Zones.{GivesZone, zoneBy}
+use Rattle.answer_tables.specs.Lists.{ListsAnswers}
+use Rattle.answer_tables.specs.declared.Listed.{Listed}
+use Rattle.zone_replies.specs.Zones.{GivesZone, zoneBy, listedReply}
 use Rattle.rewrite.specs.Preferred.{rewriteOf, outputOf}
 use Rattle.wall_times.specs.WallTime.{MapsTo}
 use Rattle.wall_times.specs.declared.Mapping.{Mapping}
@@ -23,7 +25,7 @@ use Rattle.closed_files.specs.File.{closeOf, outputOf as closedOutput}
 use Rattle.replies.specs.Reply.{Gives}
 use Rattle.replies.specs.Functions.{previousOf, momentOf}
 use Rattle.location_lookup.specs.Country.{nextOf}
-use Rattle.file_replies.specs.Functions.{rewrittenResult, mappingReply}
+use Rattle.file_replies.specs.Functions.{rewrittenResult, mappingReply, editionOf}
 use Rattle.location_replies.specs.Locations.{GivesCountry}
 use Rattle.tool_replies.specs.Functions.{fillingReply, listingReply, closedResult}
 
@@ -39,6 +41,13 @@ pub record FindsFoundZone (f id d : List ℕ) (r : ℕ) (e : List ℕ) : Type 0 
   pub finding : Finding
   pub finds : FindsZone f id finding
   pub gives : GivesZone finding d r e
+
+-- the result r, the table e and the count n at the return of listing the answers of the found zone whose numbers are b, whatever they are, from a tick
+-- on, where table and count were d and c
+pub record ListsZoneAnswers (f b : List ℕ) (z : ℤ) (first : Bool) (d c : List ℤ) (r : ℕ) (e n : List ℤ) : Type 0 where
+  pub listed : Listed
+  pub lists : ListsAnswers f (zoneBy b) z (editionOf first) d listed e
+  pub gives : Gives (listedReply listed) c r n
 
 -- the result r and the output e at the return of a local time's mapping, where the output was d. MapsTo leaves one mapping (map-one in
 -- wall_times)

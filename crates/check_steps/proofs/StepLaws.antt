@@ -4,14 +4,14 @@ use mathlib.Core.Bool.{Bool, true, false}
 use mathlib.Core.List.{List}
 use Prim.Native.Nat.{ℕ, _+_, _-_, _≤_, _<_}
 use native.Mathlib.Omega.{arith}
-use lib.ListN.{length, take, drop, replicate, length-drop, length-replicate}
+use lib.ListN.{length, take, drop, replicate, length-drop}
 use lib.Seq.{drop-drop}
 use native.Mathlib.Nat.{pos-of-ne-zero}
 use borrow.Author.Tests.{eq-eqb, ne-eqb, lt-ltb, le-ltb, ltb-false}
 use Rattle.base.proofs.Parts.{part-from}
 use Rattle.counts.specs.Groups.{readGroups}
 use Rattle.pool.specs.Index.{startsIn}
-use Rattle.ids.proofs.MemoryLaws.{keeps-none}
+use Rattle.ids.proofs.MemoryLaws.{keeps-start}
 use Rattle.frames.specs.Frame.{order, frame}
 use Rattle.frames.specs.Machine.{Content, bad, answer, keep, stateAt, fieldAt, from, walk}
 use Rattle.frames.specs.declared.Frame.{Frame}
@@ -176,7 +176,7 @@ abbrev pub nothing : Kept
 nothing = record { start = 0; end = 0; count = 0; zones = 0; text = 0; len = 0 }
 
 pub walking-start : (s : List ℕ)
-    → Walking s (record { at = 0; prev = 0; kept = nothing }) (replicate 8192 0) (replicate 8192 0)
+    → Walking s (record { at = 0; prev = 0; kept = nothing }) (replicate 8192 0) (replicate 8449 0)
 unfolding conclusion walk startsIn readGroups
 walking-start s =
     record {
@@ -186,7 +186,7 @@ walking-start s =
             inside = omega arith;
             indexed =
                 record { first = omega arith; last = omega arith; ready = record { begins = refl }; count = refl };
-            stands = record { strings = refl; ids = keeps-none _ _ (length-replicate {A = ℕ} 8192 0); text = refl };
+            stands = record { strings = refl; ids = keeps-start _; text = refl };
             place = λ z. absurd (omega arith);
             fresh = λ z. refl;
           };

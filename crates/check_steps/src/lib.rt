@@ -27,7 +27,7 @@ pub fn step(
     s: &[u8],
     c: Cursor,
     index: &mut [u32; 8192],
-    order: &mut [u16; 8192],
+    order: &mut [u16; 8449],
     flags: &mut [u8],
 ) -> Turn
     requires { ⌜ (c .at ≤ length (now s)) × Indexed (now s) (c .kept) (now index) × Ordered (now s) (c .kept) (now order) ⌝ }
@@ -35,7 +35,7 @@ pub fn step(
 {
     let at = c.at;
     let kept = c.kept;
-    let f = headers::read_frame(&s[at..], 255, at, 4 < at, c.prev);
+    let f = headers::next_frame(&s[at..], 255, at, 4 < at, c.prev);
     match f {
         Frame::End => Turn::Done(field_readers::conclude(at, kept)),
         Frame::Cut => Turn::Done(Conclusion::Refused(2, at)),

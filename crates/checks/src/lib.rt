@@ -14,7 +14,7 @@ fn walk(s: &[u8], flags: &mut [u8]) -> Conclusion
     ensures { λ r. ⌜ (r ≡ conclusion (now (s .entry))) × FlagsWalked (now (s .entry)) (now (flags .exit)) r ⌝ }
 {
     let mut index = [0u32; 8192];
-    let mut order = [0u16; 8192];
+    let mut order = [0u16; 8449];
     let mut c = Cursor {
         at: 0,
         prev: 0,

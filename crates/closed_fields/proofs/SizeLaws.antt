@@ -24,7 +24,7 @@ use Rattle.mentions.proofs.WalkLaws.{ahead-left, count-left}
 use Rattle.mentions.proofs.AgainLaws.{renumbered-same}
 use Rattle.closed_files.specs.File.{chosen, writePool, writeField, closedData}
 use Rattle.closed_pools.proofs.TextsLaws.{pool-length, texts-most}
-use Rattle.closed_fields.specs.View.{Keeps}
+use Rattle.closed_fields.specs.View.{NumbersKept}
 
 -- the bytes before a mention and the mention are those that it takes
 prior-most : (σ : Stage) (s : List ℕ) (m : Mention) (r : List ℕ) → parseMention σ s ≡ got m r → length (m .prior) + 1 + length r ≤ length s
@@ -80,7 +80,7 @@ unfolding closedData
 data-other order table i d h = rw (ne-eqb i 0 h)
 
 -- data whose mentions keep their numbers stay
-pub data-kept : (order table : List ℕ) (i : ℕ) (d : List ℕ) (kept : Bool) → (i ≡ 0 → ⊥) → Bytes d → Keeps kept table (numbersOf i d) → kept ≡ true
+pub data-kept : (order table : List ℕ) (i : ℕ) (d : List ℕ) (kept : Bool) → (i ≡ 0 → ⊥) → Bytes d → NumbersKept kept table (numbersOf i d) → kept ≡ true
     → closedData order table i d ≡ d
 data-kept order table i d kept h b k e = sym (data-other order table i d h) ∙ renumbered-same (newNumber table) i d b (k .stay e)
 

@@ -13,13 +13,8 @@ use Rattle.counts.specs.Groups.{writeGroups}
 use Rattle.counts.specs.Count.{writeCount}
 use Rattle.counts.proofs.CountLaws.{count-size}
 use Rattle.texts.specs.Text.{writeText}
-use Rattle.base.specs.Parsed.{got, bad}
-use lib.Seq.{sets}
-use Rattle.pool.specs.Pool.{Pool, parsePool, checked, stringsIn, stringsOf}
-use Rattle.pool.specs.Index.{startsOf}
-use Rattle.pool.specs.declared.Checked.{Checked}
-use Rattle.pool.proofs.PoolLaws.{string-fit, room-most, ready}
-use Rattle.closed_pools.specs.View.{countOf, Indexed}
+use Rattle.pool.specs.Pool.{stringsOf}
+use Rattle.pool.proofs.PoolLaws.{string-fit}
 use Rattle.pieces.proofs.PutLaws.{InTwo}
 use Rattle.closed_files.specs.File.{chosen, writeTexts, writePool}
 
@@ -118,14 +113,6 @@ pool-length ts ks = rw (length-chosen ts ks, length-append)
 
 pub text-two : (t o : List ℕ) → length (writeText t) ≤ length o → InTwo (writeText t) (writeCount (length t)) t o
 text-two t o h = record { all = refl; room = h }
-
--- what the check of a pool leaves
-pub indexed : (d ix₀ ix : List ℕ) (c : Checked) (n : ℕ) → c ≡ checked (parsePool d) → ix ≡ sets ix₀ 0 (startsOf d) → n ≡ countOf c → 8192 ≤ length ix₀ → Indexed d ix n
-indexed d ix₀ ix c n e f k h = record { ready = ready d ix₀ ix (let m = room-most d in omega arith) f; count = k ∙ ap countOf e ∙ strings-count (parsePool d) }
-  where
-    strings-count : (p : Pool) → countOf (checked p) ≡ length (stringsIn p)
-    strings-count (got ts r) = refl
-    strings-count (bad m) = refl
 
 pub texts-most : (d order : List ℕ) → length (writeTexts (chosen (stringsOf d) order)) ≤ 1029 * length order
 unfolding chosen writeTexts

@@ -4,23 +4,27 @@ use mathlib.Core.Bool.{Bool}
 use mathlib.Core.List.{List, [], _∷_, _++_, append-nil, append-assoc}
 use Prim.Native.Nat.{ℕ, _+_, _*_, _-_, _≤_, _<_}
 use native.Mathlib.Omega.{arith}
-use lib.ListN.{length, take, length-append, length-take}
+use lib.ListN.{length, take, drop, getD, set, length-append, length-take, length-drop, length-set}
+use lib.Seq.{drop-drop, getD-drop, getD-set-same, getD-set-other}
 use Rattle.base.specs.All.{All}
-use Rattle.base.proofs.AllLaws.{all-left, all-right}
+use Rattle.base.proofs.AllLaws.{all-head, all-tail, all-left, all-right}
+use Rattle.base.proofs.Tests.{by-order}
+use Rattle.counts.specs.Count.{writeCount}
 use Rattle.counts.proofs.CountLaws.{count-size}
 use Rattle.frames.specs.Frame.{Field}
 use Rattle.frames.specs.Fields.{fields}
 use Rattle.frames.specs.Covers.{Covers}
-use Rattle.pieces.proofs.PutLaws.{InTwo}
+use Rattle.pieces.specs.View.{Put}
+use Rattle.pieces.proofs.PutLaws.{InTwo, put-none}
 use Rattle.whole_fields.specs.View.{IsField, partOf}
 use Rattle.whole_fields.specs.declared.Extent.{Extent}
 use Rattle.whole_fields.proofs.FieldLaws.{Turned, turned, none-left}
 use Rattle.use_order.specs.Order.{newNumber}
 use Rattle.mentions.specs.Content.{numbersOf}
 use Rattle.closed_files.specs.File.{mentionsIn, writeField, closedData, closedFields}
-use Rattle.closed_fields.specs.View.{Keeps}
-use Rattle.closed_walks.specs.View.{Walkable}
-use Rattle.closed_fields.proofs.SizeLaws.{data-most, field-length}
+use Rattle.closed_fields.specs.View.{NumbersKept, PoolChecked}
+use Rattle.closed_walks.specs.View.{Walkable, sizesOf, HasSizes, SizeAt}
+use Rattle.closed_fields.proofs.SizeLaws.{data-most, field-length, size-is}
 
 module _ (f order table : List ℕ) where
   -- every number that some fields mention is its own new number
@@ -35,9 +39,13 @@ module _ (f order table : List ℕ) where
     pub most : length done ≤ 21000000 * at
     pub within : at ≤ 4194304
     pub stays : Stay (fields f) → Stay rest
+    pub pools : All (λ g. PoolChecked (g .id) (g .body)) rest
+    pub passed : ℕ
+    pub early : passed ≤ at
+    pub index : drop passed (sizesOf order table (fields f)) ≡ sizesOf order table rest
 
   pub going-start : Walkable f → Going 4 []
-  going-start w = record { rest = fields f; covers = w .covers; all = refl; most = omega arith; within = omega arith; stays = λ a. a }
+  going-start w = record { rest = fields f; covers = w .covers; all = refl; most = omega arith; within = omega arith; stays = λ a. a; pools = w .pools; passed = 0; early = omega arith; index = refl }
 
   module _ (at : ℕ) (done : List ℕ) (g : Going at done) where
     pub going-sum : length done ≤ length (closedFields order table (fields f))
@@ -55,11 +63,39 @@ module _ (f order table : List ℕ) where
       stay-turned : Stay (fields f) → Stay (turn .field ∷ turn .others)
       stay-turned a = subst Stay (turn .split) (g .stays a)
 
-      pub keeps-here : (kept : Bool) → Keeps kept table (mentionsIn (fields f)) → Keeps kept table (numbersOf (r .id) (partOf f r))
+      pub keeps-here : (kept : Bool) → NumbersKept kept table (mentionsIn (fields f)) → NumbersKept kept table (numbersOf (r .id) (partOf f r))
       unfolding mentionsIn
       keeps-here kept k =
           let u = turn in
           record { stay = λ e. rw (u .id, u .body) (all-left (numbersOf (u .field .id) (u .field .body)) (mentionsIn (u .others)) (stay-turned (k .stay e))) }
+
+      pools-turned : All (λ g. PoolChecked (g .id) (g .body)) (turn .field ∷ turn .others)
+      pools-turned = subst (All (λ g. PoolChecked (g .id) (g .body))) (turn .split) (g .pools)
+
+      pub pool-here : PoolChecked (r .id) (partOf f r)
+      pool-here = let u = turn in rw (u .id, u .body) (all-head pools-turned)
+
+      -- the lengths of the data of the field and of those behind it
+      index-turned : drop (g .passed) (sizesOf order table (fields f)) ≡ length (closedData order table (turn .field .id) (turn .field .body)) ∷ sizesOf order table (turn .others)
+      unfolding sizesOf
+      index-turned = g .index ∙ ap (sizesOf order table) (turn .split)
+
+      pub size-inside : g .passed < length (sizesOf order table (fields f))
+      size-inside = let e : length (sizesOf order table (fields f)) - g .passed ≡ _ = sym (length-drop (g .passed) (sizesOf order table (fields f))) ∙ ap length index-turned in omega arith
+
+      pub size-here : getD (sizesOf order table (fields f)) (g .passed) 0 ≡ length (closedData order table (r .id) (partOf f r))
+      size-here =
+          let u = turn in
+          let k : g .passed + 0 ≡ g .passed = omega arith in
+          ap (λ (j : ℕ). getD (sizesOf order table (fields f)) j 0) (sym k)
+          ∙ sym (getD-drop (g .passed) (sizesOf order table (fields f)) 0 0)
+          ∙ ap (λ (q : List ℕ). getD q 0 0) index-turned
+          ∙ ap (λ (j : ℕ). length (closedData order table j (u .field .body))) (sym (u .id))
+          ∙ ap (λ (q : List ℕ). length (closedData order table (r .id) q)) (sym (u .body))
+
+      pub size-known : (sizes : List ℕ) (i : ℕ) → i ≡ g .passed → HasSizes sizes (sizesOf order table (fields f))
+          → SizeAt sizes i (length (closedData order table (r .id) (partOf f r)))
+      size-known sizes i e h = rw e (record { same = λ k. h .same (g .passed) k size-inside ∙ size-here })
 
       -- the closed field
       abbrev pub closedAt : List ℕ
@@ -93,6 +129,10 @@ module _ (f order table : List ℕ) where
               most = rw length-append (omega (arith, g .most, u .farther, u .ordered));
               within = omega (arith, u .within, w .limit);
               stays = λ a. all-right (numbersOf (u .field .id) (u .field .body)) (mentionsIn (u .others)) (stay-turned a);
+              pools = all-tail pools-turned;
+              passed = g .passed + 1;
+              early = omega (arith, g .early, u .farther, u .ordered);
+              index = sym (drop-drop 1 (g .passed) (sizesOf order table (fields f))) ∙ ap (drop 1) index-turned;
             }
 
         pub next-sum : length done + length closedAt ≤ length (closedFields order table (fields f))
@@ -112,6 +152,81 @@ module _ (f order table : List ℕ) where
 
           pub sum-most : n + k ≤ 88080384000000
           sum-most = rw sum-next (omega (arith, going-next .most, going-next .within))
+
+  -- the walk that measures: n bytes are counted, and the lengths of the data of i fields stand in sizes, which has z places
+  pub record Measuring (z at n i : ℕ) (sizes : List ℕ) : Type 0 where
+    pub done : List ℕ
+    pub going : Going at done
+    pub sum : n ≡ length done
+    pub count : i ≡ going .passed
+    pub long : length sizes ≡ z
+    pub filled : (j : ℕ) → j < i → j < length sizes → getD sizes j 0 ≡ getD (sizesOf order table (fields f)) j 0
+
+  pub measuring-start : Walkable f → (sizes : List ℕ) → Measuring (length sizes) 4 0 0 sizes
+  unfolding going-start
+  measuring-start w sizes = record { done = []; going = going-start w; sum = refl; count = refl; long = refl; filled = λ j h. absurd (omega arith) }
+
+  module _ (z at n i : ℕ) (sizes : List ℕ) (m : Measuring z at n i sizes) where
+    module _ (r : Extent) (l : at < length f) (e : IsField f at r) (w : Walkable f) (few : length order ≤ 8192) (k : ℕ)
+        (a : k ≡ length (closedData order table (r .id) (partOf f r))) where
+      pub data-bound : k ≤ 20971520
+      data-bound = rw a (data-most order table (r .id) (partOf f r) few (part-short at (m .done) (m .going) r l e w few))
+
+      module _ (c : ℕ) (b : c ≡ 1 + length (writeCount k) + k) where
+        size-of : c ≡ length (closedAt at (m .done) (m .going) r l e)
+        size-of = b ∙ size-is (r .id) (closedData order table (r .id) (partOf f r)) k (length (writeCount k)) a refl
+
+        pub measured-most : n + c ≤ 88080384000000
+        measured-most = sum-most at (m .done) (m .going) r l e w few n c (m .sum) size-of
+
+        pub measuring-next : (after : List ℕ) → after ≡ set sizes i k → Measuring z (r .end) (n + c) (i + 1) after
+        unfolding going-next
+        measuring-next after h =
+            rw h (record {
+              done = m .done ++ closedAt at (m .done) (m .going) r l e;
+              going = going-next at (m .done) (m .going) r l e w few;
+              sum = sum-next at (m .done) (m .going) r l e w few n c (m .sum) size-of;
+              count = ap (λ (j : ℕ). j + 1) (m .count);
+              long = length-set sizes i k ∙ m .long;
+              filled = filled;
+            })
+          where
+            filled : (j : ℕ) → j < i + 1 → j < length (set sizes i k) → getD (set sizes i k) j 0 ≡ getD (sizesOf order table (fields f)) j 0
+            filled j p q =
+                let q′ : j < length sizes = rw (length-set sizes i k) at q in
+                by-order j i (λ o. getD-set-other sizes i j k 0 (λ z. omega arith) ∙ m .filled j o q′)
+                (λ o. let x : j ≡ i = omega arith in
+                let y : k ≡ getD (sizesOf order table (fields f)) i 0 = a ∙ sym (size-here at (m .done) (m .going) r l e) ∙ ap (λ (x : ℕ). getD (sizesOf order table (fields f)) x 0) (sym (m .count)) in
+                rw x (getD-set-same sizes i k 0 (rw x at q′) ∙ y))
+
+    pub measuring-end : length f ≤ at → HasSizes sizes (sizesOf order table (fields f))
+    unfolding sizesOf
+    measuring-end l =
+        let e : length (sizesOf order table (fields f)) - m .going .passed ≡ 0 =
+        sym (length-drop (m .going .passed) (sizesOf order table (fields f))) ∙ ap length (m .going .index ∙ ap (sizesOf order table) (none-left f at (m .going .rest) (m .going .covers) l)) in
+        record { same = λ j h k. m .filled j (omega (arith, m .count)) h }
+
+  -- the walk that writes to the output o, which is `out` behind w bytes and i fields
+  pub record Writing (o : List ℕ) (at w i : ℕ) (out : List ℕ) : Type 0 where
+    pub done : List ℕ
+    pub going : Going at done
+    pub put : Put done o w out
+    pub count : i ≡ going .passed
+
+  pub writing-start : Walkable f → (o : List ℕ) → Writing o 4 0 0 o
+  unfolding going-start
+  writing-start w o = record { done = []; going = going-start w; put = put-none o; count = refl }
+
+  pub writing-next : (o : List ℕ) (at w i : ℕ) (out : List ℕ) (m : Writing o at w i out) (r : Extent) (l : at < length f) (e : IsField f at r) → Walkable f
+      → length order ≤ 8192 → (x : ℕ) (after : List ℕ) → Put (m .done ++ closedAt at (m .done) (m .going) r l e) o x after → Writing o (r .end) x (i + 1) after
+  unfolding going-next
+  writing-next o at w i out m r l e b few x after p =
+      record {
+        done = m .done ++ closedAt at (m .done) (m .going) r l e;
+        going = going-next at (m .done) (m .going) r l e b few;
+        put = p;
+        count = ap (λ (j : ℕ). j + 1) (m .count);
+      }
 
 -- the version, then the fields
 pub file-two : (f xs d : List ℕ) → Walkable f → 4 + length xs ≤ length d → InTwo (0 ∷ 0 ∷ 0 ∷ 0 ∷ xs) (take 4 f) xs d

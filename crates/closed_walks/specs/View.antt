@@ -4,20 +4,23 @@ use mathlib.Core.Path.{_≡_}
 use mathlib.Core.Bool.{Bool, true}
 use mathlib.Core.List.{List, [], _∷_}
 use lib.ListN.{length, take, getD}
-use Rattle.renumbering.specs.Table.{Small}
+use Rattle.renumbered_runs.specs.Run.{Small}
 use mathlib.Core.Option.{Option, none, some}
+use Rattle.base.specs.All.{All}
 use Rattle.frames.specs.Fields.{fields}
 use Rattle.frames.specs.Covers.{Covers}
-use Rattle.closed_files.specs.File.{mentionsIn, closedFields}
-use Rattle.closed_fields.specs.View.{Keeps}
+use Rattle.frames.specs.Frame.{Field}
+use Rattle.closed_files.specs.File.{mentionsIn, closedData, closedFields}
+use Rattle.closed_fields.specs.View.{NumbersKept, PoolChecked}
 use Rattle.closed_walks.specs.declared.Unread.{Unread}
 use Rattle.closed_walks.specs.declared.Unread.the-variants.{At, Nothing}
 
--- the fields of f stand behind the version, one behind the other to its end
+-- the fields of f stand behind the version, one behind the other to its end, and its pool is one that the check takes
 pub record Walkable (f : List ℕ) : Type 0 where
   pub covers : Covers f 4 (fields f)
   pub version : take 4 f ≡ 0 ∷ 0 ∷ 0 ∷ 0 ∷ []
   pub limit : length f ≤ 4194304
+  pub pools : All (λ g. PoolChecked (g .id) (g .body)) (fields f)
 
 -- where kept holds, each number of an order stands at its own place
 pub record InPlace (kept : Bool) (order : List ℕ) : Type 0 where
@@ -30,7 +33,20 @@ pub record Closable (f order table : List ℕ) (kept : Bool) : Type 0 where
   pub few : length order ≤ 8192
   pub small : Small table
   pub total : 4 + length (closedFields order table (fields f)) ≤ 4194304
-  pub keeps : Keeps kept table (mentionsIn (fields f))
+  pub keeps : NumbersKept kept table (mentionsIn (fields f))
+
+-- the lengths of the closed data of some fields
+unfoldable pub sizesOf : List ℕ → List ℕ → List Field → List ℕ
+sizesOf order table [] = []
+sizesOf order table (g ∷ gs) = length (closedData order table (g .id) (g .body)) ∷ sizesOf order table gs
+
+-- the list sizes begins with the numbers ns, as far as both go
+pub record HasSizes (sizes ns : List ℕ) : Type 0 where
+  pub same : (j : ℕ) → j < length sizes → j < length ns → getD sizes j 0 ≡ getD ns j 0
+
+-- the list sizes has n at the place j, as far as it goes
+pub record SizeAt (sizes : List ℕ) (j n : ℕ) : Type 0 where
+  pub same : j < length sizes → getD sizes j 0 ≡ n
 
 -- the place of the first field that isn't read, as the code has it
 abbrev pub unreadOf : Option ℕ → Unread

@@ -9,16 +9,18 @@ use lib.ListN.{length, take, drop, getD, replicate, length-replicate, getD-repli
 use lib.Seq.{take-at}
 use lib.Dec.{ltb}
 use borrow.Author.Tests.{lt-ltb, le-ltb, le-leb, lt-leb, ltb-true, ltb-false}
-use Rattle.base.specs.All.{All}
+use Rattle.base.specs.All.{All, all-also}
+use Rattle.base.specs.Parsed.{got}
 use Rattle.base.specs.Bytes.{Bytes}
 use Rattle.base.proofs.AllLaws.{all-map}
 use Rattle.base.proofs.Tests.{clash}
 use Rattle.frames.specs.Frame.{Field}
-use Rattle.frames.specs.Fields.{fields}
+use Rattle.pool.specs.Pool.{stringsIn}
+use Rattle.frames.specs.Fields.{Listing, fields}
 use Rattle.frames.specs.Covers.{Covers}
 use Rattle.frames.proofs.PartLaws.{walk-ended}
-use Rattle.frames.proofs.CoverLaws.{listing-covers}
-use Rattle.field_checks.specs.Check.{start, job, checkOf}
+use Rattle.frames.proofs.CoverLaws.{ordered-some, framed-listing, listing-covers}
+use Rattle.field_checks.specs.Check.{start, job, checkOf, WellFormed}
 use Rattle.field_checks.specs.declared.Verdict.{Verdict}
 use Rattle.field_checks.specs.declared.Verdict.the-variants.{Good, Refused as Ill}
 use Rattle.field_checks.proofs.WellFormedLaws.{good-well-formed}
@@ -27,13 +29,14 @@ use Rattle.pieces.specs.View.{Put}
 use Rattle.use_order.specs.Order.{mentionAll, orderOf, numberedFrom, newNumber}
 use Rattle.use_order.specs.Fill.{Ordered}
 use Rattle.use_order.proofs.NumberLaws.{numbered-most}
-use Rattle.renumbering.specs.Table.{Fits, Small}
+use Rattle.renumbered_runs.specs.Run.{Small}
+use Rattle.renumbering.specs.Table.{Fits}
 use Rattle.closed_files.specs.File.{mentionsIn, newOrder, newTable, closedFields, closedFile, closed, firstUnread, givenSized, leftSized, closeOf, outputOf}
 use Rattle.closed_files.specs.declared.Closed.{Closed}
 use Rattle.closed_files.specs.declared.Closed.the-variants.{Length, Refused}
 use Rattle.closed_files.proofs.PlaceLaws.{Placed, mentioned-placed}
 use Rattle.mentioned_numbers.proofs.MentionedLaws.{file-below}
-use Rattle.closed_fields.specs.View.{Keeps}
+use Rattle.closed_fields.specs.View.{NumbersKept, PoolChecked}
 use Rattle.closed_walks.specs.View.{Walkable, InPlace, unreadOf}
 use Rattle.closed_walks.specs.declared.Unread.{Unread}
 use Rattle.closed_walks.specs.declared.Unread.the-variants.{At, Nothing}
@@ -42,12 +45,20 @@ covers-limit : (f : List ℕ) (at : ℕ) (gs : List Field) → at ≤ 4194304 �
 covers-limit f at [] h c = let e : at ≡ length f = c in omega arith
 covers-limit f at (g ∷ gs) h c = covers-limit f (g .past) gs (c .1 .limit) (c .2)
 
+-- its first field is its pool, which the check takes, and no other has that ID
+pools-good : (f : List ℕ) → WellFormed f → Bytes f → All (λ g. PoolChecked (g .id) (g .body)) (fields f)
+pools-good f w b =
+    let file = well-formed-file f w in
+    let all : fields f ≡ file .first ∷ file .others = ap (λ (x : Listing). x .fields) (framed-listing f b (file .first) (file .others) (file .framed)) in
+    rw all (all-also (record { good = λ _. file .pool ∙ ap (λ (ts : List (List ℕ)). got ts []) (sym (ap stringsIn (file .pool))) })
+    (all-map (λ g h. record { good = λ e. absurd (omega arith) }) (ordered-some 0 (file .others) (file .framed .ordered))))
+
 -- A GOOD FILE can be walked
-pub walkable : (f : List ℕ) → checkOf f ≡ Good → Walkable f
-walkable f e =
+pub walkable : (f : List ℕ) → checkOf f ≡ Good → Bytes f → Walkable f
+walkable f e b =
     let w = good-well-formed f e in
     let c = listing-covers f (walk-ended job start (w .memory) f (length f) (w .ends) .whole) (w .some-field) in
-    record { covers = c; version = well-formed-file f w .framed .version; limit = covers-limit f 4 (fields f) (omega arith) c }
+    record { covers = c; version = well-formed-file f w .framed .version; limit = covers-limit f 4 (fields f) (omega arith) c; pools = pools-good f w b }
 
 -- and mentions no number past the largest count of a pool
 pub below : (f : List ℕ) → checkOf f ≡ Good → Bytes f → All (λ k. k < 8192) (mentionsIn (fields f))
@@ -135,7 +146,7 @@ module _ (f uses order₀ order table : List ℕ) (n : ℕ) (u : uses ≡ mentio
   small-is h = rw t (table-small (take n order) h)
 
   -- where the order is the numbers as they are, each mentioned number is its own new number
-  pub keeps : (kept : Bool) → All (λ k. k < 8192) (mentionsIn (fields f)) → InPlace kept (take n order) → Keeps kept table (mentionsIn (fields f))
+  pub keeps : (kept : Bool) → All (λ k. k < 8192) (mentionsIn (fields f)) → InPlace kept (take n order) → NumbersKept kept table (mentionsIn (fields f))
   keeps kept b p = record { stay = λ e. subst⁻¹ (λ (l : List ℕ). All (λ k. newNumber l k ≡ k) (mentionsIn (fields f))) table-is (all-map (stays e) (mentioned-placed (fields f) b)) }
     where
       places : InPlace kept (newOrder (fields f))

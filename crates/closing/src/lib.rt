@@ -19,18 +19,19 @@ fn close_read(s: &[u8], out: &mut [u8]) -> Closed
     let mut order = [0u64; 8192];
     let mut room = [0u64; 8192];
     let mut table = [0u32; 8192];
+    let mut sizes = [0u32; 8192];
     closed_walks::count_mentions(s, &mut uses);
     let n = use_order::ordered(&uses, &mut order, &mut room);
     use_order::number(&order[..n], &mut table);
     let kept = closed_walks::in_place(&order[..n]);
-    let size = closed_walks::total(s, &order[..n], &table, kept);
+    let size = closed_walks::total(s, &order[..n], &table, kept, &mut sizes);
     if 4194304 < size {
         return Closed::Refused(4, 0);
     }
     if out.len() < size {
         return Closed::Refused(15, 0);
     }
-    Closed::Length(closed_walks::write_file(s, &order[..n], &table, kept, out))
+    Closed::Length(closed_walks::write_file(s, &order[..n], &table, kept, &sizes, out))
 }
 
 // Closes up the pool of a whole file into the front of the output, all checked first.

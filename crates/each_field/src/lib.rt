@@ -42,7 +42,7 @@ pub fn take_field(
     a: usize,
     e: usize,
     index: &mut [u32; 8192],
-    order: &mut [u16; 8192],
+    order: &mut [u16; 8449],
     flags: &mut [u8],
 ) -> Taken
     requires { ⌜ (a ≤ e) × (e ≤ length (now s)) × Indexed (now s) k (now index) × Ordered (now s) k (now order) ⌝ }

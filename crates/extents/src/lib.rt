@@ -17,7 +17,7 @@ fn step(s: &[u8], c: Extent) -> Extent
     ensures { λ r. ⌜ r ≡ stepOf (now (s .entry)) c ⌝ }
 {
     let at = c.at;
-    let f = headers::read_frame(&s[at..], 255, at, 4 < at, c.prev);
+    let f = headers::next_frame(&s[at..], 255, at, 4 < at, c.prev);
     match f {
         Frame::End => c,
         Frame::Cut => c,

@@ -30,7 +30,7 @@ use Rattle.locations.specs.declared.LocationField.the-variants.{Zone as Locatio
 use Rattle.locations.specs.declared.FieldVerdict.{FieldVerdict}
 use Rattle.locations.specs.declared.FieldVerdict.the-variants.{Good as AllGood, Refused as Unlocated}
 use Rattle.ids.specs.Memory.{Taken as TakenId}
-use Rattle.ids.proofs.MemoryLaws.{sorted-most, keeps-none}
+use Rattle.ids.proofs.MemoryLaws.{sorted-most, keeps-again}
 use Rattle.aliases.specs.Dictionary.{Dictionary}
 use Rattle.aliases.specs.Field.{parseAliases}
 use Rattle.aliases.specs.View.{verdictOf as aliasVerdict}
@@ -75,7 +75,7 @@ module _ (s : List ℕ) (k : Kept) (a e : ℕ) (ix ix′ : List ℕ) (c : Checke
               ready = ready (part s a e) ix ix′ l₃ (h .1);
               count = j ∙ sym (ap length w);
             },
-            record { strings = sym w; ids = rw fr (keeps-none _ od (st .ids .sorted .room)); text = st .text },
+            record { strings = sym w; ids = rw fr (keeps-again _ _ od _ (rw fr at (st .ids))); text = st .text },
           )
 
 pub zones-most : (s : List ℕ) (k : Kept) (od : List ℕ) → Ordered s k od → k .zones ≤ 8192

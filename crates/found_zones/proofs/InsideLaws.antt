@@ -92,7 +92,7 @@ room-lent f b c = go (both (leb c (length f)) (leb b c)) refl
     go true q l = (leb-true b c (both-right (leb c (length f)) (leb b c) q), leb-true c (length f) (both-left (leb c (length f)) (leb b c) q))
     go false q l = absurd (omega (arith, no-room))
 
-text-inside : (f : List ℕ) (b c k : ℕ) → 0 < roomOf (lentPart f b c) → textIn f b c k .at + textIn f b c k .len ≤ length f
+pub text-inside : (f : List ℕ) (b c k : ℕ) → 0 < roomOf (lentPart f b c) → textIn f b c k .at + textIn f b c k .len ≤ length f
 unfolding textIn
 text-inside f b c k h =
     let w = room-lent f b c h in

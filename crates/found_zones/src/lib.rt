@@ -42,7 +42,7 @@ fn find_with(s: &[u8], d: usize, e: usize, id: &[u8], starts: &mut [u32]) -> Fin
         Located::Found(v) => {
             let from = v.start;
             let to = v.past;
-            match zone_lookups::check(&s[from..to], v.count as u64) {
+            match zone_checks::check(&s[from..to], v.count as u64) {
                 ZoneVerdict::Refused(n) => Finding::Refused(n, v.place),
                 ZoneVerdict::Good(_) => Finding::Zone(FoundZone {
                     pool: d,

@@ -2,10 +2,10 @@
 use mathlib.Core.Path.{_≡_, refl, sym, ap, _∙_}
 use mathlib.Core.List.{List, [], _∷_, _++_}
 use mathlib.Core.Logic.{_⊎_, inl, inr}
-use Prim.Native.Nat.{ℕ, suc, _^_, _≤_, _<_}
+use Prim.Native.Nat.{ℕ, suc, _+_, _*_, _%_, _^_, _≤_, _<_}
 use native.Mathlib.Omega.{arith}
 use lib.ListN.{length, getD, drop}
-use borrow.Author.Tests.{lt-ltb}
+use borrow.Author.Tests.{lt-ltb, le-ltb}
 use Rattle.base.specs.Bytes.{Bytes}
 use Rattle.base.specs.declared.Read.{Read}
 use Rattle.base.specs.declared.Read.the-variants.{Value, Refused as Unread}
@@ -36,6 +36,13 @@ pub size-byte : (r : List ℕ) → 0 < length r → getD r 0 0 < 128 → Value (
 unfolding anyGroups
 size-byte [] h l = absurd (omega arith)
 size-byte (b ∷ r) h l = rw (lt-ltb b 128 l)
+
+-- and so is one behind a byte with it
+pub size-two : (r : List ℕ) → 2 ≤ length r → 128 ≤ getD r 0 0 → getD r 1 0 < 128 → Value (getD r 0 0 % 128 + 128 * getD r 1 0) 2 ≡ readSize r
+unfolding anyGroups
+size-two [] h l k = absurd (omega arith)
+size-two (b ∷ []) h l k = absurd (omega arith)
+size-two (b ∷ c ∷ r) h l k = rw (le-ltb b 128 l, lt-ltb c 128 k)
 
 -- a size that is not cut is the same with more bytes; one that is cut, among groups of 0 too, ends, with more bytes, past the old end
 pub size-same : (e r : List ℕ) → (Unread 9 ≡ readSize r → ⊥) → readSize (r ++ e) ≡ readSize r

@@ -86,3 +86,39 @@ pub fn read_frame(r: &[u8], last: u8, at: usize, seen: bool, prev: usize) -> Fra
     }
     field(r, last, at, seen, prev)
 }
+
+// The same, for walks over all fields: a zone behind a zone, the usual field, takes no call where its size has one or two bytes, unless it stands
+// near the largest place.
+pub fn next_frame(r: &[u8], last: u8, at: usize, seen: bool, prev: usize) -> Frame
+    ensures { λ f. ⌜ f ≡ frame last at seen prev (now (r .entry)) ⌝ }
+{
+    if seen {
+        if prev == 1 {
+            if 0 < last {
+                if 0 < at {
+                    if at < 4177919 {
+                        if 2 < r.len() {
+                            if r[0] == 1 {
+                                let b = r[1] as usize;
+                                let c = r[2] as usize;
+                                if b < 128 {
+                                    if 2 + b <= r.len() {
+                                        return Frame::Whole(1, 2, b);
+                                    }
+                                } else {
+                                    if c < 128 {
+                                        let n = b % 128 + 128 * c;
+                                        if 3 + n <= r.len() {
+                                            return Frame::Whole(1, 3, n);
+                                        }
+                                    }
+                                }
+                            }
+                        }
+                    }
+                }
+            }
+        }
+    }
+    read_frame(r, last, at, seen, prev)
+}

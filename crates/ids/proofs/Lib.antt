@@ -1,3 +1,9 @@
 pub mod IdLaws
 pub mod PlaceLaws
+pub mod LayoutLaws
+pub mod BufferLaws
+pub mod MergeLaws
+pub mod PutLaws
+pub mod FindLaws
+pub mod GapLaws
 pub mod MemoryLaws

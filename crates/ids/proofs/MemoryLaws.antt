@@ -6,19 +6,23 @@ use Prim.Native.Nat.{ℕ, zero, suc, _+_, _-_, _≤_, _<_}
 use native.Mathlib.Omega.{arith}
 use native.Mathlib.Nat.{not-suc-le-zero}
 use native.Mathlib.Numerals.{add-one}
-use lib.ListN.{length, getD}
+use lib.ListN.{length, getD, replicate, length-replicate, getD-replicate}
 use Rattle.base.specs.Pick.{pick}
 use Rattle.base.specs.Equal.{equal}
-use Rattle.base.proofs.Tests.{by-order, pick-same}
+use Rattle.base.proofs.Tests.{never, by-order, pick-same}
 use Rattle.base.proofs.EqualLaws.{equal-true, equal-refl}
+use Rattle.pool.specs.Pool.{stringsOf}
+use Rattle.pool.proofs.PoolLaws.{few as pool-few}
 use Rattle.string_order.specs.Order.{ordering}
 use Rattle.string_order.specs.declared.Ordering.the-variants.{Less}
 use Rattle.ids.specs.Ids.{among}
-use Rattle.ids.specs.Memory.{textAt, textsOf, howMany, Sorted, Keeps, Taken, Between, Finds, Inserted}
-use Rattle.ids.specs.declared.Place.{Place}
-use Rattle.ids.specs.declared.Place.the-variants.{Seen, Free}
+use Rattle.ids.specs.Layout.{numberAt, Fits}
+use Rattle.ids.specs.Memory.{textAt, textsOf, howMany, Roomy, Sorted, Keeps, Taken, Between, Finds, Added}
+use Rattle.ids.specs.declared.Gap.{Gap}
+use Rattle.ids.specs.declared.Gap.the-variants.{Known, New}
 use Rattle.ids.proofs.IdLaws.{among-or}
-use Rattle.ids.proofs.PlaceLaws.{among-at, at-among, between-new}
+use Rattle.ids.proofs.PlaceLaws.{among-at, numbered-among, at-among, between-new}
+use Rattle.ids.proofs.PutLaws.{roomy-none}
 
 -- of ts no more than all are among xs, and more are among those that are xs and x
 howMany-most : (ts xs : List (List ℕ)) → howMany ts xs ≤ length ts
@@ -68,37 +72,53 @@ pub sorted-most : (ts : List (List ℕ)) (od : List ℕ) (n : ℕ) → Sorted ts
 sorted-most ts od n s = omega (arith, s .few, howMany-most ts (textsOf ts od n))
 
 -- no place stands for no string
-pub sorted-none : (ts : List (List ℕ)) (od : List ℕ) → length od ≡ 8192 → Sorted ts od 0
-sorted-none ts od h =
+pub sorted-none : (ts : List (List ℕ)) (od : List ℕ) → Roomy od 0 → Sorted ts od 0
+sorted-none ts od r =
     record {
-      room = h;
+      roomy = r;
       known = λ i l. absurd (not-suc-le-zero l);
       rising = λ i j l m. absurd (not-suc-le-zero m);
       few = omega arith;
     }
 
-pub keeps-none : (ts : List (List ℕ)) (od : List ℕ) → length od ≡ 8192 → Keeps ts od 0 []
+pub keeps-none : (ts : List (List ℕ)) (od : List ℕ) → Roomy od 0 → Keeps ts od 0 []
 unfolding textsOf
-keeps-none ts od h = record { sorted = sorted-none ts od h; same = λ x. refl }
+keeps-none ts od r = record { sorted = sorted-none ts od r; same = λ x. refl }
+
+-- an array of zeros
+pub keeps-start : (ts : List (List ℕ)) → Keeps ts (replicate 8449 0) 0 []
+keeps-start ts =
+    keeps-none ts (replicate 8449 0)
+    (roomy-none (replicate 8449 0) 0 (length-replicate {A = ℕ} 8449 0) (getD-replicate {A = ℕ} 8449 8448 0 0 (omega arith)))
+
+-- an array that stands for no string of a pool stands for none of another
+pub keeps-again : (ts us : List (List ℕ)) (od : List ℕ) (n : ℕ) → Keeps ts od n [] → Keeps us od 0 []
+unfolding among textsOf
+keeps-again ts us od zero m = keeps-none us od (m .sorted .roomy)
+keeps-again ts us od (suc n) m = never (among-at ts od (suc n) n (textAt ts od n) (omega arith) refl) (sym (m .same (textAt ts od n)))
 
 -- the number k of x, put at its place p
 module _ (ts : List (List ℕ)) (od od′ : List ℕ) (n p k : ℕ) (s : Sorted ts od n) (b : Between ts od n (getD ts k []) p)
-    (t : Inserted od od′ n p k) (l : k < length ts) where
+    (t : Added od n p k od′) (l : k < length ts) where
   abbrev x : List ℕ
   x = getD ts k []
 
-  number-above : (i : ℕ) → p < i → i < suc n → getD od′ i 0 ≡ getD od (i - 1) 0
-  number-above i h m = let z : i - 1 + 1 ≡ i = omega arith in sym (ap (λ (j : ℕ). getD od′ j 0) z) ∙ t .moved .above (i - 1) (omega arith) (omega arith)
+  number-above : (i : ℕ) → p < i → i < suc n → numberAt od′ i ≡ numberAt od (i - 1)
+  number-above i h m = let z : i - 1 + 1 ≡ i = omega arith in sym (ap (numberAt od′) z) ∙ t .above (i - 1) (omega arith) (omega arith)
 
   -- the number at a place after it, by cases
-  by-number : (G : ℕ → Type 0) (i : ℕ) → i < suc n → (i < p → G (getD od i 0)) → (i ≡ p → G k) → (p < i → G (getD od (i - 1) 0))
-      → G (getD od′ i 0)
+  by-number : (G : ℕ → Type 0) (i : ℕ) → i < suc n → (i < p → G (numberAt od i)) → (i ≡ p → G k) → (p < i → G (numberAt od (i - 1)))
+      → G (numberAt od′ i)
   by-number G i h f g e =
       by-order i p
-      (λ q. rw (t .moved .below i q) (f q))
+      (λ q. rw (t .below i q) (f q))
       (λ q. by-order p i
       (λ r. rw (number-above i r h) (e r))
       (λ r. let z : i ≡ p = omega arith in rw (z, t .here) (g z)))
+
+  -- what holds of each number and of k holds of each number then
+  pub inserted-each : (G : ℕ → Type 0) → ((i : ℕ) → i < n → G (numberAt od i)) → G k → (i : ℕ) → i < suc n → G (numberAt od′ i)
+  inserted-each G f g i h = by-number G i h (λ q. f i (omega (arith, b .inside))) (λ q. g) (λ q. f (i - 1) (omega arith))
 
   pub inserted-same : (y : List ℕ) → among y (textsOf ts od′ (suc n)) ≡ pick (equal x y) true (among y (textsOf ts od n))
   inserted-same y = among-or (among y (textsOf ts od′ (suc n))) (equal x y) (among y (textsOf ts od n)) to here there
@@ -125,9 +145,9 @@ module _ (ts : List (List ℕ)) (od od′ : List ℕ) (n p k : ℕ) (s : Sorted 
       there e =
           let a = at-among ts od n y e in
           by-order (a .place) p
-          (λ q. among-at ts od′ (suc n) (a .place) y (omega (arith, a .inside)) (ap (λ (j : ℕ). getD ts j []) (t .moved .below (a .place) q) ∙ a .is))
+          (λ q. among-at ts od′ (suc n) (a .place) y (omega (arith, a .inside)) (ap (λ (j : ℕ). getD ts j []) (t .below (a .place) q) ∙ a .is))
           (λ q. among-at ts od′ (suc n) (a .place + 1) y (omega (arith, a .inside))
-          (ap (λ (j : ℕ). getD ts j []) (t .moved .above (a .place) q (a .inside)) ∙ a .is))
+          (ap (λ (j : ℕ). getD ts j []) (t .above (a .place) q (a .inside)) ∙ a .is))
 
   inserted-rising : (i j : ℕ) → i < j → j < suc n → ordering (textAt ts od′ i) (textAt ts od′ j) ≡ Less
   inserted-rising i j h m =
@@ -145,10 +165,10 @@ module _ (ts : List (List ℕ)) (od od′ : List ℕ) (n p k : ℕ) (s : Sorted 
       (λ r. absurd (omega arith))
       (λ r. s .rising (i - 1) (j - 1) (omega arith) (omega arith)))
 
-  inserted-sorted : Sorted ts od′ (suc n)
+  pub inserted-sorted : Sorted ts od′ (suc n)
   inserted-sorted =
       record {
-        room = t .moved .room ∙ s .room;
+        roomy = t .roomy;
         known = λ i h.
             by-number (λ j. j < length ts) i h
             (λ q. s .known i (omega (arith, b .inside)))
@@ -172,16 +192,22 @@ module _ (ts : List (List ℕ)) (od od′ : List ℕ) (n p k : ℕ) (s : Sorted 
   taken-new = record { said = λ mem m. sym (m .same x ∙ between-new ts od n x p b); kept = keeps-more }
 
 -- what looking for x, the k-th string, gives
-module _ (ts : List (List ℕ)) (od : List ℕ) (n k : ℕ) (x : List ℕ) (e : x ≡ getD ts k []) (r : Place) (f : Finds ts od n x r) where
-  pub taken-seen : r ≡ Seen → Taken ts (getD ts k []) od n od true
-  taken-seen q =
-      let a : among (getD ts k []) (textsOf ts od n) ≡ true = (rw (q, e) at f) .is in
+module _ (ts : List (List ℕ)) (od : List ℕ) (n k : ℕ) (x : List ℕ) (e : x ≡ getD ts k []) (r : Gap) (f : Finds ts od n x r) where
+  pub known-among : (j : ℕ) → r ≡ Known j → among (getD ts k []) (textsOf ts od n) ≡ true
+  known-among j q = numbered-among ts od n (getD ts k []) j ((rw (q, e) at f) .is)
+
+  pub taken-seen : (j : ℕ) → r ≡ Known j → Taken ts (getD ts k []) od n od true
+  taken-seen j q =
+      let a = known-among j q in
       record { said = λ mem m. sym (m .same (getD ts k []) ∙ a); kept = λ mem m. m }
 
-  module _ (p : ℕ) (q : r ≡ Free p) where
-    pub found-free : Between ts od n (getD ts k []) p
-    found-free = (rw (q, e) at f) .is
+  module _ (i j : ℕ) (q : r ≡ New i j) where
+    pub found-gap : Fits od n i j × Between ts od n (getD ts k []) (i + j)
+    found-gap = (rw (q, e) at f) .is
 
     -- a string that was not seen leaves room for it
     pub new-room : Sorted ts od n → k < length ts → n < length ts
-    new-room s l = omega (arith, s .few, howMany-new ts (textsOf ts od n) k l (between-new ts od n (getD ts k []) p found-free))
+    new-room s l = omega (arith, s .few, howMany-new ts (textsOf ts od n) k l (between-new ts od n (getD ts k []) (i + j) (found-gap .1)))
+
+pub sorted-few : (d od : List ℕ) (n : ℕ) → Sorted (stringsOf d) od n → n ≤ 8192
+sorted-few d od n s = omega (arith, sorted-most (stringsOf d) od n s, pool-few d)

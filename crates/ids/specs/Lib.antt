@@ -1,2 +1,4 @@
 pub mod Ids
+pub mod Layout
+pub mod Parts
 pub mod Memory

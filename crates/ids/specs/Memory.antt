@@ -3,18 +3,19 @@
 use Prim.Native.Nat.{ℕ, zero, suc, _+_, _≤_, _<_}
 use mathlib.Core.Path.{_≡_}
 use mathlib.Core.List.{List, [], _∷_}
-use mathlib.Core.Bool.{Bool, true}
+use mathlib.Core.Bool.{Bool}
 use lib.ListN.{length, getD}
 use Rattle.base.specs.Pick.{pick}
 use Rattle.string_order.specs.Order.{ordering}
 use Rattle.string_order.specs.declared.Ordering.the-variants.{Less}
 use Rattle.ids.specs.Ids.{among}
-use Rattle.ids.specs.declared.Place.{Place}
-use Rattle.ids.specs.declared.Place.the-variants.{Seen, Free}
+use Rattle.ids.specs.Layout.{bufferSize, numberAt, Placed, Fits}
+use Rattle.ids.specs.declared.Gap.{Gap}
+use Rattle.ids.specs.declared.Gap.the-variants.{Known, New}
 
--- the string of ts whose number stands at the place i of od
+-- the string of ts whose number stands at the place i of the list that od holds
 abbrev pub textAt : List (List ℕ) → List ℕ → ℕ → List ℕ
-textAt ts od i = getD ts (getD od i 0) []
+textAt ts od i = getD ts (numberAt od i) []
 
 -- the strings whose numbers stand at the first n places, the last of them first
 unfoldable pub textsOf : List (List ℕ) → List ℕ → ℕ → List (List ℕ)
@@ -26,10 +27,16 @@ unfoldable pub howMany : List (List ℕ) → List (List ℕ) → ℕ
 howMany [] xs = 0
 howMany (t ∷ ts) xs = pick (among t xs) 1 0 + howMany ts xs
 
--- the first n places of od have numbers of the strings ts, in the order of these; no two are equal, so n of ts at least are among them
+-- the array is of its length, and its buffer is not full
+pub record Roomy (od : List ℕ) (n : ℕ) : Type 0 where
+  pub room : length od ≡ 8449
+  pub free : bufferSize od < 128
+  pub placed : Placed od n (bufferSize od)
+
+-- od holds n numbers of the strings ts, in the order of these; no two are equal, so n of ts at least are among them
 pub record Sorted (ts : List (List ℕ)) (od : List ℕ) (n : ℕ) : Type 0 where
-  pub room : length od ≡ 8192
-  pub known : (i : ℕ) → i < n → getD od i 0 < length ts
+  pub roomy : Roomy od n
+  pub known : (i : ℕ) → i < n → numberAt od i < length ts
   pub rising : (i j : ℕ) → i < j → j < n → ordering (textAt ts od i) (textAt ts od j) ≡ Less
   pub few : n ≤ howMany ts (textsOf ts od n)
 
@@ -49,21 +56,24 @@ pub record Between (ts : List (List ℕ)) (od : List ℕ) (n : ℕ) (x : List �
   pub below : (i : ℕ) → i < p → ordering (textAt ts od i) x ≡ Less
   pub above : (i : ℕ) → p ≤ i → i < n → ordering x (textAt ts od i) ≡ Less
 
-abbrev pub FoundAs : List (List ℕ) → List ℕ → ℕ → List ℕ → Place → Type 0
-FoundAs ts od n x Seen = among x (textsOf ts od n) ≡ true
-FoundAs ts od n x (Free p) = Between ts od n x p
+-- x is one of the first n strings, the one with the number k
+pub record Numbered (ts : List (List ℕ)) (od : List ℕ) (n : ℕ) (x : List ℕ) (k : ℕ) : Type 0 where
+  pub place : ℕ
+  pub inside : place < n
+  pub number : numberAt od place ≡ k
+  pub is : getD ts k [] ≡ x
+
+abbrev pub GapIs : List (List ℕ) → List ℕ → ℕ → List ℕ → Gap → Type 0
+GapIs ts od n x (Known k) = Numbered ts od n x k
+GapIs ts od n x (New i j) = Fits od n i j × Between ts od n x (i + j)
 
 -- where x was found among the first n
-pub record Finds (ts : List (List ℕ)) (od : List ℕ) (n : ℕ) (x : List ℕ) (r : Place) : Type 0 where
-  pub is : FoundAs ts od n x r
+pub record Finds (ts : List (List ℕ)) (od : List ℕ) (n : ℕ) (x : List ℕ) (r : Gap) : Type 0 where
+  pub is : GapIs ts od n x r
 
--- the numbers from the place p up to n moved up by one
-pub record Moved (od od′ : List ℕ) (n p : ℕ) : Type 0 where
-  pub room : length od′ ≡ length od
-  pub below : (i : ℕ) → i < p → getD od′ i 0 ≡ getD od i 0
-  pub above : (i : ℕ) → p ≤ i → i < n → getD od′ (i + 1) 0 ≡ getD od i 0
-
--- k stands at the place p, and the numbers from there up to n one higher
-pub record Inserted (od od′ : List ℕ) (n p k : ℕ) : Type 0 where
-  pub moved : Moved od od′ n p
-  pub here : getD od′ p 0 ≡ k
+-- k stands at the place p of the list, and the numbers from there up to n one higher
+pub record Added (od : List ℕ) (n p k : ℕ) (od′ : List ℕ) : Type 0 where
+  pub roomy : Roomy od′ (suc n)
+  pub below : (i : ℕ) → i < p → numberAt od′ i ≡ numberAt od i
+  pub here : numberAt od′ p ≡ k
+  pub above : (i : ℕ) → p ≤ i → i < n → numberAt od′ (i + 1) ≡ numberAt od i

@@ -1,27 +1,46 @@
 // The strings of a pool seen so far: their numbers in one array, in the order of the strings' bytes. A string that comes behind the last
-// of them, as the strings of most files do, is found new by one comparison; the place of any other is found by halving.
+// of them, as the strings of most files do, is found new by one comparison, and its number goes to the end of the main list. Any other's
+// number goes to a buffer of 128, with the place of the main list where it belongs; a full buffer is merged into the main list. So at most
+// 127 numbers and their places are moved for a string, and all numbers once for 128 strings. Both places are found by halving: first the one
+// in the buffer, whose neighbours there say between which places of the main list the other one is.
 use string_order::Ordering;
 ghost use mathlib.Core.Path.{_≡_};
 ghost use mathlib.Core.List.{[]};
-ghost use Prim.Native.Nat.{_≤_, _<_};
+ghost use Prim.Native.Nat.{_+_, _-_, _≤_, _<_};
 ghost use lib.ListN.{length, getD};
 ghost use Rattle.pool.specs.Pool.{stringsOf};
 ghost use Rattle.pool.specs.Index.{Ready};
-ghost use Rattle.ids.specs.Memory.{Sorted, Finds, Inserted, Taken};
+ghost use Rattle.ids.specs.Layout.{bufferSize, Placed, Fits, lowOf, highOf};
+ghost use Rattle.ids.specs.Parts.{Run, Located, Shifted, Inserted, Buffered, Merged};
+ghost use Rattle.ids.specs.Memory.{Roomy, Sorted, Finds, Added, Taken};
 
-// What looking for a string gives: it was seen, or the place where its number belongs.
+// What looking for a string in a part of the array gives: it was seen, with its number, or the place where its number belongs.
 pub enum Place {
-    Seen,
+    Seen(usize),
     Free(usize),
 }
 
-// Looks for id among the strings whose numbers stand at the first n places. The last is compared first.
-fn find(pool: &[u8], starts: &[u32], order: &[u16; 8192], n: usize, id: &[u8]) -> Place
-    requires { ⌜ Ready (now pool) (now starts) × Sorted (stringsOf (now pool)) (now order) n ⌝ }
-    ensures { λ r. ⌜ Finds (stringsOf (now (pool .entry))) (now (order .entry)) n (now (id .entry)) r ⌝ }
+// What looking for a string gives: it is known, with its number, or new; then its number belongs behind so many of the main list and so many
+// of the buffer.
+pub enum Gap {
+    Known(usize),
+    New(usize, usize),
+}
+
+// Looks for id among the strings whose numbers stand from a place on up to another. The last is compared first.
+fn find(
+    pool: &[u8],
+    starts: &[u32],
+    order: &[u16; 8449],
+    from: usize,
+    to: usize,
+    id: &[u8],
+) -> Place
+    requires { ⌜ Ready (now pool) (now starts) × Run (stringsOf (now pool)) (now order) from to ⌝ }
+    ensures { λ r. ⌜ Located (stringsOf (now (pool .entry))) (now (order .entry)) from to (now (id .entry)) r ⌝ }
 {
-    let mut lo: usize = 0;
-    let mut hi = n;
+    let mut lo = from;
+    let mut hi = to;
     let mut back: usize = 1;
     while lo < hi {
         let mid = hi - back;
@@ -29,7 +48,7 @@ fn find(pool: &[u8], starts: &[u32], order: &[u16; 8192], n: usize, id: &[u8]) -
         let o = string_order::compare(strings::text_by(pool, starts, j), id);
         match o {
             Ordering::Equal => {
-                return Place::Seen;
+                return Place::Seen(j);
             }
             Ordering::Less => {
                 lo = mid + 1;
@@ -44,29 +63,147 @@ fn find(pool: &[u8], starts: &[u32], order: &[u16; 8192], n: usize, id: &[u8]) -
     Place::Free(lo)
 }
 
-// Puts k at a place of the first n, which move up by one from there on.
-fn insert(order: &mut [u16; 8192], n: usize, at: usize, k: u16)
-    requires { ⌜ (length (now order) ≡ 8192) × (at ≤ n) × (n < 8192) ⌝ }
-    ensures { λ _. ⌜ Inserted (now (order .entry)) (now (order .exit)) n at k ⌝ }
+// The first place of the main list behind the number before the place j of the buffer.
+pub fn low(order: &[u16; 8449], j: usize) -> usize
+    requires { ⌜ (length (now order) ≡ 8449) × (j ≤ 128) × (lowOf (now order) j ≤ 8192) ⌝ }
+    ensures { λ r. ⌜ r ≡ lowOf (now (order .entry)) j ⌝ }
 {
-    let mut i = n;
-    while at < i {
-        order[i] = order[i - 1];
-        i -= 1;
+    if j == 0 {
+        return 0;
     }
+    order[8319 + j] as usize
+}
+
+// The end of those before the number at the place j of the buffer's b; m is the end of the main list.
+pub fn high(order: &[u16; 8449], m: usize, b: usize, j: usize) -> usize
+    requires { ⌜ (length (now order) ≡ 8449) × (j ≤ b) × (b ≤ 128) × (highOf (now order) m b j ≤ 8192) ⌝ }
+    ensures { λ r. ⌜ r ≡ highOf (now (order .entry)) m b j ⌝ }
+{
+    if j == b {
+        return m;
+    }
+    order[8320 + j] as usize
+}
+
+// Looks for id among the strings of the main list between two of the buffer.
+fn find_between(
+    pool: &[u8],
+    starts: &[u32],
+    order: &[u16; 8449],
+    n: usize,
+    j: usize,
+    id: &[u8],
+) -> Place
+    requires { ⌜ Ready (now pool) (now starts) × Sorted (stringsOf (now pool)) (now order) n × (j ≤ bufferSize (now order)) ⌝ }
+    ensures { λ r. ⌜ Located (stringsOf (now (pool .entry))) (now (order .entry)) (lowOf (now (order .entry)) j) (highOf (now (order .entry)) (n - bufferSize (now (order .entry))) (bufferSize (now (order .entry))) j) (now (id .entry)) r ⌝ }
+{
+    let b = order[8448] as usize;
+    find(
+        pool,
+        starts,
+        order,
+        low(order, j),
+        high(order, n - b, b, j),
+        id,
+    )
+}
+
+// Looks for id among the n strings.
+pub fn find_gap(pool: &[u8], starts: &[u32], order: &[u16; 8449], n: usize, id: &[u8]) -> Gap
+    requires { ⌜ Ready (now pool) (now starts) × Sorted (stringsOf (now pool)) (now order) n ⌝ }
+    ensures { λ r. ⌜ Finds (stringsOf (now (pool .entry))) (now (order .entry)) n (now (id .entry)) r ⌝ }
+{
+    let b = order[8448] as usize;
+    let p = find(pool, starts, order, 8192, 8192 + b, id);
+    match p {
+        Place::Seen(k) => Gap::Known(k),
+        Place::Free(q) => {
+            let g = find_between(pool, starts, order, n, q - 8192, id);
+            match g {
+                Place::Seen(k) => Gap::Known(k),
+                Place::Free(i) => Gap::New(i, q - 8192),
+            }
+        }
+    }
+}
+
+// Moves what stands from a place on up to another up by so many places.
+fn shift(order: &mut [u16; 8449], from: usize, to: usize, many: usize)
+    requires { ⌜ (length (now order) ≡ 8449) × (from ≤ to) × (to + many ≤ 8449) ⌝ }
+    ensures { λ _. ⌜ Shifted (now (order .entry)) from to many (now (order .exit)) ⌝ }
+{
+    let mut i = to;
+    while from < i {
+        i -= 1;
+        order[i + many] = order[i];
+    }
+}
+
+// Puts k at a place; what stands from there up to n moves up by one.
+fn insert(order: &mut [u16; 8449], n: usize, at: usize, k: u16)
+    requires { ⌜ (length (now order) ≡ 8449) × (at ≤ n) × (n < 8449) ⌝ }
+    ensures { λ _. ⌜ Inserted (now (order .entry)) n at k (now (order .exit)) ⌝ }
+{
+    shift(order, at, n, 1);
     order[at] = k;
 }
 
-// Whether the k-th string is among those whose numbers stand at the first n places; if not, its number is put among them.
-pub fn take_string(pool: &[u8], starts: &[u32], order: &mut [u16; 8192], n: usize, k: usize) -> bool
+// Puts k into the buffer of b at the place j, behind i of the main list.
+fn put_in_buffer(order: &mut [u16; 8449], b: usize, i: u16, j: usize, k: u16)
+    requires { ⌜ (length (now order) ≡ 8449) × (b < 128) × (j ≤ b) ⌝ }
+    ensures { λ _. ⌜ Buffered (now (order .entry)) b i j k (now (order .exit)) ⌝ }
+{
+    insert(order, 8192 + b, 8192 + j, k);
+    insert(order, 8320 + b, 8320 + j, i);
+    order[8448] = (b + 1) as u16;
+}
+
+// Merges the buffer of b into the main list of m, from the last number of both on.
+fn merge(order: &mut [u16; 8449], m: usize, b: usize)
+    requires { ⌜ (length (now order) ≡ 8449) × Placed (now order) (m + b) b × (m + b ≤ 8192) ⌝ }
+    ensures { λ _. ⌜ Merged (now (order .entry)) (m + b) b (now (order .exit)) ⌝ }
+{
+    let mut left = b;
+    let mut to = m;
+    while 0 < left {
+        let j = left - 1;
+        let from = order[8320 + j] as usize;
+        shift(order, from, to, left);
+        order[from + j] = order[8192 + j];
+        to = from;
+        left = j;
+    }
+    order[8448] = 0;
+}
+
+// Puts k among the n numbers, behind i of the main list and j of the buffer.
+pub fn put(order: &mut [u16; 8449], n: usize, i: usize, j: usize, k: u16)
+    requires { ⌜ Roomy (now order) n × Fits (now order) n i j × (n < 8192) ⌝ }
+    ensures { λ _. ⌜ Added (now (order .entry)) n (i + j) k (now (order .exit)) ⌝ }
+{
+    let b = order[8448] as usize;
+    if b == 0 {
+        if i == n {
+            order[n] = k;
+            return;
+        }
+    }
+    put_in_buffer(order, b, i as u16, j, k);
+    if b == 127 {
+        merge(order, n - b, 128);
+    }
+}
+
+// Whether the k-th string is among the n whose numbers the array holds; if not, its number is put among them.
+pub fn take_string(pool: &[u8], starts: &[u32], order: &mut [u16; 8449], n: usize, k: usize) -> bool
     requires { ⌜ Ready (now pool) (now starts) × Sorted (stringsOf (now pool)) (now order) n × (k < length (stringsOf (now pool))) ⌝ }
     ensures { λ r. ⌜ Taken (stringsOf (now (pool .entry))) (getD (stringsOf (now (pool .entry))) k []) (now (order .entry)) n (now (order .exit)) r ⌝ }
 {
-    let p = find(pool, starts, &*order, n, strings::text_by(pool, starts, k));
-    match p {
-        Place::Seen => true,
-        Place::Free(at) => {
-            insert(order, n, at, k as u16);
+    let g = find_gap(pool, starts, &*order, n, strings::text_by(pool, starts, k));
+    match g {
+        Gap::Known(_) => true,
+        Gap::New(i, j) => {
+            put(order, n, i, j, k as u16);
             false
         }
     }

@@ -10,7 +10,7 @@ use lib.ListN.{length, drop, getD}
 use borrow.Author.Tests.{le-leb, lt-leb, lt-ltb, le-ltb, ltb-true, leb-true, eq-eqb, ne-eqb}
 use Rattle.base.specs.Pick.{pick, both}
 use Rattle.base.specs.Moment.{Finite, firstInstant, lastInstant}
-use Rattle.base.proofs.Tests.{both-left, both-right, pick-holds, pick-same}
+use Rattle.base.proofs.Tests.{never, by-order, both-left, both-right, pick-holds, pick-same}
 use Rattle.base.proofs.Parts.{Bytes}
 use Rattle.base.proofs.ByteLaws.{drop-bytes}
 use Rattle.base.proofs.MomentLaws.{finite-yes, finite-low, finite-high}
@@ -24,7 +24,7 @@ use Rattle.long_starts.proofs.LongLaws.{size-least, size-two}
 use Rattle.pieces.specs.Form.{codePreferred}
 use Rattle.intervals.specs.Short.{shortOk}
 use Rattle.interval_runs.specs.declared.Run.{Run}
-use Rattle.interval_runs.specs.Run.{stepOf, longStepOf, nextOf, behind, goesOn, runAt, runFrom, runOf, Passed, Stopped}
+use Rattle.interval_runs.specs.Run.{hoursAt, detailsAt, SameDetails, stepOf, Behind, longStepOf, nextOf, behind, goesOn, runAt, runFrom, runOf, Passed, Stopped, Fives}
 
 pub two-bytes-most : (s : List ℕ) (place : ℕ) → Bytes s → twoBytes s place ≤ 16383
 unfolding twoBytes
@@ -33,46 +33,76 @@ two-bytes-most s place h =
     (λ e. omega (arith, ltb-true (getD s (place + 1) 0) 128 (both-right (leb 128 (getD s place 0)) _ e)))
     (λ _. omega arith)
 
--- a step
-module _ (s : List ℕ) (pool place prev : ℕ) where
-  none : twoBytes s place < 128 → 0 ≡ stepOf s pool place prev
-  unfolding stepOf
-  none h = rw (lt-leb 128 (twoBytes s place) h)
+-- the hours of a start
+module _ (s : List ℕ) (place : ℕ) where
+  no-hours : twoBytes s place < 128 → 0 ≡ hoursAt s place
+  unfolding hoursAt
+  no-hours h = rw (lt-leb 128 (twoBytes s place) h)
 
-  pub step-one : getD s place 0 < 128 → 0 ≡ stepOf s pool place prev
+  pub hours-one : getD s place 0 < 128 → 0 ≡ hoursAt s place
   unfolding twoBytes
-  step-one h = none (rw (lt-leb 128 (getD s place 0) h) (omega arith))
+  hours-one h = no-hours (rw (lt-leb 128 (getD s place 0) h) (omega arith))
 
   module _ (l : 128 ≤ getD s place 0) where
-    pub step-padded : getD s (place + 1) 0 ≡ 0 → 0 ≡ stepOf s pool place prev
+    pub hours-padded : getD s (place + 1) 0 ≡ 0 → 0 ≡ hoursAt s place
     unfolding twoBytes
-    step-padded z = none (rw (le-leb 128 (getD s place 0) l, z) (omega arith))
+    hours-padded z = no-hours (rw (le-leb 128 (getD s place 0) l, z) (omega arith))
 
-    pub step-longer : 127 < getD s (place + 1) 0 → 0 ≡ stepOf s pool place prev
+    pub hours-longer : 127 < getD s (place + 1) 0 → 0 ≡ hoursAt s place
     unfolding twoBytes
-    step-longer h = none (rw (le-leb 128 (getD s place 0) l, le-ltb (getD s (place + 1) 0) 128 (omega arith)) (omega arith))
+    hours-longer h = no-hours (rw (le-leb 128 (getD s place 0) l, le-ltb (getD s (place + 1) 0) 128 (omega arith)) (omega arith))
 
     module _ (z : getD s (place + 1) 0 ≡ 0 → ⊥) (h : getD s (place + 1) 0 ≤ 127) where
       two : twoBytes s place ≡ getD s place 0 % 128 + 128 * getD s (place + 1) 0
       unfolding twoBytes
       two = rw (le-leb 128 (getD s place 0) l, lt-ltb (getD s (place + 1) 0) 128 (omega arith))
 
-      enough : leb 128 (twoBytes s place) ≡ true
-      enough = le-leb 128 (twoBytes s place) (omega (arith, two))
+      pub hours-two : getD s place 0 % 128 + 128 * getD s (place + 1) 0 ≡ hoursAt s place
+      unfolding hoursAt
+      hours-two = rw (le-leb 128 (twoBytes s place) (omega (arith, two))) (sym two)
 
-      module _ (t : Bool) (d : t ≡ shortDetails s (place + 2)) where
-        pub step-long : t ≡ false → 0 ≡ stepOf s pool place prev
-        unfolding stepOf
-        step-long k = rw (enough, ← d, k)
+-- the same three bytes are details of the same pools
+pub same-details : (s : List ℕ) (a b : ℕ) → getD s a 0 < 256 → getD s b 0 < 256
+    → getD s a 0 + 256 * getD s (a + 1) 0 ≡ getD s b 0 + 256 * getD s (b + 1) 0 → getD s (a + 2) 0 ≡ getD s (b + 2) 0 → SameDetails s a b true
+unfolding shortDetails shortOk
+same-details s a b l h e g =
+    let x : getD s a 0 ≡ getD s b 0 = omega arith in
+    let y : getD s (a + 1) 0 ≡ getD s (b + 1) 0 = omega arith in
+    record { to = λ _ pool. rw (x, y, g) }
 
-        module _ (k : t ≡ true) (u : Bool) (o : u ≡ shortOk s pool (place + 2)) where
-          pub step-refused : u ≡ false → 0 ≡ stepOf s pool place prev
-          unfolding stepOf
-          step-refused q = rw (enough, ← d, k, ← o, q)
+pub no-same : (s : List ℕ) (a b : ℕ) → SameDetails s a b false
+no-same s a b = record { to = λ e. never e refl }
 
-          pub step-is : u ≡ true → prev + (getD s place 0 % 128 + 128 * getD s (place + 1) 0) * hour ≡ stepOf s pool place prev
-          unfolding stepOf
-          step-is q = rw (enough, ← d, k, ← o, q, two)
+-- a step, by the hours v
+module _ (s : List ℕ) (pool place prev v : ℕ) (e : v ≡ hoursAt s place) where
+  pub step-none : v ≡ 0 → 0 ≡ stepOf s pool place prev
+  unfolding hoursAt stepOf
+  step-none z = go (leb 128 (twoBytes s place)) refl e
+    where
+      go : (t : Bool) → leb 128 (twoBytes s place) ≡ t → v ≡ pick t (twoBytes s place) 0
+          → 0 ≡ pick (both t (detailsAt s pool (place + 2))) (prev + twoBytes s place * hour) 0
+      go true q k = absurd (omega (arith, leb-true 128 (twoBytes s place) q))
+      go false q k = refl
+
+  module _ (z : v ≡ 0 → ⊥) (t : Bool) (d : t ≡ detailsAt s pool (place + 2)) where
+    step-by : pick t (prev + v * hour) 0 ≡ stepOf s pool place prev
+    unfolding hoursAt stepOf
+    step-by = go (leb 128 (twoBytes s place)) refl e
+      where
+        go : (u : Bool) → leb 128 (twoBytes s place) ≡ u → v ≡ pick u (twoBytes s place) 0
+            → pick t (prev + v * hour) 0 ≡ pick (both u (detailsAt s pool (place + 2))) (prev + twoBytes s place * hour) 0
+        go true q k = rw (← d, k)
+        go false q k = absurd (z k)
+
+    pub step-is : t ≡ true → prev + v * hour ≡ stepOf s pool place prev
+    step-is k = rw k at step-by
+
+    pub step-refused : t ≡ false → 0 ≡ stepOf s pool place prev
+    step-refused k = rw k at step-by
+
+  pub step-same : (z : v ≡ 0 → ⊥) → Behind s pool place → (t : Bool) → SameDetails s (place + 2) (place - 8) t → t ≡ true
+      → prev + v * hour ≡ stepOf s pool place prev
+  step-same z b t d k = step-is z true (sym (d .to k pool ∙ b .before-last)) refl
 
 -- a step that was taken
 module _ (s : List ℕ) (pool place prev m : ℕ) where
@@ -97,6 +127,36 @@ module _ (s : List ℕ) (pool place prev m : ℕ) where
             sum = k;
           }
       go false q k = absurd (z k)
+
+pub stepped-details : (s : List ℕ) (pool place prev m : ℕ) → Stepped s pool place prev m → detailsAt s pool (place + 2) ≡ true
+stepped-details s pool place prev m x = rw (x .details, x .ok)
+
+-- behind two intervals of five bytes and one more
+pub behind-next : (s : List ℕ) (pool place : ℕ) → Behind s pool place → detailsAt s pool (place + 2) ≡ true → Behind s pool (place + 5)
+behind-next s pool place b d =
+    let f = b .far in
+    let x : place + 5 - 8 ≡ place - 3 = omega arith in
+    let y : place + 5 - 3 ≡ place + 2 = omega arith in
+    record { far = omega arith; before-last = rw x (b .last); last = rw y d }
+
+-- behind so many intervals of five bytes, of which the first two count
+pub record Front (s : List ℕ) (pool place i : ℕ) : Type 0 where
+  pub one : 0 < i → (5 ≤ place) × (detailsAt s pool (place - 3) ≡ true)
+  pub two : 1 < i → Behind s pool place
+
+pub front-none : (s : List ℕ) (pool place : ℕ) → Front s pool place 0
+front-none s pool place = record { one = λ l. absurd (omega arith); two = λ l. absurd (omega arith) }
+
+pub front-next : (s : List ℕ) (pool place i : ℕ) → Front s pool place i → detailsAt s pool (place + 2) ≡ true → Front s pool (place + 5) (i + 1)
+front-next s pool place i f d =
+    let y : place + 5 - 3 ≡ place + 2 = omega arith in
+    record {
+      one = λ _. (omega arith, rw y d);
+      two = λ l.
+          let o = f .one (omega arith) in
+          let x : place + 5 - 8 ≡ place - 3 = omega (arith, o .0) in
+          record { far = omega (arith, o .0); before-last = rw x (o .1); last = rw y d };
+    }
 
 two-size : (s : List ℕ) (place : ℕ) → 128 ≤ twoBytes s place → startSize s place ≡ 2
 unfolding twoBytes
@@ -268,6 +328,65 @@ module _ (s : List ℕ) (pool stop : ℕ) (from : Run) where
                   ∙ run-goes s pool form stop left place last (end-two two) m (next-two s pool form place last two ∙ sym e) z k l
                   ∙ ap (λ (q : ℕ). runFrom s pool form stop (left - 1) q m) five;
             }
+
+pub stopped-on : (s : List ℕ) (pool stop : ℕ) (from q r : Run) → Passed s pool stop from q → Stopped s pool stop q r → Stopped s pool stop from r
+stopped-on s pool stop from q r g x =
+    let y = x .passed in
+    record {
+      passed = record { fewer = omega (arith, g .fewer, y .fewer); inside = y .inside; instant = y .instant; same = λ form. g .same form ∙ y .same form };
+      ends = x .ends;
+    }
+
+-- where the loop behind two intervals stands: `left` of those for which there are bytes are to be read, and `rest` others
+module _ (s : List ℕ) (pool stop : ℕ) (from : Run) where
+  pub record More (rest left place last : ℕ) : Type 0 where
+    pub passed : Passed s pool stop from (runAt (rest + left) place last)
+    pub two : Behind s pool place
+    pub fits : 5 * left ≤ length s - place
+    pub cut : 0 < rest → length s - place < 5 * left + 5
+
+  module _ (rest left place last : ℕ) (g : More rest left place last) where
+    pub more-room : 0 < left → 5 ≤ length s - place
+    more-room l = omega (arith, g .fits)
+
+    pub more-done : left ≡ 0 → Stopped s pool stop from (runAt (rest + left) place last)
+    more-done z =
+        by-order 0 rest
+        (λ l. stopped-cut s pool stop from (rest + left) place last (g .passed) (omega (arith, g .cut l)))
+        (λ h. stopped-done s pool stop from (rest + left) place last (g .passed) (omega arith))
+
+    module _ (l : 0 < left) (m : ℕ) (e : m ≡ stepOf s pool place last) where
+      pub more-other : m ≡ 0 → Stopped s pool stop from (runAt (rest + left) place last)
+      more-other z = stopped-other s pool stop from (rest + left) place last (g .passed) (more-room l) m e z
+
+      module _ (z : m ≡ 0 → ⊥) where
+        pub more-late : stop < m → Stopped s pool stop from (runAt (rest + left) place last)
+        more-late h = stopped-late s pool stop from (rest + left) place last (g .passed) (more-room l) m e z h
+
+        pub more-next : m ≤ stop → stop ≤ lastInstant → More rest (left - 1) (place + 5) m
+        more-next h t =
+            let p = passed-next s pool stop from (rest + left) place last (g .passed) (more-room l) m e z (omega arith) h t in
+            let q : rest + left - 1 ≡ rest + (left - 1) = omega arith in
+            record {
+              passed = rw q at p;
+              two = behind-next s pool place (g .two) (stepped-details s pool place last m (stepped s pool place last m e z));
+              fits = omega (arith, g .fits);
+              cut = λ r. omega (arith, g .cut r, g .fits);
+            }
+
+pub more-start : (s : List ℕ) (pool stop left n place last : ℕ) → place ≤ length s → Finite last → Behind s pool place
+    → Fives left (length s - place) n → More s pool stop (runAt (left - n + n) place last) (left - n) n place last
+more-start s pool stop left n place last i f b x =
+    record {
+      passed = passed-start s pool stop (runAt (left - n + n) place last) i f;
+      two = b;
+      fits = x .fits;
+      cut = λ l. x .all (omega arith);
+    }
+
+pub stopped-whole : (s : List ℕ) (pool stop left n place last : ℕ) (r : Run) → n ≤ left
+    → Stopped s pool stop (runAt (left - n + n) place last) r → Stopped s pool stop (runAt left place last) r
+stopped-whole s pool stop left n place last r l x = let e : left - n + n ≡ left = omega arith in rw e at x
 
 -- where the loop over all stands
 module _ (s : List ℕ) (pool : ℕ) (form : Bool) (stop n from prev : ℕ) where

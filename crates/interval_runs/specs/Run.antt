@@ -1,6 +1,6 @@
 -- Intervals in a row whose name and offsets take a byte each, of which an instant needs only the last. The code's way, tied to the scan of the
 -- intervals by `run-ran` (proofs/RunLaws.antt).
-use Prim.Native.Nat.{ℕ, zero, suc, _+_, _*_, _≤_}
+use Prim.Native.Nat.{ℕ, zero, suc, _+_, _-_, _*_, _≤_, _<_}
 use mathlib.Core.Path.{_≡_}
 use mathlib.Core.Bool.{Bool, true}
 use mathlib.Core.List.{List}
@@ -16,11 +16,28 @@ use Rattle.pieces.specs.Form.{codePreferred}
 use Rattle.intervals.specs.Short.{shortOk}
 use Rattle.interval_runs.specs.declared.Run.{Run}
 
+-- the hours of a start of two bytes; 0 where no such start stands at the place
+unfoldable pub hoursAt : List ℕ → ℕ → ℕ
+hoursAt s place = pick (leb 128 (twoBytes s place)) (twoBytes s place) 0
+
+-- a name of the pool and two offsets stand at a place, in a byte each
+abbrev pub detailsAt : List ℕ → ℕ → ℕ → Bool
+detailsAt s pool place = both (shortDetails s place) (shortOk s pool place)
+
+-- where r is true, they stand at one place if at the other
+pub record SameDetails (s : List ℕ) (place old : ℕ) (r : Bool) : Type 0 where
+  pub to : r ≡ true → (pool : ℕ) → detailsAt s pool place ≡ detailsAt s pool old
+
 -- the start of such an interval of five bytes behind prev, in hours; 0 where other codes stand there. It is one where it and prev are instants
 -- (`step-start`, proofs/RunLaws.antt)
 unfoldable pub stepOf : List ℕ → ℕ → ℕ → ℕ → ℕ
-stepOf s pool place prev =
-    pick (both (leb 128 (twoBytes s place)) (both (shortDetails s (place + 2)) (shortOk s pool (place + 2)))) (prev + twoBytes s place * hour) 0
+stepOf s pool place prev = pick (both (leb 128 (twoBytes s place)) (detailsAt s pool (place + 2))) (prev + twoBytes s place * hour) 0
+
+-- a place behind two intervals of five bytes
+pub record Behind (s : List ℕ) (pool place : ℕ) : Type 0 where
+  pub far : 10 ≤ place
+  pub before-last : detailsAt s pool (place - 8) ≡ true
+  pub last : detailsAt s pool (place - 3) ≡ true
 
 -- the same of an interval whose start takes n bytes, more than two, where that is in the writer's form or `form` doesn't ask for it
 unfoldable pub longStepOf : List ℕ → ℕ → Bool → ℕ → ℕ → ℕ → ℕ
@@ -65,6 +82,12 @@ pub record Passed (s : List ℕ) (pool stop : ℕ) (from r : Run) : Type 0 where
 pub record Stopped (s : List ℕ) (pool stop : ℕ) (from r : Run) : Type 0 where
   pub passed : Passed s pool stop from r
   pub ends : startSize s (r .place) ≡ 2 → (form : Bool) → r ≡ runFrom s pool form stop (r .left) (r .place) (r .last)
+
+-- r is how many times five there are in room, at most n
+pub record Fives (n room r : ℕ) : Type 0 where
+  pub most : r ≤ n
+  pub fits : 5 * r ≤ room
+  pub all : r < n → room < 5 * r + 5
 
 -- the last start that a run may have, where `end` is the first start after t, or end of time while there is none: any instant, and else t
 unfoldable pub stopOf : ℕ → ℕ → ℕ

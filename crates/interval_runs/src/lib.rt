@@ -9,7 +9,7 @@ ghost use Prim.Native.Nat.{_+_, _≤_};
 ghost use lib.ListN.{length};
 ghost use Rattle.base.specs.Moment.{Finite, lastInstant};
 ghost use Rattle.long_starts.specs.Long.{startSize};
-ghost use Rattle.interval_runs.specs.Run.{stepOf, longStepOf, runOf, stopOf, Stopped};
+ghost use Rattle.interval_runs.specs.Run.{hoursAt, detailsAt, SameDetails, stepOf, Behind, longStepOf, runOf, stopOf, Fives, Stopped};
 
 // Where a run ends: how many intervals are left, the place behind it, and its last start.
 pub struct Run {
@@ -18,10 +18,10 @@ pub struct Run {
     pub last: u64,
 }
 
-// The start of an interval of five bytes behind prev; 0 where other codes stand there.
-pub fn step(s: &[u8], at: usize, pool: u64, prev: u64) -> u64
-    requires { ⌜ (at + 5 ≤ length (now s)) × (prev ≤ lastInstant) ⌝ }
-    ensures { λ r. ⌜ r ≡ stepOf (now (s .entry)) pool at prev ⌝ }
+// The hours of a start of two bytes; 0 where no such start stands there.
+fn hours_at(s: &[u8], at: usize) -> u64
+    requires { ⌜ at + 2 ≤ length (now s) ⌝ }
+    ensures { λ r. ⌜ (r ≡ hoursAt (now (s .entry)) at) × (r ≤ 16383) ⌝ }
 {
     let b = s[at] as u64;
     if b < 128 {
@@ -34,10 +34,65 @@ pub fn step(s: &[u8], at: usize, pool: u64, prev: u64) -> u64
     if 127 < d {
         return 0;
     }
-    if short_places::short_details(s, at + 2) {
-        if short_intervals::short_ok(s, at + 2, pool) {
-            return prev + (b % 128 + 128 * d) * HOUR;
-        }
+    b % 128 + 128 * d
+}
+
+// Whether a name of the pool and two offsets stand at a place, in a byte each.
+fn details_ok(s: &[u8], at: usize, pool: u64) -> bool
+    requires { ⌜ at + 3 ≤ length (now s) ⌝ }
+    ensures { λ r. ⌜ r ≡ detailsAt (now (s .entry)) pool at ⌝ }
+{
+    if short_places::short_details(s, at) {
+        return short_intervals::short_ok(s, at, pool);
+    }
+    false
+}
+
+// Whether the three bytes at a place are those at another. Two of them are compared as one number.
+fn same_details(s: &[u8], at: usize, old: usize) -> bool
+    requires { ⌜ (at + 3 ≤ length (now s)) × (old + 3 ≤ length (now s)) ⌝ }
+    ensures { λ r. ⌜ SameDetails (now (s .entry)) at old r ⌝ }
+{
+    let x = s[at] as u64 + 256 * s[at + 1] as u64;
+    let y = s[old] as u64 + 256 * s[old + 1] as u64;
+    if x != y {
+        return false;
+    }
+    if s[at + 2] != s[old + 2] {
+        return false;
+    }
+    true
+}
+
+// The start of an interval of five bytes behind prev; 0 where other codes stand there.
+pub fn step(s: &[u8], at: usize, pool: u64, prev: u64) -> u64
+    requires { ⌜ (at + 5 ≤ length (now s)) × (prev ≤ lastInstant) ⌝ }
+    ensures { λ r. ⌜ r ≡ stepOf (now (s .entry)) pool at prev ⌝ }
+{
+    let v = hours_at(s, at);
+    if v == 0 {
+        return 0;
+    }
+    if details_ok(s, at + 2, pool) {
+        return prev + v * HOUR;
+    }
+    0
+}
+
+// The same behind two others: standard and daylight time take turns, so the details are mostly those of the one before the last, which were judged.
+fn next_step(s: &[u8], at: usize, pool: u64, prev: u64) -> u64
+    requires { ⌜ (at + 5 ≤ length (now s)) × (prev ≤ lastInstant) × Behind (now s) pool at ⌝ }
+    ensures { λ r. ⌜ r ≡ stepOf (now (s .entry)) pool at prev ⌝ }
+{
+    let v = hours_at(s, at);
+    if v == 0 {
+        return 0;
+    }
+    if same_details(s, at + 2, at - 8) {
+        return prev + v * HOUR;
+    }
+    if details_ok(s, at + 2, pool) {
+        return prev + v * HOUR;
     }
     0
 }
@@ -77,7 +132,47 @@ pub fn stop_at(end: u64, t: u64) -> u64
     t
 }
 
-// The part of a run that is of five bytes each, from where one stands. No start is after stop, so that the range of an instant needs no test.
+// How many intervals of five bytes may stand in so many bytes, at most n.
+fn fives(n: u64, room: usize) -> u64
+    ensures { λ r. ⌜ Fives n room r ⌝ }
+{
+    let k = (room / 5) as u64;
+    if n < k {
+        return n;
+    }
+    k
+}
+
+// The part of a run that is of five bytes each, behind two such. No start is after stop, so that the range of an instant needs no test.
+fn read_more(s: &[u8], pool: u64, stop: u64, from: Run) -> Run
+    requires { ⌜ (from .place ≤ length (now s)) × (stop ≤ lastInstant) × Finite (from .last) × Behind (now s) pool (from .place) ⌝ }
+    ensures { λ r. ⌜ Stopped (now (s .entry)) pool stop from r ⌝ }
+{
+    let n = fives(from.left, s.len() - from.place);
+    let rest = from.left - n;
+    let mut left = n;
+    let mut place = from.place;
+    let mut last = from.last;
+    while 0 < left {
+        let m = next_step(s, place, pool, last);
+        if m == 0 {
+            break;
+        }
+        if stop < m {
+            break;
+        }
+        left -= 1;
+        place += 5;
+        last = m;
+    }
+    Run {
+        left: rest + left,
+        place: place,
+        last: last,
+    }
+}
+
+// The part of a run that is of five bytes each, from where one stands.
 fn read_fives(s: &[u8], pool: u64, stop: u64, from: Run) -> Run
     requires { ⌜ (from .place ≤ length (now s)) × (stop ≤ lastInstant) × Finite (from .last) ⌝ }
     ensures { λ r. ⌜ Stopped (now (s .entry)) pool stop from r ⌝ }
@@ -85,7 +180,15 @@ fn read_fives(s: &[u8], pool: u64, stop: u64, from: Run) -> Run
     let mut left = from.left;
     let mut place = from.place;
     let mut last = from.last;
-    while 0 < left {
+    let mut i: u64 = 0;
+    while i < 2 {
+        if left == 0 {
+            return Run {
+                left: left,
+                place: place,
+                last: last,
+            };
+        }
         if s.len() - place < 5 {
             return Run {
                 left: left,
@@ -111,12 +214,18 @@ fn read_fives(s: &[u8], pool: u64, stop: u64, from: Run) -> Run
         left -= 1;
         place += 5;
         last = m;
+        i += 1;
     }
-    Run {
-        left: left,
-        place: place,
-        last: last,
-    }
+    read_more(
+        s,
+        pool,
+        stop,
+        Run {
+            left: left,
+            place: place,
+            last: last,
+        },
+    )
 }
 
 // At most n intervals from the place at on, behind the start prev, none of which starts after stop.

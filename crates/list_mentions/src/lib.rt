@@ -20,7 +20,7 @@ fn numbered_names(s: &[u8], at: usize) -> Read
 }
 
 // How many names stand behind the first of a location, and the place of the first.
-fn location_names(s: &[u8], at: usize, numbered: bool) -> Read
+pub fn location_names(s: &[u8], at: usize, numbered: bool) -> Read
     requires { ⌜ at ≤ length (now s) ⌝ }
     ensures { λ r. ⌜ Stands (now (s .entry)) (locationNames numbered (drop at (now (s .entry)))) (ofRead r) ⌝ }
 {

@@ -106,27 +106,7 @@ module _ (t id : ℕ) (form : Bool) (p : Parsed Zone) (f : ℕ → List Interval
   unfolding readOf
   ended-tailed n h b e = rw (goes ∙ h .means id is last-of .1) (ap₂ (λ (x : Scan) (y : Bool). Tailed id x n y) scans e)
 
--- the verdict is that of the walk, whatever its instant
-abbrev pub verdictRead : ZoneRead → ZoneVerdict
-verdictRead (Fixed id offset n form) = Good id
-verdictRead (Listed id c form) = Good id
-verdictRead (Tailed id c n form) = Good id
-verdictRead (Refused k) = Denied k
-
-verdict-read : (t : ℕ) (form : Bool) (p : Parsed Zone) → verdictRead (readOf t form p) ≡ verdictOf p
-unfolding readOf
-verdict-read t form (bad k) = refl
-verdict-read t form (got z r) = go (z .body)
-  where
-    go : (b : Body) → verdictRead (bodyRead t form (z .id) b) ≡ Good (z .id)
-    go (fixed offset n) = refl
-    go (listed is end untailed) = refl
-    go (listed is end (tailed n)) = refl
-
-pub verdict-is : (t : ℕ) (form : Bool) (p : Parsed Zone) (r : ZoneRead) → r ≡ readOf t form p → verdictRead r ≡ verdictOf p
-verdict-is t form p r e = ap verdictRead e ∙ verdict-read t form p
-
--- and so is what is said of its form
+-- what is said of the form is that of the walk, whatever its instant
 abbrev pub formRead : ZoneRead → ZoneForm
 formRead (Fixed id offset n form) = WithForm id form
 formRead (Listed id c form) = WithForm id form
@@ -145,6 +125,21 @@ form-read t form (got z r) = go (z .body)
 
 pub form-is : (t : ℕ) (form : Bool) (p : Parsed Zone) (r : ZoneRead) → r ≡ readOf t form p → formRead r ≡ formOf form p
 form-is t form p r e = ap formRead e ∙ form-read t form p
+
+pub form-on : (a b : Bool) (p q : Parsed Zone) (r : ZoneForm) → p ≡ q → a ≡ b → r ≡ formOf b q → r ≡ formOf a p
+form-on a b p q r e f h = h ∙ ap₂ formOf (sym f) (sym e)
+
+-- without the form it is the zone's check
+abbrev pub verdictBy : ZoneForm → ZoneVerdict
+verdictBy (WithForm id form) = Good id
+verdictBy (NoForm k) = Denied k
+
+verdict-by : (form : Bool) (p : Parsed Zone) → verdictBy (formOf form p) ≡ verdictOf p
+verdict-by form (bad k) = refl
+verdict-by form (got z r) = refl
+
+pub verdict-is : (form : Bool) (p : Parsed Zone) (r : ZoneForm) → r ≡ formOf form p → verdictBy r ≡ verdictOf p
+verdict-is form p r e = ap verdictBy e ∙ verdict-by form p
 
 -- the tail's answer by what is in force
 pub named-daylight : (n : NamedTail) (x : Lookup) → x .daylight ≡ true

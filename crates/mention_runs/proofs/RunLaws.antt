@@ -9,16 +9,18 @@ use lib.Seq.{set-out}
 use Rattle.base.specs.Parsed.{parse}
 use Rattle.counts.specs.Count.{readCount}
 use Rattle.places.specs.Placed.{at, Stands}
+use Rattle.places.proofs.PlaceLaws.{on, here}
 use Rattle.use_order.specs.Order.{mention, mentionAll}
 use Rattle.use_order.proofs.NumberLaws.{length-mention, mention-most}
 use Rattle.mentions.specs.declared.Stage.{Stage}
 use Rattle.mentions.specs.declared.Stage.the-variants.{Interval, Names}
-use Rattle.mentions.specs.Walk.{aheadOf}
+use Rattle.mentions.specs.Walk.{locationNames, aheadOf}
 use Rattle.mentions.specs.Content.{Content, contentAt, numbersIn}
 use Rattle.mentions.specs.View.{MentionAt}
-use Rattle.mentions.proofs.WalkLaws.{names-more}
+use Rattle.mentions.proofs.WalkLaws.{names-more, names-next}
 use Rattle.mentions.proofs.ContentLaws.{content-next, mention-here}
-use Rattle.zone_mentions.specs.Short.{ShortAt}
+use Rattle.zone_mentions.specs.declared.Start.{Start}
+use Rattle.zone_mentions.specs.Short.{ShortAt, StartAt}
 use Rattle.mention_runs.specs.Run.{Room, Counted}
 
 pub mention-some : (k : ℕ) (u : List ℕ) → set u k (getD u k 0 + 1) ≡ mention k u
@@ -41,6 +43,20 @@ module _ (s : List ℕ) (place : ℕ) (h : place ≤ length s) (n : ℕ) (l : 0 
   unfolding aheadOf
   name-here locations numbered c = mention-here s place (Names n locations numbered) _ _ (names-more s place n locations numbered l h) h v e c
 
+-- the name of the next interval, whatever its codes
+pub start-here : (s : List ℕ) (place : ℕ) → place ≤ length s → (last n : ℕ) → (n ≡ 0 → ⊥) → (r : Start) → StartAt s place last r → (r .place ≡ 0 → ⊥)
+    → (v e : ℕ) → Stands s (parse readCount (drop (r .place) s)) (at v e) → MentionAt s place (Interval last n) (Interval (r .start) (n - 1)) v (r .place) e
+unfolding aheadOf
+start-here s place h last n l r a z v e c = mention-here s place (Interval last n) _ _ (a .ahead z n l) h v e c
+
+-- the first name of the next location
+pub location-here : (s : List ℕ) (place : ℕ) → place ≤ length s → (n locations : ℕ) (numbered : Bool) → n ≤ 0 → (locations ≡ 0 → ⊥)
+    → (m p : ℕ) → Stands s (locationNames numbered (drop place s)) (at m p) → (v e : ℕ) → Stands s (parse readCount (drop p s)) (at v e)
+    → MentionAt s place (Names n locations numbered) (Names m (locations - 1) numbered) v p e
+unfolding aheadOf
+location-here s place h n l numbered z q m p a v e c =
+    mention-here s place (Names n l numbered) _ _ (names-next s place n l numbered _ z q (on a _ _ _ _ refl (here _ _ _ _ refl (a .within)))) h v e c
+
 pub counted-none : (s : List ℕ) (a : ℕ) (σ : Stage) (u : List ℕ) → a ≤ length s → Counted s a σ u a σ u
 counted-none s a σ u h = record { onward = omega arith; within = h; all = refl; most = λ k. omega arith; same = refl }
 
@@ -58,6 +74,21 @@ module _ (s : List ℕ) (a : ℕ) (σ : Stage) (u : List ℕ) (b : ℕ) (τ : St
         most = λ k. let z = mention-most v k w in omega (arith, c .most k, m .first, m .rises);
         same = sym (ap (λ (x : Content). mentionAll (numbersIn (x .mentions)) w) (content-next τ (drop b s) _ (drop e s) (m .read))) ∙ c .same;
       })
+
+-- two runs, one behind the other
+module _ (s : List ℕ) (a : ℕ) (σ : Stage) (u : List ℕ) (b : ℕ) (τ : Stage) (w : List ℕ) (c : Counted s a σ u b τ w) where
+  pub counted-rest : Room u (length s - a) → Room w (length s - b)
+  counted-rest r = record { room = λ k. omega (arith, r .room k, c .most k, c .onward, c .within) }
+
+  pub counted-on : (e : ℕ) (υ : Stage) (x : List ℕ) → Counted s b τ w e υ x → Counted s a σ u e υ x
+  counted-on e υ x d =
+      record {
+        onward = omega (arith, c .onward, d .onward);
+        within = d .within;
+        all = d .all ∙ c .all;
+        most = λ k. omega (arith, c .most k, d .most k);
+        same = d .same ∙ c .same;
+      }
 
 -- from a stage, where it is known which
 pub counted-is : (s : List ℕ) (a : ℕ) (σ σ′ : Stage) (u : List ℕ) (b : ℕ) (τ : Stage) (w : List ℕ) → σ ≡ σ′ → Counted s a σ′ u b τ w → Counted s a σ u b τ w

@@ -1,4 +1,4 @@
-// Mentions counted in runs: names of intervals behind short codes, and names behind names.
+// Mentions counted in runs: names of intervals, names behind names, and names of locations.
 use base::Read;
 use mentions::Stage;
 ghost use mathlib.Core.Path.{_≡_};
@@ -26,7 +26,7 @@ pub struct Run {
 }
 
 // Counts the names of the intervals that follow, as long as the codes before them are short.
-fn count_intervals(s: &[u8], at: usize, start: u64, left: u64, uses: &mut [u32]) -> Run
+fn count_short(s: &[u8], at: usize, start: u64, left: u64, uses: &mut [u32]) -> Run
     requires { ⌜ (at ≤ length (now s)) × Room (now uses) (length (now s) - at) ⌝ }
     ensures { λ r. ⌜ Counted (now (s .entry)) at (Interval start left) (now (uses .entry)) (r .place) (Interval (r .start) (r .left)) (now (uses .exit)) ⌝ }
 {
@@ -62,6 +62,53 @@ fn count_intervals(s: &[u8], at: usize, start: u64, left: u64, uses: &mut [u32])
         place: place,
         start: last,
         left: n,
+    }
+}
+
+// Counts the names of the intervals that follow.
+fn count_intervals(s: &[u8], at: usize, start: u64, left: u64, uses: &mut [u32]) -> Run
+    requires { ⌜ (at ≤ length (now s)) × Room (now uses) (length (now s) - at) ⌝ }
+    ensures { λ r. ⌜ Counted (now (s .entry)) at (Interval start left) (now (uses .entry)) (r .place) (Interval (r .start) (r .left)) (now (uses .exit)) ⌝ }
+{
+    let mut place = at;
+    let mut last = start;
+    let mut n = left;
+    loop {
+        let r = count_short(s, place, last, n, uses);
+        place = r.place;
+        last = r.start;
+        n = r.left;
+        if n == 0 {
+            return Run {
+                place: place,
+                start: last,
+                left: n,
+            };
+        }
+        let next = zone_mentions::any_start(s, place, last);
+        let p = next.place;
+        if p == 0 {
+            return Run {
+                place: place,
+                start: last,
+                left: n,
+            };
+        }
+        match places::count_at(s, p) {
+            Read::Refused(_) => {
+                return Run {
+                    place: place,
+                    start: last,
+                    left: n,
+                };
+            }
+            Read::Value(v, e) => {
+                mention(uses, v as usize);
+                place = e;
+                last = next.start;
+                n -= 1;
+            }
+        }
     }
 }
 
@@ -106,6 +153,73 @@ fn count_names(
     }
 }
 
+// Before so many names and so many locations.
+pub struct List {
+    pub place: usize,
+    pub left: u64,
+    pub locations: u64,
+}
+
+// Counts the names in a row at a place and those of the locations that follow.
+fn count_locations(
+    s: &[u8],
+    at: usize,
+    left: u64,
+    locations: u64,
+    numbered: bool,
+    uses: &mut [u32],
+) -> List
+    requires { ⌜ (at ≤ length (now s)) × Room (now uses) (length (now s) - at) ⌝ }
+    ensures { λ r. ⌜ Counted (now (s .entry)) at (Names left locations numbered) (now (uses .entry)) (r .place) (Names (r .left) (r .locations) numbered) (now (uses .exit)) ⌝ }
+{
+    let mut place = at;
+    let mut n = left;
+    let mut k = locations;
+    loop {
+        let row = count_names(s, place, n, k, numbered, uses);
+        place = row.place;
+        n = row.left;
+        if 0 < n {
+            return List {
+                place: place,
+                left: n,
+                locations: k,
+            };
+        }
+        if k == 0 {
+            return List {
+                place: place,
+                left: n,
+                locations: k,
+            };
+        }
+        match list_mentions::location_names(s, place, numbered) {
+            Read::Refused(_) => {
+                return List {
+                    place: place,
+                    left: n,
+                    locations: k,
+                };
+            }
+            Read::Value(m, p) => match places::count_at(s, p) {
+                Read::Refused(_) => {
+                    return List {
+                        place: place,
+                        left: n,
+                        locations: k,
+                    };
+                }
+                Read::Value(v, e) => {
+                    mention(uses, v as usize);
+                    place = e;
+                    n = m;
+                    k -= 1;
+                }
+            },
+        }
+    }
+}
+
 // A place and the stage there.
 pub struct Stood {
     pub place: usize,
@@ -126,10 +240,10 @@ pub fn count_run(s: &[u8], at: usize, stage: Stage, uses: &mut [u32]) -> Stood
             }
         }
         Stage::Names(n, locations, numbered) => {
-            let r = count_names(s, at, n, locations, numbered, uses);
+            let r = count_locations(s, at, n, locations, numbered, uses);
             Stood {
                 place: r.place,
-                stage: Stage::Names(r.left, locations, numbered),
+                stage: Stage::Names(r.left, r.locations, numbered),
             }
         }
         _ => Stood {

@@ -8,7 +8,7 @@ ghost use Prim.Native.Nat.{_≤_};
 ghost use lib.ListN.{length, drop};
 ghost use Rattle.places.specs.Placed.{Stands};
 ghost use Rattle.mentions.specs.Walk.{aheadOf, firstStage};
-ghost use Rattle.mentions.specs.View.{ofSkipped, NextAt};
+ghost use Rattle.mentions.specs.View.{ofSkipped, NextMention};
 ghost use Rattle.mention_steps.specs.View.{NamedAt};
 
 // From a stage at a place to the next mention.
@@ -46,38 +46,13 @@ fn named(s: &[u8], p: usize, behind: Stage) -> Mentioned
 }
 
 // The next mention from a stage at a place on.
-fn any_next(s: &[u8], at: usize, stage: Stage) -> Mentioned
+pub fn next(s: &[u8], at: usize, stage: Stage) -> Mentioned
     requires { ⌜ at ≤ length (now s) ⌝ }
-    ensures { λ r. ⌜ NextAt (now (s .entry)) at stage r ⌝ }
+    ensures { λ r. ⌜ NextMention (now (s .entry)) at stage r ⌝ }
 {
     match skip(s, at, stage) {
         Skipped::Refused(_) => Mentioned::Nothing,
         Skipped::At(behind, p) => named(s, p, behind),
-    }
-}
-
-// The same. The usual ones, an interval's name behind codes of four bytes and a name behind a name, are told by few tests.
-pub fn next(s: &[u8], at: usize, stage: Stage) -> Mentioned
-    requires { ⌜ at ≤ length (now s) ⌝ }
-    ensures { λ r. ⌜ NextAt (now (s .entry)) at stage r ⌝ }
-{
-    match stage {
-        Stage::Interval(start, left) => {
-            if 0 < left {
-                let m = zone_mentions::short_start(s, at, start);
-                if 0 < m {
-                    return named(s, at + 4, Stage::Interval(m, left - 1));
-                }
-            }
-            any_next(s, at, stage)
-        }
-        Stage::Names(n, locations, numbered) => {
-            if 0 < n {
-                return named(s, at, Stage::Names(n - 1, locations, numbered));
-            }
-            any_next(s, at, stage)
-        }
-        _ => any_next(s, at, stage),
     }
 }
 

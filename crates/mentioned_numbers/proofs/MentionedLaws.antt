@@ -1,4 +1,4 @@
--- EVERY NUMBER THAT A GOOD FILE MENTIONS is a number of its pool, and a field without mentions is copied. Assumes nothing.
+-- EVERY NUMBER THAT A GOOD FILE MENTIONS is below 8,192, the largest count of a pool, and a field without mentions is copied. Assumes nothing.
 use mathlib.Core.Path.{_≡_, refl, ap, _∙_, subst, subst⁻¹}
 use mathlib.Core.Bool.{Bool, true, false}
 use mathlib.Core.List.{List, [], _∷_}

@@ -1,4 +1,4 @@
--- What the code's results stand for. The code's way, tied to the definitions by `NextAt` itself.
+-- What the code's results stand for. The code's way, tied to the definitions by `NextMention` itself.
 use Prim.Native.Nat.{ℕ, _-_, _≤_, _<_}
 use mathlib.Core.Path.{_≡_}
 use mathlib.Core.List.{List}
@@ -31,5 +31,5 @@ abbrev pub NextTo : List ℕ → ℕ → Stage → Mentioned → Type 0
 NextTo s place σ (Here τ v p e) = MentionAt s place σ τ v p e
 NextTo s place σ Nothing = NoMention s place σ
 
-pub record NextAt (s : List ℕ) (place : ℕ) (σ : Stage) (r : Mentioned) : Type 0 where
+pub record NextMention (s : List ℕ) (place : ℕ) (σ : Stage) (r : Mentioned) : Type 0 where
   pub means : NextTo s place σ r

@@ -43,7 +43,7 @@ fn walk_fields(
     let mut at = end;
     let mut prev: usize = 0;
     loop {
-        let f = headers::read_frame(&s[at..], 3, at, true, prev);
+        let f = headers::next_frame(&s[at..], 3, at, true, prev);
         match f {
             Frame::End => {
                 return Located::End(at);

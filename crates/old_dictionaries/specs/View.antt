@@ -12,11 +12,11 @@ use Rattle.aliases.specs.Dictionary.{Entry, entry, Dictionary, keys}
 use Rattle.ids.specs.Ids.{among}
 use Rattle.old_texts.specs.OldText.{parseOldText}
 use Rattle.old_dictionaries.specs.OldDictionary.{afterKey, parseEntry}
-use Rattle.old_dictionaries.specs.Pairs.{parsePair, keyAmong}
+use Rattle.old_dictionaries.specs.Pairs.{parsePair}
 use Rattle.old_dictionaries.specs.declared.Pair.{Pair}
 use Rattle.old_dictionaries.specs.declared.Pair.the-variants.{At, NoPair}
 use Rattle.old_dictionaries.specs.declared.Turn.{Turn}
-use Rattle.old_dictionaries.specs.declared.Turn.the-variants.{Next, Bad}
+use Rattle.old_dictionaries.specs.declared.Turn.the-variants.{Next, Bad, Unordered}
 
 -- the bytes of s from a to e
 abbrev pub part : ℕ → ℕ → List ℕ → List ℕ
@@ -39,25 +39,26 @@ isLess Greater = false
 abbrev pub ValueTo : List ℕ → ℕ → ℕ → Parsed (List ℕ) → Turn → Type 0
 ValueTo s lo hi p (Next e b c) = (b ≡ lo) × (c ≡ hi) × (e ≤ length s) × (y : List ℕ) × (p ≡ got y (drop e s))
 ValueTo s lo hi p (Bad k) = p ≡ bad k
+ValueTo s lo hi p Unordered = ⊥
 
 pub record ValueAt (s : List ℕ) (place lo hi : ℕ) (r : Turn) : Type 0 where
   pub means : ValueTo s lo hi (parseOldText (drop place s)) r
 
--- n entries from a place of s on have the keys of pre, none of which comes behind the string m
-pub record Seen (s : List ℕ) (from n : ℕ) (m : List ℕ) (pre : Dictionary) : Type 0 where
-  pub known : (x : List ℕ) → keyAmong n x (drop from s) ≡ among x (keys pre)
-  pub largest : (x : List ℕ) → ordering m x ≡ Less → among x (keys pre) ≡ false
-
--- the next entry of s, behind the entries pre, and the largest key then
+-- the next entry of s, behind the entries pre, and the largest key then; nothing is said of an entry whose key is not larger than those before
 abbrev pub TurnTo : List ℕ → Dictionary → Parsed Entry → Turn → Type 0
 TurnTo s pre p (Next e b c) =
     (b ≤ c) × (c ≤ length s) × (e ≤ length s) × (x : Entry) × (p ≡ got x (drop e s)) × ((y : List ℕ) → ordering (part b c s) y ≡ Less → among y (keys (pre ++ (x ∷ []))) ≡ false)
 TurnTo s pre p (Bad k) = p ≡ bad k
+TurnTo s pre p Unordered = Unit {0}
+
+-- none of the keys of pre comes behind the string m
+abbrev pub Largest : List ℕ → Dictionary → Type 0
+Largest m pre = (x : List ℕ) → ordering m x ≡ Less → among x (keys pre) ≡ false
 
 -- with a key that was read, from b to c
-pub record Keyed (s : List ℕ) (from n lo hi b c : ℕ) (r : Turn) : Type 0 where
-  pub means : (pre : Dictionary) → Seen s from n (part lo hi s) pre → TurnTo s pre (afterKey pre (part b c s) (drop c s)) r
+pub record Keyed (s : List ℕ) (lo hi b c : ℕ) (r : Turn) : Type 0 where
+  pub means : (pre : Dictionary) → Largest (part lo hi s) pre → TurnTo s pre (afterKey pre (part b c s) (drop c s)) r
 
 -- at a place
-pub record Turned (s : List ℕ) (from n lo hi place : ℕ) (r : Turn) : Type 0 where
-  pub means : (pre : Dictionary) → Seen s from n (part lo hi s) pre → TurnTo s pre (parseEntry pre (drop place s)) r
+pub record Turned (s : List ℕ) (lo hi place : ℕ) (r : Turn) : Type 0 where
+  pub means : (pre : Dictionary) → Largest (part lo hi s) pre → TurnTo s pre (parseEntry pre (drop place s)) r

@@ -14,8 +14,10 @@ pub enum Pair {
     NoPair,
 }
 
-// What an entry comes to: the place behind it, and where the largest key so far lies; or the number of a refusal.
+// What an entry comes to: the place behind it, and where the largest key so far lies; or the number of a refusal; or its key is not larger
+// than all before it.
 pub enum Turn {
     Next(usize, usize, usize),
     Bad(u8),
+    Unordered,
 }

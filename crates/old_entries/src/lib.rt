@@ -1,4 +1,4 @@
-// The entries of an older dictionary, each judged by the keys before it.
+// The entries of an older dictionary, whose keys mostly stand in the order of their bytes.
 use base::Read;
 use old_dictionaries::Found;
 use old_dictionaries::Turn;
@@ -34,36 +34,34 @@ fn take_value(s: &[u8], at: usize, lo: usize, hi: usize) -> Turn
     }
 }
 
-// The entry with the key s[b..c], behind n others, which start at a place and the largest of whose keys is s[lo..hi]. A larger key, as each is
-// where they are in order, is new; for any other the entries before are gone through.
-fn take_key(s: &[u8], from: usize, n: u64, lo: usize, hi: usize, b: usize, c: usize) -> Turn
-    requires { ⌜ (from ≤ length (now s)) × (lo ≤ hi) × (hi ≤ length (now s)) × (b ≤ c) × (c ≤ length (now s)) ⌝ }
-    ensures { λ r. ⌜ Keyed (now (s .entry)) from n lo hi b c r ⌝ }
+// The entry with the key s[b..c], behind others, the largest of whose keys is s[lo..hi]. A larger key, as each is where they are in order, is
+// new; any other is not judged here.
+fn take_key(s: &[u8], lo: usize, hi: usize, b: usize, c: usize) -> Turn
+    requires { ⌜ (lo ≤ hi) × (hi ≤ length (now s)) × (b ≤ c) × (c ≤ length (now s)) ⌝ }
+    ensures { λ r. ⌜ Keyed (now (s .entry)) lo hi b c r ⌝ }
 {
     if comes_before(&s[lo..hi], &s[b..c]) {
         return take_value(s, c, b, c);
     }
-    if old_pairs::has_key(s, from, n, &s[b..c]) {
-        return Turn::Bad(19);
-    }
-    take_value(s, c, lo, hi)
+    Turn::Unordered
 }
 
-// The entry at a place of s, behind n others, which start at another place and the largest of whose keys is s[lo..hi].
-fn take_entry(s: &[u8], from: usize, n: u64, lo: usize, hi: usize, at: usize) -> Turn
-    requires { ⌜ (from ≤ length (now s)) × (lo ≤ hi) × (hi ≤ length (now s)) × (at ≤ length (now s)) ⌝ }
-    ensures { λ r. ⌜ Turned (now (s .entry)) from n lo hi at r ⌝ }
+// The entry at a place of s, behind others, the largest of whose keys is s[lo..hi].
+fn take_entry(s: &[u8], lo: usize, hi: usize, at: usize) -> Turn
+    requires { ⌜ (lo ≤ hi) × (hi ≤ length (now s)) × (at ≤ length (now s)) ⌝ }
+    ensures { λ r. ⌜ Turned (now (s .entry)) lo hi at r ⌝ }
 {
     match old_texts::read_text(&s[at..]) {
         Text::Refused(k) => Turn::Bad(k),
         Text::Part(a, m) => {
             let b = at + a;
-            take_key(s, from, n, lo, hi, b, b + m)
+            take_key(s, lo, hi, b, b + m)
         }
     }
 }
 
-// n entries of s from a place on.
+// n entries of s from a place on. At the first key that is not larger than all before it they are read anew, by a reader that remembers the
+// keys.
 pub fn read_entries(s: &[u8], from: usize, n: u64) -> Found
     requires { ⌜ from ≤ length (now s) ⌝ }
     ensures { λ r. ⌜ r ≡ foundOf (now (s .entry)) (parseEntries n [] (drop from (now (s .entry)))) ⌝ }
@@ -73,9 +71,12 @@ pub fn read_entries(s: &[u8], from: usize, n: u64) -> Found
     let mut lo: usize = 0;
     let mut hi: usize = 0;
     while done < n {
-        match take_entry(s, from, done, lo, hi, at) {
+        match take_entry(s, lo, hi, at) {
             Turn::Bad(k) => {
                 return Found::Refused(k);
+            }
+            Turn::Unordered => {
+                return unordered_keys::read_entries(s, from, n);
             }
             Turn::Next(e, b, c) => {
                 at = e;

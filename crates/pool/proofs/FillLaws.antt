@@ -18,14 +18,25 @@ use Rattle.counts.proofs.CountLaws.{byte-count}
 use Rattle.texts.specs.Text.{readText, behindText}
 use Rattle.texts.specs.declared.Text.{Text}
 use Rattle.texts.specs.declared.Text.the-variants.{Part, Refused as Untext}
-use Rattle.utf8.specs.Ascii.{ascii}
+use Rattle.utf8.specs.Ascii.{ascii, asciiFront}
 use Rattle.texts.proofs.TextLaws.{text-tested, Held, held}
-use Rattle.utf8.proofs.AsciiLaws.{plain-utf8}
+use Rattle.utf8.proofs.AsciiLaws.{plain-utf8, ascii-at, front-ascii}
 use Rattle.pool.specs.declared.Checked.{Checked}
 use Rattle.pool.specs.declared.Checked.the-variants.{Strings, Refused}
 use Rattle.base.specs.Parsed.{got, bad, bind, ended, many, prepend}
 use Rattle.pool.specs.Pool.{Pool, readStrings, allStrings, checked}
-use Rattle.pool.specs.Index.{start, readStarts, shortLength}
+use Rattle.pool.specs.Index.{start, readStarts, shortLength, Plain}
+
+-- what is known to be ASCII, from a later place on
+pub plain-later : (d : List ℕ) (at plain n : ℕ) → Plain d at plain → Plain d (at + n) plain
+plain-later d at plain n p = (p .0, ascii-at plain at (at + n) d (omega arith) (p .1))
+
+-- and by a look at what stands from a place on
+pub plain-front : (d : List ℕ) (at n : ℕ) → at ≤ length d → n ≡ asciiFront (drop at d) → Plain d at (at + n)
+plain-front d at n h e =
+    let x = front-ascii (drop at d) n e in
+    let z : at + n - at ≡ n = omega arith in
+    (omega (arith, x .0, length-drop at d), rw z (x .1))
 
 -- i strings more
 abbrev raise : ℕ → Checked → Checked

@@ -1,13 +1,15 @@
 -- The index of a pool: the places at which its strings start, so that a string is found by its number at once.
 -- The code's way, tied to the pool's strings by `ready` (proofs/PoolLaws.antt) and `span-string` (proofs/StringLaws.antt).
-use Prim.Native.Nat.{ℕ, zero, suc, _+_}
+use Prim.Native.Nat.{ℕ, zero, suc, _+_, _-_, _≤_}
 use mathlib.Core.Path.{_≡_}
 use mathlib.Core.List.{List, [], _∷_}
+use mathlib.Core.Bool.{true}
 use lib.ListN.{length, take, drop, getD}
 use lib.Dec.{ltb}
 use Rattle.base.specs.Pick.{pick, both}
 use Rattle.base.specs.declared.Read.{Read}
 use Rattle.base.specs.declared.Read.the-variants.{Value, Refused as Unread}
+use Rattle.utf8.specs.Ascii.{ascii}
 use Rattle.counts.specs.Count.{readCount}
 use Rattle.texts.specs.Text.{readText}
 use Rattle.texts.specs.declared.Text.{Text}
@@ -44,6 +46,10 @@ roomOf d = roomIn (readCount d)
 unfoldable pub shortLength : List ℕ → ℕ → ℕ → ℕ
 shortLength d at plain =
     pick (both (ltb at (length d)) (both (ltb (getD d at 0) 128) (ltb (at + getD d at 0) plain))) (getD d at 0) 128
+
+-- the bytes of d from a place on are ASCII up to the place plain
+abbrev pub Plain : List ℕ → ℕ → ℕ → Type 0
+Plain d at plain = (plain ≤ length d) × (ascii (take (plain - at) (drop at d)) ≡ true)
 
 -- the list ix begins with the places of d's strings
 pub record Ready (d ix : List ℕ) : Type 0 where

@@ -2,13 +2,11 @@
 use base::Read;
 use texts::Text;
 ghost use mathlib.Core.Path.{_≡_};
-ghost use mathlib.Core.Bool.{true};
 ghost use Prim.Native.Nat.{_-_, _≤_, _<_};
-ghost use lib.ListN.{length, take, drop};
+ghost use lib.ListN.{length, drop};
 ghost use lib.Seq.{sets};
-ghost use Rattle.utf8.specs.Ascii.{ascii};
 ghost use Rattle.pool.specs.Pool.{allStrings, parsePool, checked};
-ghost use Rattle.pool.specs.Index.{readStarts, startsOf, roomOf, shortLength};
+ghost use Rattle.pool.specs.Index.{readStarts, startsOf, roomOf, shortLength, Plain};
 
 // What checking a pool gives.
 pub enum Checked {
@@ -47,13 +45,34 @@ fn short(d: &[u8], at: usize, plain: usize) -> usize
     128
 }
 
-// The strings of d from a place on, k of them and nothing behind. starts gets the place of each. The bytes up to the place `plain` are ASCII.
-fn fill(d: &[u8], from: usize, k: usize, plain: usize, starts: &mut [u32]) -> Checked
-    requires { ⌜ (from ≤ length (now d)) × (from ≤ 5) × (k ≤ 8192) × (k ≤ length (now starts)) × (plain ≤ length (now d)) × (ascii (take (plain - from) (drop from (now d))) ≡ true) ⌝ }
+// Up to which place the bytes from a place on are known to be ASCII. They are looked at again 128 bytes behind what is known, unless the next
+// string's length or its first character isn't ASCII: so every byte is looked at a few times at most.
+fn plain_from(d: &[u8], at: usize, plain: usize) -> usize
+    requires { ⌜ (at ≤ length (now d)) × Plain (now d) at plain ⌝ }
+    ensures { λ r. ⌜ Plain (now (d .entry)) at r ⌝ }
+{
+    if plain <= at {
+        if 128 <= at - plain {
+            if 1 < d.len() - at {
+                if d[at] < 128 {
+                    if d[at + 1] < 128 {
+                        return at + utf8::ascii_front(&d[at..]);
+                    }
+                }
+            }
+        }
+    }
+    plain
+}
+
+// The strings of d from a place on, k of them and nothing behind. starts gets the place of each. The bytes up to the place `front` are ASCII.
+fn fill(d: &[u8], from: usize, k: usize, front: usize, starts: &mut [u32]) -> Checked
+    requires { ⌜ (from ≤ length (now d)) × (from ≤ 5) × (k ≤ 8192) × (k ≤ length (now starts)) × Plain (now d) from front ⌝ }
     ensures { λ r. ⌜ (r ≡ checked (allStrings k (drop from (now (d .entry))))) × (now (starts .exit) ≡ sets (now (starts .entry)) 0 (readStarts k from (drop from (now (d .entry))))) ⌝ }
 {
     let mut at = from;
     let mut i: usize = 0;
+    let mut plain = front;
     while i < k {
         let n = short(d, at, plain);
         if n < 128 {
@@ -61,8 +80,8 @@ fn fill(d: &[u8], from: usize, k: usize, plain: usize, starts: &mut [u32]) -> Ch
             at = at + (1 + n);
             i += 1;
         } else {
-            let front = behind(plain, at);
-            let t = texts::read_text_in(&d[at..], front);
+            let known = behind(plain, at);
+            let t = texts::read_text_in(&d[at..], known);
             match t {
                 Text::Refused(m) => {
                     return Checked::Refused(m);
@@ -71,6 +90,7 @@ fn fill(d: &[u8], from: usize, k: usize, plain: usize, starts: &mut [u32]) -> Ch
                     starts[i] = at as u32;
                     at = at + (a + m);
                     i += 1;
+                    plain = plain_from(d, at, plain);
                 }
             }
         }

@@ -1,3 +1,2 @@
 pub mod NextLaws
 pub mod UseLaws
-pub mod RenumberLaws

@@ -6,7 +6,3 @@ use lib.ListN.{getD}
 -- n more uses of any number can be counted
 pub record Fits (uses : List ℕ) (n : ℕ) : Type 0 where
   pub room : (k : ℕ) → getD uses k 0 + n ≤ 4294967295
-
--- every number is one that a count can carry
-pub record Small (table : List ℕ) : Type 0 where
-  pub carried : (k : ℕ) → getD table k 0 ≤ 2147483647

@@ -1,15 +1,13 @@
 // The mentions of a field counted, and its data with new pool numbers: how long they are, and the writing of them.
-use base::Wrote;
 use mentions::Mentioned;
 ghost use mathlib.Core.Path.{_≡_};
-ghost use mathlib.Core.List.{_++_};
 ghost use Prim.Native.Nat.{_≤_};
 ghost use lib.ListN.{length};
-ghost use Rattle.counts.specs.Count.{writeCount};
 ghost use Rattle.use_order.specs.Order.{mentionAll, newNumber};
 ghost use Rattle.mentions.specs.Content.{numbersOf, renumbered};
 ghost use Rattle.pieces.specs.View.{Put};
-ghost use Rattle.renumbering.specs.Table.{Fits, Small};
+ghost use Rattle.renumbered_runs.specs.Run.{Small};
+ghost use Rattle.renumbering.specs.Table.{Fits};
 
 // Counts the mentions in the data of a field with the ID i.
 pub fn count(i: u8, s: &[u8], uses: &mut [u32])
@@ -36,16 +34,6 @@ pub fn count(i: u8, s: &[u8], uses: &mut [u32])
     }
 }
 
-// The new number of k.
-fn renumber(table: &[u32], k: usize) -> u64
-    ensures { λ r. ⌜ r ≡ newNumber (now (table .entry)) k ⌝ }
-{
-    if k < table.len() {
-        return table[k] as u64;
-    }
-    0
-}
-
 // The length of the renumbered data of a field with the ID i.
 pub fn size(i: u8, s: &[u8], table: &[u32]) -> usize
     requires { ⌜ length (now s) ≤ 4194304 ⌝ }
@@ -55,39 +43,23 @@ pub fn size(i: u8, s: &[u8], table: &[u32]) -> usize
     let mut stage = mention_steps::first(i);
     let mut n: usize = 0;
     loop {
-        let m = mention_steps::next(s, at, stage);
+        let c = renumbered_runs::size_run(s, at, stage, table);
+        let place = c.place;
+        let behind_run = c.stage;
+        n += c.size;
+        let m = mention_steps::next(s, place, behind_run);
         match m {
             Mentioned::Nothing => {
-                return n + (s.len() - at);
+                return n + (s.len() - place);
             }
             Mentioned::Here(behind, v, p, e) => {
-                let k = renumber(table, v as usize);
-                n += (p - at) + counts::count_size(k);
+                let k = renumbered_runs::renumber(table, v as usize);
+                n += (p - place) + counts::count_size(k);
                 at = e;
                 stage = behind;
             }
         }
     }
-}
-
-// Writes a number as a count.
-pub fn write_number(v: u64, out: &mut [u8]) -> usize
-    requires { ⌜ (v ≤ 2147483647) × (length (writeCount v) ≤ length (now out)) ⌝ }
-    ensures { λ r. ⌜ Put (writeCount v) (now (out .entry)) r (now (out .exit)) ⌝ }
-{
-    match counts::write_count(v, out) {
-        Wrote::Refused(_) => 0,
-        Wrote::Length(n) => n,
-    }
-}
-
-// Writes the bytes before a mention, and its number.
-fn write_mention(s: &[u8], v: u64, out: &mut [u8]) -> usize
-    requires { ⌜ (v ≤ 2147483647) × (length (now s ++ writeCount v) ≤ length (now out)) ⌝ }
-    ensures { λ r. ⌜ Put (now (s .entry) ++ writeCount v) (now (out .entry)) r (now (out .exit)) ⌝ }
-{
-    let k = bytes::copy(s, out);
-    k + write_number(v, &mut out[k..])
 }
 
 // Writes the renumbered data of a field with the ID i.
@@ -99,14 +71,18 @@ pub fn write(i: u8, s: &[u8], table: &[u32], out: &mut [u8]) -> usize
     let mut stage = mention_steps::first(i);
     let mut w: usize = 0;
     loop {
-        let m = mention_steps::next(s, at, stage);
+        let c = renumbered_runs::write_run(s, at, stage, table, &mut out[w..]);
+        let place = c.place;
+        let behind_run = c.stage;
+        w += c.size;
+        let m = mention_steps::next(s, place, behind_run);
         match m {
             Mentioned::Nothing => {
-                return w + bytes::copy(&s[at..], &mut out[w..]);
+                return w + bytes::copy(&s[place..], &mut out[w..]);
             }
             Mentioned::Here(behind, v, p, e) => {
-                let k = renumber(table, v as usize);
-                w += write_mention(&s[at..p], k, &mut out[w..]);
+                let k = renumbered_runs::renumber(table, v as usize);
+                w += renumbered_runs::write_mention(&s[place..p], k, &mut out[w..]);
                 at = e;
                 stage = behind;
             }

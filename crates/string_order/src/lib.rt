@@ -25,13 +25,13 @@ fn compare_four(a: u8, b: u8, c: u8, d: u8, p: u8, q: u8, r: u8, s: u8) -> Order
 {
     let x = four(a, b, c, d);
     let y = four(p, q, r, s);
+    if x == y {
+        return Ordering::Equal;
+    }
     if x < y {
         return Ordering::Less;
     }
-    if y < x {
-        return Ordering::Greater;
-    }
-    Ordering::Equal
+    Ordering::Greater
 }
 
 fn smaller(a: usize, b: usize) -> usize

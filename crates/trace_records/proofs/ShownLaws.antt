@@ -1,19 +1,22 @@
--- Whether an answer has the offset shown. Assumes nothing.
-use mathlib.Core.Path.{_≡_, refl, ap, _∙_}
+-- Whether an answer has the offset shown, and how long the offset lasts. Assumes nothing.
+use mathlib.Core.Path.{_≡_, refl, sym, ap, _∙_}
 use mathlib.Core.Bool.{Bool, true, false}
 use mathlib.Core.List.{List}
-use Prim.Native.Nat.{ℕ}
+use Prim.Native.Nat.{ℕ, _≤_, _<_}
 use native.Mathlib.Omega.{arith}
 use lib.IntN.{ℤ, pos, negsuc}
 use lib.Signed.{ltZ}
 use borrow.Author.Tests.{ltb-false, le-ltb}
 use Rattle.base.specs.Pick.{pick}
+use Rattle.base.specs.Moment.{Finite}
 use Rattle.base.proofs.Tests.{never}
-use Rattle.signed.specs.Instant.{instantOf}
+use Rattle.signed.specs.Instant.{instantOf, InRange}
 use Rattle.signed.specs.OffsetSum.{millisecondsOf}
+use Rattle.signed.proofs.IntegerLaws.{instant-finite}
 use Rattle.pool.specs.Index.{roomOf}
 use Rattle.location_lookup.specs.Location.{lentPart}
 use Rattle.zones.specs.Parse.{parseZone}
+use Rattle.zones.specs.Intervals.{Holds}
 use Rattle.zones.specs.Lookup.{answerOf}
 use Rattle.zones.specs.declared.Edition.the-variants.{Two}
 use Rattle.zones.specs.declared.Found.{Found as Interval}
@@ -21,8 +24,10 @@ use Rattle.zones.specs.declared.Answer.{Answer as ZoneAnswer}
 use Rattle.zones.specs.declared.Answer.the-variants.{In as Inside, Refused as Denied}
 use Rattle.found_zones.specs.FoundZone.{askZone}
 use Rattle.found_zones.specs.declared.FoundZone.{FoundZone}
+use Rattle.found_zones.proofs.SameLaws.{found-holds, found-same}
 use Rattle.found_zones.proofs.AskLaws.{in-denied, in-found, zone-outside, zone-inside}
 use Rattle.trace_records.specs.Record.{sameAs, gives}
+use Rattle.trace_records.specs.Kept.{Lasts, OffsetAt}
 
 -- integers of which neither is less are equal
 not-less : (a b : ℤ) → ltZ a b ≡ false → ltZ b a ≡ false → a ≡ b
@@ -77,3 +82,34 @@ module _ (f : List ℕ) (v : FoundZone) (z shown : ℤ) (t : ℕ) (e : t ≡ ins
     pub shown-found : (x : Interval) → a ≡ Inside x → (r : Bool) → r ≡ sameAs (millisecondsOf (x .wall)) shown → r ≡ gives shown (askZone f v z Two)
     shown-found x h r k =
         k ∙ ap (gives shown) (zone-inside f v z Two t e inside _ (in-found f v Two t pool zone count a lent-pool counts lent-zone finds x h _ _ refl refl))
+
+-- at an instant
+module _ (f : List ℕ) (v : FoundZone) (t : ℕ) (g : Finite t) (pool zone : List ℕ) (count : ℕ) (a : ZoneAnswer)
+    (lent-pool : pool ≡ lentPart f (v .pool) (v .past)) (counts : count ≡ roomOf pool) (lent-zone : zone ≡ lentPart f (v .start) (v .end))
+    (finds : a ≡ answerOf Two t (parseZone count zone)) where
+  inside : t ≡ 0 → ⊥
+  inside e = omega (arith, g .low)
+
+  pub offset-none : (n : ℕ) → a ≡ Denied n → OffsetAt f v t (record { from = 0; to = 0; wall = pos 0 })
+  offset-none n h = record {
+    lasts = record { each = λ z w r l m. absurd (omega arith) };
+    begun = λ l. absurd (omega arith);
+    none = λ l z w e. shown-denied f v z w t e inside pool zone count a lent-pool counts lent-zone finds n h;
+  }
+
+  pub offset-found : (x : Interval) → a ≡ Inside x → (y : ℤ) → y ≡ millisecondsOf (x .wall) → OffsetAt f v t (record { from = x .start; to = x .end; wall = y })
+  offset-found x h y q = record {
+    lasts = record { each = each };
+    begun = λ l. now .from;
+    none = λ l z w e. absurd (omega (arith, now .to));
+  }
+    where
+      now : Holds x t
+      now = found-holds Two count zone t g x (parseZone count zone) refl (sym finds ∙ h)
+
+      each : (z w : ℤ) → InRange z → x .start ≤ instantOf z → instantOf z < x .end → sameAs y w ≡ gives w (askZone f v z Two)
+      each z w r l m =
+          let u = instant-finite (instantOf z) z refl r in
+          let e = found-same Two count zone t g x (parseZone count zone) refl (sym finds ∙ h) (instantOf z) u (record { from = l; to = m }) in
+          shown-found f v z w (instantOf z) refl r pool zone count (answerOf Two (instantOf z) (parseZone count zone)) lent-pool counts lent-zone refl x e (sameAs y w)
+          (ap (λ (o : ℤ). sameAs o w) q)

@@ -1,19 +1,19 @@
 // One record of a phone's trace. The zone found for its name is kept, so that the file isn't walked over again for another record of that name.
-use found_zones::Finding;
 use found_zones::FoundZone;
 use zones::Answer as ZoneAnswer;
 use zones::Edition;
 ghost use mathlib.Core.Path.{_≡_};
 ghost use Prim.Native.Nat.{_+_, _≤_, _<_};
 ghost use lib.ListN.{length};
-ghost use Rattle.zones.specs.declared.Edition.the-variants.{Two};
-ghost use Rattle.found_zones.specs.FoundZone.{askZone};
-ghost use Rattle.traces.specs.Trace.{nameStart, nameLength};
-ghost use Rattle.trace_records.specs.Record.{sameAs, gives, shows, agrees};
-ghost use Rattle.trace_records.specs.Kept.{nameBy, zoneOf, Keeps, KeptOk, IsName, Takes};
+ghost use Rattle.base.specs.Moment.{Finite};
+ghost use Rattle.found_zones.specs.FoundZone.{FindsZone};
+ghost use Rattle.found_zones.specs.declared.Finding.the-variants.{Zone as Here};
+ghost use Rattle.traces.specs.Trace.{nameStart, nameLength, nameAt};
+ghost use Rattle.trace_records.specs.Record.{sameAs, agrees};
+ghost use Rattle.trace_records.specs.Kept.{nameBy, keptZone, withOffset, KeptAs, OffsetAt, KeptOk, HasName, StillAgrees, Takes, TakesZone};
 
 // The zone found for a name: where the name starts among the names and its length, and where the data of field 0 and those of the zone start and
-// end in the file. An end of 0 is no zone.
+// end in the file. An end of 0 is no zone. With it the last wall offset that it gave, at each instant of `from` to before `to`.
 pub struct Kept {
     pub name: u32,
     pub len: u32,
@@ -21,6 +21,16 @@ pub struct Kept {
     pub past: u32,
     pub start: u32,
     pub end: u32,
+    pub from: u64,
+    pub to: u64,
+    pub wall: i64,
+}
+
+// A wall offset, at each instant of `from` to before `to`; of none, where both are 0.
+pub struct Lasting {
+    pub from: u64,
+    pub to: u64,
+    pub wall: i64,
 }
 
 // Whether a record agrees with the file, and the zone kept for its name.
@@ -41,19 +51,24 @@ fn same(a: i64, b: i64) -> bool
     true
 }
 
-// Whether the question on a found zone gives the wall offset shown. The interval's name isn't looked for.
-fn zone_shows(f: &[u8], v: FoundZone, instant: i64, shown: i64) -> bool
-    ensures { λ r. ⌜ r ≡ gives shown (askZone (now (f .entry)) v instant Two) ⌝ }
+// The wall offset that the question on a found zone gives at an instant; none where it is refused. The interval's name isn't looked for.
+fn offset_at(f: &[u8], v: FoundZone, t: u64) -> Lasting
+    requires { ⌜ Finite t ⌝ }
+    ensures { λ r. ⌜ OffsetAt (now (f .entry)) v t r ⌝ }
 {
-    let t = signed::instant(instant);
-    if t == 0 {
-        return false;
-    }
     let count = pool::room(location_lookup::lent(f, v.pool, v.past));
     let zone = location_lookup::lent(f, v.start, v.end);
     match zone_lookups::find(zone, count as u64, t, Edition::Two) {
-        ZoneAnswer::Refused(_) => false,
-        ZoneAnswer::In(x) => same(signed::milliseconds(x.wall), shown),
+        ZoneAnswer::Refused(_) => Lasting {
+            from: 0,
+            to: 0,
+            wall: 0,
+        },
+        ZoneAnswer::In(x) => Lasting {
+            from: x.start,
+            to: x.end,
+            wall: signed::milliseconds(x.wall),
+        },
     }
 }
 
@@ -67,11 +82,14 @@ pub fn none_kept() -> Kept
         past: 0,
         start: 0,
         end: 0,
+        from: 0,
+        to: 0,
+        wall: 0,
     }
 }
 
-fn zone_of(k: Kept) -> FoundZone
-    ensures { λ r. ⌜ r ≡ zoneOf k ⌝ }
+fn kept_zone(k: Kept) -> FoundZone
+    ensures { λ r. ⌜ r ≡ keptZone k ⌝ }
 {
     FoundZone {
         pool: k.pool as usize,
@@ -85,7 +103,7 @@ fn zone_of(k: Kept) -> FoundZone
 // A found zone is kept if its places have 32 bits, as those in every file do.
 fn kept_by(name: u64, len: u64, v: FoundZone) -> Kept
     requires { ⌜ (name < 4294967296) × (len < 4294967296) ⌝ }
-    ensures { λ r. ⌜ Keeps name len v r ⌝ }
+    ensures { λ r. ⌜ KeptAs name len v r ⌝ }
 {
     if 4294967295 < v.pool {
         return none_kept();
@@ -106,20 +124,62 @@ fn kept_by(name: u64, len: u64, v: FoundZone) -> Kept
         past: v.past as u32,
         start: v.start as u32,
         end: v.end as u32,
+        from: 0,
+        to: 0,
+        wall: 0,
     }
 }
 
-// Whether a zone is kept for the name of so many bytes at a start among the names.
-fn is_name(s: &[u8], names: usize, start: u64, len: u64, k: Kept) -> bool
-    requires { ⌜ (names + (start + len) ≤ length (now s)) × (0 < k .end → names + (k .name + k .len) ≤ length (now s)) ⌝ }
-    ensures { λ r. ⌜ IsName names (now (s .entry)) start len k r ⌝ }
+// The kept zone with another offset.
+fn with_offset(k: Kept, x: Lasting) -> Kept
+    ensures { λ r. ⌜ r ≡ withOffset k x ⌝ }
+{
+    Kept {
+        name: k.name,
+        len: k.len,
+        pool: k.pool,
+        past: k.past,
+        start: k.start,
+        end: k.end,
+        from: x.from,
+        to: x.to,
+        wall: x.wall,
+    }
+}
+
+// A record of the zone v, which k is kept for, by its instant and the offset shown.
+fn take_zone(f: &[u8], v: FoundZone, k: Kept, t: u64, shown: i64) -> Taken
+    requires { ⌜ Finite t ⌝ }
+    ensures { λ r. ⌜ TakesZone (now (f .entry)) v k t shown r ⌝ }
+{
+    let x = offset_at(f, v, t);
+    let new = with_offset(k, x);
+    if t < x.to {
+        let b = same(x.wall, shown);
+        return Taken {
+            agrees: b,
+            kept: new,
+        };
+    }
+    Taken {
+        agrees: false,
+        kept: new,
+    }
+}
+
+// Whether a zone is kept for the name of the record at a place of the trace s, whose names stand at `names`.
+pub fn has_name(s: &[u8], names: usize, at: usize, k: Kept) -> bool
+    requires { ⌜ (at + 20 ≤ length (now s)) × (names + (nameStart at (now s) + nameLength at (now s)) ≤ length (now s)) × (0 < k .end → names + (k .name + k .len) ≤ length (now s)) ⌝ }
+    ensures { λ r. ⌜ HasName names (now (s .entry)) at k r ⌝ }
 {
     if k.end == 0 {
         return false;
     }
+    let len = traces::four_at(s, at + 12);
     if k.len as u64 != len {
         return false;
     }
+    let start = traces::four_at(s, at + 8);
     if k.name as u64 == start {
         return true;
     }
@@ -130,53 +190,70 @@ fn is_name(s: &[u8], names: usize, start: u64, len: u64, k: Kept) -> bool
     strings::same(&s[a..c], &s[b..d])
 }
 
-// A record by its numbers, whose zone is to be found.
-fn take_new(
-    f: &[u8],
-    s: &[u8],
-    names: usize,
-    start: u64,
-    len: u64,
-    instant: i64,
-    shown: i64,
-) -> Taken
-    requires { ⌜ (start < 4294967296) × (len < 4294967296) × (names + (start + len) ≤ length (now s)) ⌝ }
-    ensures { λ r. ⌜ Takes (now (f .entry)) names (now (s .entry)) (shows (now (f .entry)) (nameBy names start len (now (s .entry))) instant shown) r ⌝ }
+// Whether the record at a place has the name that a zone is kept for and shows the offset that is kept, at one of its instants. It agrees then.
+pub fn still_agrees(s: &[u8], names: usize, at: usize, k: Kept) -> bool
+    requires { ⌜ (at + 20 ≤ length (now s)) × (names + (nameStart at (now s) + nameLength at (now s)) ≤ length (now s)) × (0 < k .end → names + (k .name + k .len) ≤ length (now s)) ⌝ }
+    ensures { λ r. ⌜ StillAgrees names (now (s .entry)) at k r ⌝ }
 {
-    let from = names + start as usize;
-    let to = from + len as usize;
-    match found_zones::find_zone(f, &s[from..to]) {
-        Finding::Refused(_, _) => {
-            let k = none_kept();
-            Taken {
-                agrees: false,
-                kept: k,
-            }
-        }
-        Finding::Zone(v) => {
-            let k = kept_by(start, len, v);
-            let b = zone_shows(f, v, instant, shown);
-            Taken { agrees: b, kept: k }
-        }
+    let instant = traces::signed_eight_at(s, at);
+    let t = signed::instant(instant);
+    if t == 0 {
+        return false;
     }
+    if t < k.from {
+        return false;
+    }
+    if k.to <= t {
+        return false;
+    }
+    let shown = traces::signed_four_at(s, at + 16);
+    if same(k.wall, shown) {
+        return has_name(s, names, at, k);
+    }
+    false
 }
 
-// The record at a place of the trace s, whose names stand at `names`, by a zone that may be kept for its name.
-pub fn take_record(f: &[u8], s: &[u8], names: usize, at: usize, old: Kept) -> Taken
-    requires { ⌜ (at + 20 ≤ length (now s)) × (names + (nameStart at (now s) + nameLength at (now s)) ≤ length (now s)) × KeptOk (now f) names (now s) old ⌝ }
+// The record at a place, of the zone kept for its name.
+pub fn take_same(f: &[u8], s: &[u8], names: usize, at: usize, k: Kept) -> Taken
+    requires { ⌜ (at + 20 ≤ length (now s)) × (0 < k .end) × (nameBy names (k .name) (k .len) (now s) ≡ nameAt names at (now s)) × KeptOk (now f) names (now s) k ⌝ }
     ensures { λ r. ⌜ Takes (now (f .entry)) names (now (s .entry)) (agrees (now (f .entry)) names (now (s .entry)) at) r ⌝ }
 {
     let instant = traces::signed_eight_at(s, at);
-    let start = traces::four_at(s, at + 8);
-    let len = traces::four_at(s, at + 12);
-    let shown = traces::signed_four_at(s, at + 16);
-    if is_name(s, names, start, len, old) {
-        let v = zone_of(old);
-        let b = zone_shows(f, v, instant, shown);
+    let t = signed::instant(instant);
+    if t == 0 {
         return Taken {
-            agrees: b,
-            kept: old,
+            agrees: false,
+            kept: k,
         };
     }
-    take_new(f, s, names, start, len, instant, shown)
+    let shown = traces::signed_four_at(s, at + 16);
+    if t < k.to {
+        if k.from <= t {
+            let b = same(k.wall, shown);
+            return Taken { agrees: b, kept: k };
+        }
+    }
+    let v = kept_zone(k);
+    take_zone(f, v, k, t, shown)
+}
+
+// The record at a place, of the zone v, which was found for its name.
+pub fn take_found(f: &[u8], s: &[u8], names: usize, at: usize, v: FoundZone) -> Taken
+    requires { ⌜ (at + 20 ≤ length (now s)) × (names + (nameStart at (now s) + nameLength at (now s)) ≤ length (now s)) × FindsZone (now f) (nameAt names at (now s)) (Here v) ⌝ }
+    ensures { λ r. ⌜ Takes (now (f .entry)) names (now (s .entry)) (agrees (now (f .entry)) names (now (s .entry)) at) r ⌝ }
+{
+    let instant = traces::signed_eight_at(s, at);
+    let t = signed::instant(instant);
+    if t == 0 {
+        let none = none_kept();
+        return Taken {
+            agrees: false,
+            kept: none,
+        };
+    }
+    let shown = traces::signed_four_at(s, at + 16);
+    let start = traces::four_at(s, at + 8);
+    let len = traces::four_at(s, at + 12);
+    let k = kept_by(start, len, v);
+    take_zone(f, v, k, t, shown)
 }

@@ -24,8 +24,9 @@ pub fn signed_eight_at(s: &[u8], at: usize) -> i64
     requires { ⌜ at + 8 ≤ length (now s) ⌝ }
     ensures { λ r. ⌜ r ≡ toZ w64 (numberAt 8 at (now (s .entry))) ⌝ }
 {
-    let v = counts::fixed_from(&s[at..], 8, 0);
-    signed_64(v)
+    let high = four_at(s, at);
+    let low = four_at(s, at + 4);
+    signed_64(high * 4294967296 + low)
 }
 
 // The number of the four bytes at a place, as a signed one.

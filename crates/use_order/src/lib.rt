@@ -58,7 +58,7 @@ pub fn ordered(uses: &[u32], order: &mut [u64], room: &mut [u64]) -> usize
 }
 
 // Stores v at the place k, where there is such a place.
-fn store(numbers: &mut [u32], k: usize, v: u32)
+pub fn store(numbers: &mut [u32], k: usize, v: u32)
     ensures { λ _. ⌜ now (numbers .exit) ≡ set (now (numbers .entry)) k v ⌝ }
 {
     if k < numbers.len() {

@@ -70,7 +70,7 @@ fn look_up(s: &[u8], pool: u64, t: u64) {
 }
 
 fn run_zone(s: &[u8], pool: u64, text: &[u8]) {
-    show_verdict(zone_lookups::check(s, pool));
+    show_verdict(zone_checks::check(s, pool));
     if !is_dash(text) {
         look_up(s, pool, signed::instant(cases::integer(text)));
     }

@@ -24,7 +24,8 @@ use Rattle.places.proofs.PlaceLaws.{on, here, stands-else}
 use Rattle.places.proofs.ShortLaws.{reads, half-hours}
 use Rattle.mentions.specs.declared.Stage.the-variants.{Interval}
 use Rattle.mentions.specs.Walk.{behindStart, behindDetails}
-use Rattle.zone_mentions.specs.Short.{HoursAt, ShortAt}
+use Rattle.zone_mentions.specs.declared.Start.{Start}
+use Rattle.zone_mentions.specs.Short.{HoursAt, ShortAt, StartAt}
 
 pub no-hours : (s : List ℕ) (place prev : ℕ) → HoursAt s place prev 0
 no-hours s place prev = record { moment = λ z. absurd (z refl) }
@@ -86,3 +87,18 @@ short-at s place prev m h a b r =
           (on (rw two at (half-hours-at s (place + 1) (omega arith) b)) _ _ _ _ refl
           (on (rw four at (r .moment z)) _ _ _ _ refl (stands-else _ _ _ _ _ (ne-eqb left 0 n) (here _ _ _ _ refl h))));
     }
+
+-- ---- codes of any length
+pub no-start : (s : List ℕ) (place prev : ℕ) (r : Start) → r .place ≡ 0 → StartAt s place prev r
+no-start s place prev r e = record { ahead = λ z. absurd (z e) }
+
+pub start-behind : (s : List ℕ) (place prev x a y b m e : ℕ) → Stands s (parse readSum (drop place s)) (at x a) → Stands s (parse readSum (drop a s)) (at y b)
+    → Stands s (parse (readMoment prev) (drop b s)) (at m e) → StartAt s place prev (record { start = m; place = e })
+unfolding behindDetails behindStart
+start-behind s place prev x a y b m e h i j =
+    record {
+      ahead = λ z left n. on h _ _ _ _ refl (on i _ _ _ _ refl (on j _ _ _ _ refl (stands-else _ _ _ _ _ (ne-eqb left 0 n) (here _ _ _ _ refl (j .within)))));
+    }
+
+pub short-is : (s : List ℕ) (place prev m : ℕ) → ShortAt s place prev m → 0 < m → StartAt s place prev (record { start = m; place = place + 4 })
+short-is s place prev m a h = record { ahead = λ z left n. a .ahead (λ y. omega arith) left n }

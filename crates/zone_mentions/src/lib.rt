@@ -9,11 +9,13 @@ use transitions::HOUR;
 ghost use mathlib.Core.Path.{_≡_};
 ghost use Prim.Native.Nat.{_+_, _≤_};
 ghost use lib.ListN.{length, drop};
-ghost use Rattle.places.specs.Placed.{Stands};
+ghost use Rattle.base.specs.Parsed.{parse};
+ghost use Rattle.transitions.specs.Transition.{readMoment};
+ghost use Rattle.places.specs.Placed.{Stands, ofRead};
 ghost use Rattle.places.specs.Short.{halfHours};
 ghost use Rattle.mentions.specs.Walk.{behindRule, behindEnd, behindStart, behindDetails, behindOffset, behindIntervalCount, behindId};
 ghost use Rattle.mentions.specs.View.{ofSkipped};
-ghost use Rattle.zone_mentions.specs.Short.{HoursAt, ShortAt};
+ghost use Rattle.zone_mentions.specs.Short.{HoursAt, ShortAt, StartAt};
 
 // Behind the standard name of a tail: its rule.
 pub fn behind_rule(s: &[u8], at: usize) -> Skipped
@@ -179,4 +181,60 @@ pub fn short_start(s: &[u8], at: usize, prev: u64) -> u64
         }
     }
     0
+}
+
+// The start of an interval and the place behind it, where its name stands.
+pub struct Start {
+    pub start: u64,
+    pub place: usize,
+}
+
+// A start after prev at a place. Ticks take no call. It has one caller, so that the compiler puts it there whole.
+fn moment_at(s: &[u8], at: usize, prev: u64) -> Read
+    requires { ⌜ at ≤ length (now s) ⌝ }
+    ensures { λ r. ⌜ Stands (now (s .entry)) (parse (readMoment prev) (drop at (now (s .entry)))) (ofRead r) ⌝ }
+{
+    if s.len() - at < 9 {
+        return places::moment_at(s, at, prev);
+    }
+    if s[at] == 2 {
+        let raw = counts::fixed_from(&s[at + 1..], 8, 0);
+        let t = signed::from_raw(raw);
+        if t != 0 {
+            return Read::Value(t, at + 9);
+        }
+    }
+    places::moment_at(s, at, prev)
+}
+
+// Behind the name of an interval that starts at prev: the start of the next, code by code; the place 0 where there is none.
+pub fn any_start(s: &[u8], at: usize, prev: u64) -> Start
+    requires { ⌜ at ≤ length (now s) ⌝ }
+    ensures { λ r. ⌜ StartAt (now (s .entry)) at prev r ⌝ }
+{
+    match places::sum_at(s, at) {
+        Read::Refused(_) => Start { start: 0, place: 0 },
+        Read::Value(_, a) => match places::sum_at(s, a) {
+            Read::Refused(_) => Start { start: 0, place: 0 },
+            Read::Value(_, b) => match moment_at(s, b, prev) {
+                Read::Refused(_) => Start { start: 0, place: 0 },
+                Read::Value(m, e) => Start { start: m, place: e },
+            },
+        },
+    }
+}
+
+// The same. Codes of four bytes, the usual ones, are told by few tests.
+pub fn next_start(s: &[u8], at: usize, prev: u64) -> Start
+    requires { ⌜ at ≤ length (now s) ⌝ }
+    ensures { λ r. ⌜ StartAt (now (s .entry)) at prev r ⌝ }
+{
+    let m = short_start(s, at, prev);
+    if 0 < m {
+        return Start {
+            start: m,
+            place: at + 4,
+        };
+    }
+    any_start(s, at, prev)
 }

@@ -14,13 +14,13 @@ pub fn take_zone(
     a: usize,
     e: usize,
     index: &[u32; 8192],
-    order: &mut [u16; 8192],
+    order: &mut [u16; 8449],
     flags: &mut [u8],
 ) -> Taken
     requires { ⌜ (a ≤ e) × (e ≤ length (now s)) × Indexed (now s) k (now index) × Ordered (now s) k (now order) ⌝ }
     ensures { λ r. ⌜ TookZone (now (s .entry)) k a e (now (index .entry)) (now (order .entry)) (now (order .exit)) r × FlagsTaken (now (s .entry)) 1 a e (now (flags .entry)) (now (flags .exit)) r ⌝ }
 {
-    let v = zone_lookups::check_form(&s[a..e], k.count as u64, 0 < flags.len());
+    let v = zone_checks::check_form(&s[a..e], k.count as u64, 0 < flags.len());
     match v {
         ZoneForm::Refused(n) => Taken::Refused(n),
         ZoneForm::Good(id, preferred) => {

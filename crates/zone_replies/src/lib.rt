@@ -1,9 +1,11 @@
-// What the C functions say of a zone found once: its five numbers, and the zone that five numbers stand for.
+// What the C functions say of a zone found once: its five numbers, the zone that five numbers stand for, and how many rows a table of its answers has.
+use answer_tables::Listed;
 use found_zones::Finding;
 use found_zones::FoundZone;
 ghost use mathlib.Core.Path.{_≡_};
-ghost use Rattle.zone_replies.specs.Zones.{GivesZone, zoneBy};
-ghost use Rattle.zone_replies.specs.Small.{SmallFinding};
+ghost use Rattle.replies.specs.Reply.{Gives};
+ghost use Rattle.zone_replies.specs.Zones.{GivesZone, zoneBy, listedReply};
+ghost use Rattle.zone_replies.specs.Small.{SmallFinding, SmallListed};
 
 // The numbers of a found zone.
 pub fn give_zone(x: Finding, out: &mut [u64; 5]) -> u64
@@ -40,5 +42,19 @@ pub fn zone_by(x: &[u64; 5]) -> FoundZone
         start: start as usize,
         end: end as usize,
         place: place as usize,
+    }
+}
+
+// How many rows a table of answers has.
+pub fn give_listed(x: Listed, count: &mut [i64; 1]) -> u64
+    requires { ⌜ SmallListed x ⌝ }
+    ensures { λ r. ⌜ Gives (listedReply x) (now (count .entry)) r (now (count .exit)) ⌝ }
+{
+    match x {
+        Listed::Rows(n) => {
+            *count = [n as i64];
+            0
+        }
+        Listed::Refused(n, p) => replies::refusal(n, p),
     }
 }

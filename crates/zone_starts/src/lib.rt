@@ -48,7 +48,7 @@ fn fill_listed(s: &[u8], at: usize, pool: u64, n: u64, out: &mut [i64]) -> ZoneS
     requires { ⌜ ListedAt pool (now s) n at ⌝ }
     ensures { λ r. ⌜ Fills (parseZone pool (now (s .entry))) (now (out .entry)) r (now (out .exit)) ⌝ }
 {
-    match zone_lookups::check(s, pool) {
+    match zone_checks::check(s, pool) {
         ZoneVerdict::Refused(k) => ZoneStarts::Refused(k),
         ZoneVerdict::Good(_) => {
             if (out.len() as u64) < n {

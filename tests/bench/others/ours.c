@@ -1,5 +1,6 @@
-/* FILE ask|zone|kept ROUNDS QUESTIONS ZONE...: asks the library for the offsets of the zones in turn: each time anew, of zones that were
-   found once, or over tables that are kept. Prints their sum in seconds, and the least time of a question in ns. */
+/* FILE ask|zone|kept|listed ROUNDS QUESTIONS ZONE...: asks the library for the offsets of the zones in turn: each time anew, of zones that
+   were found once, over tables of starts that are kept, or over tables of answers. Prints their sum in seconds, and the least time of a
+   question in ns. */
 #define _POSIX_C_SOURCE 200809L
 #include <inttypes.h>
 #include <nzd.h>
@@ -21,6 +22,11 @@ static struct kept {
 } kept[16];
 
 static struct nzd_zone found[16];
+
+/* The answers of a found zone up to 2040 and some behind. */
+#define ROWS 400
+static int64_t rows[16][7 * ROWS];
+static int64_t count[16];
 
 static void fail(const char *what) {
     fprintf(stderr, "ours: %s\n", what);
@@ -61,6 +67,18 @@ static int64_t of_found(const struct nzd_zone *z, int64_t ticks) {
     return out.wall_ms;
 }
 
+static void list(const char *zone, int at) {
+    find(zone, &found[at]);
+    uint64_t r = nzd_list_answers(file, n, &found[at], NZD_FIRST_INSTANT, false, rows[at], 7 * ROWS, &count[at]);
+    if (r != NZD_ANSWERED) fail(nzd_words(nzd_number_of(r)));
+}
+
+static int64_t of_listed(int at, int64_t ticks) {
+    struct nzd_answer out;
+    if (nzd_ask_listed(file, n, &found[at], rows[at], 7 * (size_t)count[at], ticks, false, &out) != NZD_ANSWERED) fail("no zone");
+    return out.wall_ms;
+}
+
 static double now(void) {
     struct timespec t;
     clock_gettime(CLOCK_MONOTONIC, &t);
@@ -68,7 +86,7 @@ static double now(void) {
 }
 
 int main(int argc, char **argv) {
-    if (argc < 6 || argc > 21) fail("takes FILE ask|zone|kept ROUNDS QUESTIONS and up to 16 zones");
+    if (argc < 6 || argc > 21) fail("takes FILE ask|zone|kept|listed ROUNDS QUESTIONS and up to 16 zones");
     FILE *in = fopen(argv[1], "rb");
     if (in == NULL) fail(argv[1]);
     n = fread(file, 1, sizeof file, in);
@@ -79,6 +97,7 @@ int main(int argc, char **argv) {
     for (int i = 0; i < zones; i++) {
         if (mode == 'k') keep(zone[i], &kept[i]);
         if (mode == 'z') find(zone[i], &found[i]);
+        if (mode == 'l') list(zone[i], i);
     }
     double least = 1e18;
     int64_t sum = 0;
@@ -88,7 +107,10 @@ int main(int argc, char **argv) {
         for (int i = 0; i < questions; i++) {
             int at = i % zones;
             int64_t ticks = INT64_C(1700000) * i * NZD_TICKS_PER_SECOND;
-            int64_t ms = mode == 'k' ? of_kept(zone[at], &kept[at], ticks) : mode == 'z' ? of_found(&found[at], ticks) : ask(zone[at], ticks).wall_ms;
+            int64_t ms = mode == 'k'   ? of_kept(zone[at], &kept[at], ticks)
+                         : mode == 'z' ? of_found(&found[at], ticks)
+                         : mode == 'l' ? of_listed(at, ticks)
+                                       : ask(zone[at], ticks).wall_ms;
             sum += ms / 1000;
         }
         double time = (now() - start) / questions;

@@ -75,12 +75,12 @@ pub fn table(only: &Only) -> Result<(), String> {
 }
 
 /// First, middle and last zone at a listed instant; of the zones with a tail the same at an instant in it; the first and the last of
-/// each found before; a zone that isn't there; all intervals of a zone. Then local times of those asked first.
+/// each found before, and over tables of their answers; a zone that isn't there; all intervals of a zone. Then local times of those asked first.
 fn questions(content: &FileContent) -> Vec<(String, Work)> {
     let zones: Vec<&Zone> = content.zones.iter().collect();
     let has_tail = |zone: &&Zone| matches!(&zone.rest, Rest::Listed { tail: Some(_), .. });
     let with_tail: Vec<&Zone> = zones.iter().copied().filter(has_tail).collect();
-    let (mut questions, mut found, mut locals) = (Vec::new(), Vec::new(), Vec::new());
+    let (mut questions, mut found, mut listed, mut locals) = (Vec::new(), Vec::new(), Vec::new(), Vec::new());
     for (kind, zones, ticks) in [("listed", &zones, LISTED), ("in the tail", &with_tail, IN_TAIL)] {
         let last = zones.len() - 1;
         for (place, number) in [("first", 0), ("middle", last / 2), ("last", last)] {
@@ -89,11 +89,18 @@ fn questions(content: &FileContent) -> Vec<(String, Work)> {
             questions.push((format!("question, {which}"), Work::Ask { id: id.clone(), ticks, edition: Two }));
             if place != "middle" {
                 found.push((format!("question of a found zone, {which}"), Work::AskZone { id: id.clone(), ticks }));
+                listed.push((format!("question over a table, {which}"), Work::AskListed { id: id.clone(), ticks }));
             }
             locals.push((format!("local time, {which}"), Work::MapLocal { id, local: ticks }));
         }
     }
     questions.extend(found);
+    questions.extend(listed);
+    if let Some(zone) = with_tail.last() {
+        let id = content.id(zone).to_vec();
+        let what = format!("table of 1,000 answers, last zone with a tail (`{}`)", String::from_utf8_lossy(&id));
+        questions.push((what, Work::ListAnswers { id }));
+    }
     let absent = Work::Ask { id: b"No/Such_Zone".to_vec(), ticks: LISTED, edition: Two };
     questions.push(("question, absent zone".to_string(), absent));
     // Under edition 1: the last fixed zone, or the last of all.

@@ -1,5 +1,5 @@
-//! What is measured: normalizing, with room and without, a question by ID, by name or of a found zone, all intervals of a zone, a local
-//! time, a location, all countries of a field, a file in pieces, or a tool, by the library and by the peer; and the floor, which memory sets.
+//! What is measured: normalizing, with room and without, a question by ID, by name, of a found zone or over a table, such a table, all
+//! intervals of a zone, a local time, a location, all countries of a field, a file in pieces, or a tool, by the library and by the peer; and the floor, which memory sets.
 
 use crate::measure::Piece;
 use crate::tools::Tool;
@@ -26,6 +26,15 @@ pub enum Work {
     AskZone {
         id: Vec<u8>,
         ticks: i64,
+    },
+    /// A question over a table of a found zone's answers that was made before.
+    AskListed {
+        id: Vec<u8>,
+        ticks: i64,
+    },
+    /// A table of a found zone's answers.
+    ListAnswers {
+        id: Vec<u8>,
     },
     /// All intervals of a zone from year 1 on, each asked for at the end of the one before.
     Intervals {
@@ -108,6 +117,17 @@ impl Work {
                 let ours = said(nzd::Zone::find(file, id).and_then(|zone| zone.ask(*ticks, Edition::Two)));
                 ours == peer_said(peer::Zone::find(file, id).and_then(|zone| zone.ask(*ticks, false)))
             }
+            Work::AskListed { id, ticks } => match (table(file, id, room()), PeerTable::find(file, id)) {
+                (Ok(ours), Ok(theirs)) => said(ours.ask(*ticks)) == peer_said(theirs.ask(*ticks)),
+                _ => false,
+            },
+            Work::ListAnswers { id } => match (table(file, id, room()), PeerTable::find(file, id)) {
+                (Ok(ours), Ok(theirs)) => {
+                    let same = |row: &peer::Answer| said(ours.ask(row.end - 1)) == peer_said(Ok(*row));
+                    ours.count() == theirs.rows.len() && theirs.rows.iter().filter(|row| row.end < i64::MAX).all(same)
+                }
+                _ => false,
+            },
             Work::Intervals { id } => intervals(file, id) == peer_intervals(file, id),
             Work::AskNamedOld { older, name, ticks } => {
                 let ours = said(nzd::ask_named_old(file, older, name, *ticks, Edition::Two));
@@ -171,6 +191,27 @@ impl Work {
                     }),
                 ]
             }
+            Work::AskListed { id, ticks } => {
+                let (ours, theirs) = (table(file, id, room()).ok(), PeerTable::find(file, id).ok());
+                [
+                    piece(move || black_box(&ours).map(|table| table.ask(black_box(*ticks)))),
+                    piece(move || {
+                        let table = black_box(&theirs).as_ref();
+                        black_box(table.map(|table| table.ask(black_box(*ticks))));
+                    }),
+                ]
+            }
+            Work::ListAnswers { id } => {
+                let (zone, mut theirs) = (nzd::Zone::find(file, id).ok(), PeerTable::find(file, id).ok());
+                let room = room();
+                [
+                    piece(move || {
+                        let zone = black_box(&zone).as_ref();
+                        zone.map(|zone| zone.table(nzd::FIRST_INSTANT, Edition::Two, room).map(|table| table.count()))
+                    }),
+                    piece(move || theirs.as_mut().map(|table| black_box(table).list())),
+                ]
+            }
             Work::Intervals { id } => [
                 piece(move || intervals(black_box(file), black_box(id))),
                 piece(move || peer_intervals(black_box(file), black_box(id))),
@@ -228,6 +269,41 @@ pub fn floor(file: &[u8]) -> [Piece<'_>; 2] {
 /// An output as long as the file, or none.
 fn output(file: &[u8], room: bool) -> Vec<u8> {
     vec![0; if room { file.len() } else { 0 }]
+}
+
+/// How many answers a table has, at most: of a zone with a tail those up to the year 2400 or so.
+const ROWS: usize = 1000;
+
+/// Room for a table, which lasts as long as the program.
+fn room() -> &'static mut [i64] {
+    vec![0; ROWS * nzd::ROW_NUMBERS].leak()
+}
+
+/// A table of a zone's answers from year 1 on.
+fn table<'a, 'r>(file: &'a [u8], id: &[u8], room: &'r mut [i64]) -> Result<nzd::ZoneTable<'a, 'r>, nzd::Error> {
+    nzd::Zone::find(file, id)?.table(nzd::FIRST_INSTANT, Edition::Two, room)
+}
+
+/// The peer's, which has it in a list of its own.
+struct PeerTable<'a> {
+    zone: peer::Zone<'a>,
+    rows: Vec<peer::Answer<'a>>,
+}
+
+impl<'a> PeerTable<'a> {
+    fn find(file: &'a [u8], id: &[u8]) -> Result<Self, peer::Refusal> {
+        let mut found = PeerTable { zone: peer::Zone::find(file, id)?, rows: Vec::with_capacity(ROWS) };
+        found.list()?;
+        Ok(found)
+    }
+
+    fn list(&mut self) -> Result<(), peer::Refusal> {
+        self.zone.list(nzd::FIRST_INSTANT, false, ROWS, &mut self.rows)
+    }
+
+    fn ask(&self, ticks: i64) -> Result<peer::Answer<'a>, peer::Refusal> {
+        self.zone.ask_listed(&self.rows, ticks, false)
+    }
 }
 
 /// How many intervals a zone has that hold an instant, and the sum of their wall offsets.

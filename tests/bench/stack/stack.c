@@ -130,6 +130,16 @@ static void find_zone(void) {
 static void ask_zone(void) {
     nzd_ask_zone(file->at, file->n, &zone, LATE, false, &answer);
 }
+static void list_answers(void) {
+    nzd_list_answers(file->at, file->n, &zone, NZD_FIRST_INSTANT, false, numbers, 80000, &count);
+}
+static void ask_listed(void) {
+    nzd_ask_listed(file->at, file->n, &zone, numbers, 7 * (size_t)count, 0, false, &answer);
+}
+/* Without a row: the question on the zone. */
+static void ask_unlisted(void) {
+    nzd_ask_listed(file->at, file->n, &zone, numbers, 0, LATE, false, &answer);
+}
 static void map_zone_local(void) {
     struct nzd_local local;
     nzd_map_zone_local(file->at, file->n, &zone, LATE, &local);
@@ -175,6 +185,9 @@ static const struct {
     {"nzd_map_local", map_local},
     {"nzd_find_zone", find_zone},
     {"nzd_ask_zone", ask_zone},
+    {"nzd_list_answers", list_answers},
+    {"nzd_ask_listed", ask_listed},
+    {"nzd_ask_listed, without a row", ask_unlisted},
     {"nzd_map_zone_local", map_zone_local},
     {"nzd_location", location},
     {"nzd_version_text", version_text},

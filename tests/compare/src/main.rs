@@ -21,6 +21,7 @@ mod questions;
 mod receiver;
 mod starts;
 mod sweeps;
+mod tables;
 mod tally;
 mod tools;
 mod traces;

@@ -11,11 +11,13 @@ const NUMBERS: usize = 23;
 /// The number of a question line that isn't understood: the library gives all but this.
 const PROGRAM_ONLY: usize = 16;
 /// Numbers that these functions themselves must have given. Those of a file are any question's or the check's.
-const OF_FUNCTIONS: [(&str, &[u8]); 5] = [
+const OF_FUNCTIONS: [(&str, &[u8]); 7] = [
     ("difference", &[0, 2, 12, 14, 15]),
     ("replay", &[0, 21]),
     ("interval_starts", &[0, 2, 12, 15]),
     ("find_start", &[0, 12]),
+    ("list_answers", &[0, 7, 8, 9, 10, 14, 15]),
+    ("ask_listed", &[0, 14]),
     ("close_pool", &[0, 4, 5, 15, 22]),
 ];
 /// How many bytes of a file are shown with a difference.

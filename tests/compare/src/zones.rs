@@ -1,8 +1,10 @@
-//! Zones found once and the questions on them, by the C functions and by the wrapper; and questions on any five numbers.
+//! Zones found once, the questions on them and tables of their answers, by the C functions and by the wrapper; and the same on any five
+//! numbers.
 
 use crate::cases::{hex, zone_file};
 use crate::lent;
 use crate::questions::{numbers_of, other_ids, wrapped_numbers, EDITIONS};
+use crate::tables;
 use crate::tally::{Difference, Outcome, Tally};
 use crate::whole::pair;
 use nzd::ffi;
@@ -47,17 +49,21 @@ fn five(file: &[u8], id: &[u8]) -> Result<Outcome<Five>, Difference> {
 }
 
 /// Finds a zone and asks it: what comes is the question's, where the bytes are all there is. Gives the zone where there is one.
-fn find(tally: &mut Tally, file: &[u8], id: &[u8], asked: &[i64]) -> Result<Option<Five>, Difference> {
+fn find(tally: &mut Tally, file: &[u8], id: &[u8], asked: &[i64], prng: &mut Prng) -> Result<Option<Five>, Difference> {
     let text = id.escape_ascii().to_string();
     let found = five(file, id)?;
     let theirs = second_reader::ask(file, id, 0, Mark::ThisIsAll, Edition::Two).map(|_| ()).map_err(pair);
     tally.same(&format!("finding {text:?}"), file, found.map(|_| ()), theirs)?;
     let Ok(numbers) = found else { return Ok(None) };
+    let theirs = |ticks, edition| {
+        let answer = second_reader::ask(file, id, ticks, Mark::ThisIsAll, edition);
+        answer.map(|answer| numbers_of(&answer)).map_err(pair)
+    };
+    tables::found(tally, file, id, *prng.pick(asked), prng, &theirs)?;
     for &ticks in asked {
         for (edition, their_edition) in EDITIONS {
             let what = format!("the found {text:?} at {ticks}, edition {edition:?}");
-            let theirs = second_reader::ask(file, id, ticks, Mark::ThisIsAll, their_edition);
-            let theirs = theirs.map(|answer| numbers_of(&answer)).map_err(pair);
+            let theirs = theirs(ticks, their_edition);
             let first = edition == nzd::Edition::One;
             let ours = lent::numbers(file, |out| ffi::ask_zone(file, &numbers, ticks, first, out))?;
             tally.same(&what, file, ours, theirs)?;
@@ -162,6 +168,7 @@ fn any(tally: &mut Tally, file: &[u8], found: Five, times: usize, prng: &mut Prn
             let what = format!("the zone at {five:?} at {ticks}, edition {edition:?}");
             tally.same(&what, file, ours, plainly(file, five, ticks, their_edition))?;
         }
+        tables::any(tally, file, five, ticks, prng, &|ticks, edition| plainly(file, five, ticks, edition))?;
         let ours = lent::numbers(file, |out| ffi::map_zone_local(file, &five, ticks, out))?;
         let what = format!("the zone at {five:?} at the local time {ticks}");
         tally.same(&what, file, ours, mapped(file, five, ticks))?;
@@ -177,13 +184,13 @@ fn published(tally: &mut Tally, file: &[u8], prng: &mut Prng) -> Result<(), Diff
         let id = &file[contents.pool[zone.id].clone()];
         let all = instants(zone, prng);
         let asked = [prng.range(FIRST, LAST), *prng.pick(&all), FIRST - 1];
-        if let Some(found) = find(tally, file, id, &asked)? {
+        if let Some(found) = find(tally, file, id, &asked, prng)? {
             any(tally, file, found, 10, prng)?;
         }
         ids.push(id);
     }
     for id in other_ids(&ids, prng) {
-        find(tally, file, &id, &INSTANTS)?;
+        find(tally, file, &id, &INSTANTS, prng)?;
     }
     Ok(())
 }
@@ -204,15 +211,15 @@ fn generated(tally: &mut Tally, prng: &mut Prng) -> Result<(), Difference> {
             }
             asked.extend(INSTANTS);
             let id = content.id(zone);
-            find(tally, cut, id, &INSTANTS)?;
-            if let Some(found) = find(tally, file, id, &asked)? {
+            find(tally, cut, id, &INSTANTS, prng)?;
+            if let Some(found) = find(tally, file, id, &asked, prng)? {
                 for other in [file, cut, &files[1]] {
                     any(tally, other, found, 5, prng)?;
                 }
             }
         }
         for id in other_ids(&ids, prng) {
-            find(tally, file, &id, &INSTANTS)?;
+            find(tally, file, &id, &INSTANTS, prng)?;
         }
     }
     Ok(())
@@ -224,7 +231,7 @@ pub fn all(tally: &mut Tally, prng: &mut Prng, rounds: u64, files: &[(String, Ve
         let file = zone_file(&hex(zone));
         for length in 0..=file.len() {
             for id in ["A", "B", ""] {
-                let found = find(tally, &file[..length], id.as_bytes(), &INSTANTS)?;
+                let found = find(tally, &file[..length], id.as_bytes(), &INSTANTS, prng)?;
                 any(tally, &file[..length], found.unwrap_or([6, 9, 11, 15, 9]), 20, prng)?;
             }
         }

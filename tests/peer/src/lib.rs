@@ -2,8 +2,8 @@
 //!
 //! It makes the same checks in the same order, over slices and in one pass, and has every shortcut that the proved
 //! reader has. Beyond those, a found zone keeps the pool's index and its tail and is not checked again, so that a question reads
-//! no more of it than it needs; a local time passes over the intervals that are more than a day away; a replay keeps the last
-//! answer's interval and goes on from the last zone that it has read; a difference keeps the first stretches while it counts
+//! no more of it than it needs; a local time passes over the intervals that are more than a day away; four bytes of an interval
+//! are tested at once, where the proved reader compares three with those two before; a difference keeps the first stretches while it counts
 //! them; and closing up a pool counts its strings' uses in the check.
 //!
 //! It allocates the index of the pool's strings, for a whole-file check and for a replay the table of zone
@@ -27,6 +27,7 @@ mod receiver;
 mod replay;
 mod runs;
 mod starts;
+mod table;
 mod tail;
 mod whole;
 mod write;

@@ -21,7 +21,7 @@ impl<'a> Pool<'a> {
         }
         let mut at = data.len() - cursor.left();
         // Most pools are ASCII: one look tells for all strings up to this place.
-        let plain = at + ascii_front(&data[at..]);
+        let mut plain = at + ascii_front(&data[at..]);
         let mut starts = Vec::with_capacity(count as usize);
         for _ in 0..count {
             starts.push(at as u32);
@@ -31,7 +31,13 @@ impl<'a> Pool<'a> {
                 _ => {
                     let mut cursor = Cursor::new(&data[at..]);
                     cursor.text_behind(plain.saturating_sub(at))?;
-                    data.len() - at - cursor.left()
+                    let length = data.len() - at - cursor.left();
+                    // Behind a block that isn't ASCII, others may be: not where the next string's length or its first character isn't.
+                    let next = at + length;
+                    if next >= plain + BLOCK / 2 && data.get(next..next + 2).is_some_and(<[u8]>::is_ascii) {
+                        plain = next + ascii_front(&data[next..]);
+                    }
+                    length
                 }
             };
         }
@@ -61,7 +67,9 @@ impl<'a> Pool<'a> {
     }
 }
 
+const BLOCK: usize = 256;
+
 /// How many bytes at the front are ASCII, found block by block: there may be more.
 fn ascii_front(bytes: &[u8]) -> usize {
-    bytes.chunks(256).take_while(|block| block.is_ascii()).map(<[u8]>::len).sum()
+    bytes.chunks(BLOCK).take_while(|block| block.is_ascii()).map(<[u8]>::len).sum()
 }

@@ -18,34 +18,34 @@ room : (c : tie.After-known-told2 Inv-loop μ-loop)
     → (0 < c .before .f2 .given .0 .1 .0)
     × (c .before .before .before .before .before .loop .at + c .before .f2 .given .0 .1 .0 + c .before .f2 .given .0 .1 .1 .0 ≤ length (now (c .before .before .before .before .before .before .before .before .before .args .s)))
     × (c .before .before .before .before .before .loop .at + c .before .f2 .given .0 .1 .0 + c .before .f2 .given .0 .1 .1 .0 ≤ 4194304)
-room c = walked-inside (c .before .before .before .before .before .before .before .before .before .args .known) (now (c .before .before .before .before .before .before .before .before .before .args .id)) (now (c .before .before .before .before .before .before .before .before .before .args .s)) (c .before .before .before .before .before .before .before .before .before .args .start) (c .before .before .before .before .before .before .before .before .before .args .end) _ _ (c .before .before .before .before .before .loop .inv) _ (c .before .before .before .read-frame .ensures) _ _ _ (c .before .f2 .given .1)
+room c = walked-inside (c .before .before .before .before .before .before .before .before .before .args .known) (now (c .before .before .before .before .before .before .before .before .before .args .id)) (now (c .before .before .before .before .before .before .before .before .before .args .s)) (c .before .before .before .before .before .before .before .before .before .args .start) (c .before .before .before .before .before .before .before .before .before .args .end) _ _ (c .before .before .before .before .before .loop .inv) _ (c .before .before .before .next-frame .ensures) _ _ _ (c .before .f2 .given .1)
 
 loop-holds : tie.Need-loop-holds Inv-loop μ-loop
 loop-holds c = walked-start _ _ _ _ _ (c .before .before .before .pre .0 .some) (c .before .before .before .pre .0 .inside)
 
-sub-read-frame : tie.Need-sub-read-frame Inv-loop μ-loop
-sub-read-frame c = c .loop .inv .inside
+sub-next-frame : tie.Need-sub-next-frame Inv-loop μ-loop
+sub-next-frame c = c .loop .inv .inside
 
-part-read-frame-start : tie.Need-part-read-frame-start Inv-loop μ-loop
-part-read-frame-start c = c .loop .inv .inside
+part-next-frame-start : tie.Need-part-next-frame-start Inv-loop μ-loop
+part-next-frame-start c = c .loop .inv .inside
 
-part-read-frame-end : tie.Need-part-read-frame-end Inv-loop μ-loop
-part-read-frame-end c = omega (arith, c .loop .inv .inside)
+part-next-frame-end : tie.Need-part-next-frame-end Inv-loop μ-loop
+part-next-frame-end c = omega (arith, c .loop .inv .inside)
 
-read-frame-requires : tie.Need-read-frame-requires Inv-loop μ-loop
-read-frame-requires c κs = tt
+next-frame-requires : tie.Need-next-frame-requires Inv-loop μ-loop
+next-frame-requires c κs = tt
 
 returns : tie.Need-returns Inv-loop μ-loop
-returns c = walked-end _ _ _ _ _ _ _ (c .before .before .before .before .loop .inv) _ (c .before .before .read-frame .ensures) (c .enum-told .given .1)
+returns c = walked-end _ _ _ _ _ _ _ (c .before .before .before .before .loop .inv) _ (c .before .before .next-frame .ensures) (c .enum-told .given .1)
 
 returns-2 : tie.Need-returns-2 Inv-loop μ-loop
-returns-2 c = walked-cut _ _ _ _ _ _ _ (c .before .before .before .before .loop .inv) _ (c .before .before .read-frame .ensures) (c .enum-told2 .given .1)
+returns-2 c = walked-cut _ _ _ _ _ _ _ (c .before .before .before .before .loop .inv) _ (c .before .before .next-frame .ensures) (c .enum-told2 .given .1)
 
 returns-3 : tie.Need-returns-3 Inv-loop μ-loop
-returns-3 c = walked-refused _ _ _ _ _ _ _ (c .before .before .before .before .before .loop .inv) _ (c .before .before .before .read-frame .ensures) _ (c .before .f .given .1)
+returns-3 c = walked-refused _ _ _ _ _ _ _ (c .before .before .before .before .before .loop .inv) _ (c .before .before .before .next-frame .ensures) _ (c .before .f .given .1)
 
 returns-4 : tie.Need-returns-4 Inv-loop μ-loop
-returns-4 c = walked-version _ _ _ _ _ _ _ (c .before .before .before .before .loop .inv) _ (c .before .before .read-frame .ensures) (c .enum-told3 .given .1)
+returns-4 c = walked-version _ _ _ _ _ _ _ (c .before .before .before .before .loop .inv) _ (c .before .before .next-frame .ensures) (c .enum-told3 .given .1)
 
 add-d : tie.Need-add-d Inv-loop μ-loop
 add-d c = omega (arith, room c)
@@ -75,16 +75,16 @@ judge-by-requires : tie.Need-judge-by-requires Inv-loop μ-loop
 judge-by-requires c κs = (c .before .before .before .before .before .before .before .before .before .before .before .pre .1, c .before .before .before .before .before .before .before .before .before .before .before .pre .2)
 
 returns-5 : tie.Need-returns-5 Inv-loop μ-loop
-returns-5 c = walked-here _ _ _ _ _ _ _ (c .before .before .before .before .before .before .before .before .before .before .loop .inv) _ (c .before .before .before .before .before .before .before .before .read-frame .ensures) _ _ _ (c .before .before .before .before .before .before .f2 .given .1) _ (c .before .before .before .before .before .before .before .before .before .before .before .before .before .before .pre .2) _ (c .before .before .judge-by .ensures) (c .enum-told4 .given .1)
+returns-5 c = walked-here _ _ _ _ _ _ _ (c .before .before .before .before .before .before .before .before .before .before .loop .inv) _ (c .before .before .before .before .before .before .before .before .next-frame .ensures) _ _ _ (c .before .before .before .before .before .before .f2 .given .1) _ (c .before .before .before .before .before .before .before .before .before .before .before .before .before .before .pre .2) _ (c .before .before .judge-by .ensures) (c .enum-told4 .given .1)
 
 returns-6 : tie.Need-returns-6 Inv-loop μ-loop
-returns-6 c = walked-fault _ _ _ _ _ _ _ (c .before .before .before .before .before .before .before .before .before .before .before .loop .inv) _ (c .before .before .before .before .before .before .before .before .before .read-frame .ensures) _ _ _ (c .before .before .before .before .before .before .before .f2 .given .1) _ (c .before .before .before .before .before .before .before .before .before .before .before .before .before .before .before .pre .2) _ (c .before .before .before .judge-by .ensures) _ (c .before .j .given .1)
+returns-6 c = walked-fault _ _ _ _ _ _ _ (c .before .before .before .before .before .before .before .before .before .before .before .loop .inv) _ (c .before .before .before .before .before .before .before .before .before .next-frame .ensures) _ _ _ (c .before .before .before .before .before .before .before .f2 .given .1) _ (c .before .before .before .before .before .before .before .before .before .before .before .before .before .before .before .pre .2) _ (c .before .before .before .judge-by .ensures) _ (c .before .j .given .1)
 
 loop-less : tie.Need-loop-less Inv-loop μ-loop
 loop-less c = omega (arith, room (c .before .before .before .before .before))
 
 loop-again : tie.Need-loop-again Inv-loop μ-loop
-loop-again c = walked-keep _ _ _ _ _ _ _ (c .before .before .before .before .before .before .before .before .before .before .loop .inv) _ (c .before .before .before .before .before .before .before .before .read-frame .ensures) _ _ _ (c .before .before .before .before .before .before .f2 .given .1) _ (c .before .before .before .before .before .before .before .before .before .before .before .before .before .before .pre .2) _ (c .before .before .judge-by .ensures) (c .enum-told5 .given .1)
+loop-again c = walked-keep _ _ _ _ _ _ _ (c .before .before .before .before .before .before .before .before .before .before .loop .inv) _ (c .before .before .before .before .before .before .before .before .next-frame .ensures) _ _ _ (c .before .before .before .before .before .before .f2 .given .1) _ (c .before .before .before .before .before .before .before .before .before .before .before .before .before .before .pre .2) _ (c .before .before .judge-by .ensures) (c .enum-told5 .given .1)
 
 pub walk-zones-spec : {M : Type 1} → statement M
 walk-zones-spec =
@@ -93,10 +93,10 @@ walk-zones-spec =
     Inv-loop
     μ-loop
     loop-holds
-    sub-read-frame
-    part-read-frame-start
-    part-read-frame-end
-    read-frame-requires
+    sub-next-frame
+    part-next-frame-start
+    part-next-frame-end
+    next-frame-requires
     (λ c. search needs)
     returns
     (λ c. search needs)

@@ -8,45 +8,45 @@ use Rattle.check_steps.proofs.step.Statement.{statement}
 use Rattle.check_steps.proofs.step.Tie as tie
 
 add-e : tie.Need-add-e
-add-e c = omega (arith, field-fits (now (c .before .before .before .before .before .before .before .before .args .s)) (c .before .before .before .before .before .before .before .before .args .c) [] [] _ (c .before .before .before .read-frame .ensures) _ _ _ (c .before .f2 .given .1) (c .before .before .before .before .before .before .before .before .pre .0))
+add-e c = omega (arith, field-fits (now (c .before .before .before .before .before .before .before .before .args .s)) (c .before .before .before .before .before .before .before .before .args .c) [] [] _ (c .before .before .before .next-frame .ensures) _ _ _ (c .before .f2 .given .1) (c .before .before .before .before .before .before .before .before .pre .0))
 
 add-e-2 : tie.Need-add-e-2
-add-e-2 c = omega (arith, field-fits (now (c .before .before .before .before .before .before .before .before .args .s)) (c .before .before .before .before .before .before .before .before .args .c) [] [] _ (c .before .before .before .read-frame .ensures) _ _ _ (c .before .f2 .given .1) (c .before .before .before .before .before .before .before .before .pre .0))
+add-e-2 c = omega (arith, field-fits (now (c .before .before .before .before .before .before .before .before .args .s)) (c .before .before .before .before .before .before .before .before .args .c) [] [] _ (c .before .before .before .next-frame .ensures) _ _ _ (c .before .f2 .given .1) (c .before .before .before .before .before .before .before .before .pre .0))
 
 add-take-field : tie.Need-add-take-field
-add-take-field c = omega (arith, field-fits (now (c .before .before .before .before .before .before .before .before .args .s)) (c .before .before .before .before .before .before .before .before .args .c) [] [] _ (c .before .before .before .read-frame .ensures) _ _ _ (c .before .f2 .given .1) (c .before .before .before .before .before .before .before .before .pre .0))
+add-take-field c = omega (arith, field-fits (now (c .before .before .before .before .before .before .before .before .args .s)) (c .before .before .before .before .before .before .before .before .args .c) [] [] _ (c .before .before .before .next-frame .ensures) _ _ _ (c .before .f2 .given .1) (c .before .before .before .before .before .before .before .before .pre .0))
 
 take-field-requires : tie.Need-take-field-requires
-take-field-requires c κs = (omega arith, field-fits (now (c .before .before .before .before .before .before .before .before .before .before .before .args .s)) (c .before .before .before .before .before .before .before .before .before .before .before .args .c) [] [] _ (c .before .before .before .before .before .before .read-frame .ensures) _ _ _ (c .before .before .before .before .f2 .given .1) (c .before .before .before .before .before .before .before .before .before .before .before .pre .0) .0, c .before .before .before .before .before .before .before .before .before .before .before .pre .1, c .before .before .before .before .before .before .before .before .before .before .before .pre .2)
+take-field-requires c κs = (omega arith, field-fits (now (c .before .before .before .before .before .before .before .before .before .before .before .args .s)) (c .before .before .before .before .before .before .before .before .before .before .before .args .c) [] [] _ (c .before .before .before .before .before .before .next-frame .ensures) _ _ _ (c .before .before .before .before .f2 .given .1) (c .before .before .before .before .before .before .before .before .before .before .before .pre .0) .0, c .before .before .before .before .before .before .before .before .before .before .before .pre .1, c .before .before .before .before .before .before .before .before .before .before .before .pre .2)
 
 returns : tie.Need-returns
 returns c = (
-  step-end _ (c .before .before .before .before .before .before .before .before .args .c) _ _ _ (c .before .before .before .read-frame .ensures) _ (c .before .enum-told .given .1) (c .conclude .ensures),
-  flags-done _ (c .before .before .before .before .before .before .before .before .args .c) _ _ (c .before .before .before .read-frame .ensures) _ (c .before .enum-told .given .1),
+  step-end _ (c .before .before .before .before .before .before .before .before .args .c) _ _ _ (c .before .before .before .next-frame .ensures) _ (c .before .enum-told .given .1) (c .conclude .ensures),
+  flags-done _ (c .before .before .before .before .before .before .before .before .args .c) _ _ (c .before .before .before .next-frame .ensures) _ (c .before .enum-told .given .1),
 )
 
 returns-2 : tie.Need-returns-2
-returns-2 c = (step-cut _ (c .before .before .before .before .before .before .before .args .c) _ _ _ (c .before .before .read-frame .ensures) (c .enum-told2 .given .1), flags-refused _ _ _ _ _ _)
+returns-2 c = (step-cut _ (c .before .before .before .before .before .before .before .args .c) _ _ _ (c .before .before .next-frame .ensures) (c .enum-told2 .given .1), flags-refused _ _ _ _ _ _)
 
 returns-3 : tie.Need-returns-3
-returns-3 c = (step-refused _ (c .before .before .before .before .before .before .before .before .args .c) _ _ _ (c .before .before .before .read-frame .ensures) _ (c .before .f .given .1), flags-refused _ _ _ _ _ _)
+returns-3 c = (step-refused _ (c .before .before .before .before .before .before .before .before .args .c) _ _ _ (c .before .before .before .next-frame .ensures) _ (c .before .f .given .1), flags-refused _ _ _ _ _ _)
 
 returns-4 : tie.Need-returns-4
 returns-4 c = (
-  step-version _ (c .before .before .before .before .before .before .before .args .c) _ _ _ (c .before .before .read-frame .ensures) (c .enum-told3 .given .1),
-  flags-version _ (c .before .before .before .before .before .before .before .args .c) _ _ (c .before .before .read-frame .ensures) _ (c .enum-told3 .given .1),
+  step-version _ (c .before .before .before .before .before .before .before .args .c) _ _ _ (c .before .before .next-frame .ensures) (c .enum-told3 .given .1),
+  flags-version _ (c .before .before .before .before .before .before .before .args .c) _ _ (c .before .before .next-frame .ensures) _ (c .enum-told3 .given .1),
 )
 
 returns-5 : tie.Need-returns-5
 returns-5 c = (
-  step-bad _ (c .before .before .before .before .before .before .before .before .before .before .before .before .before .before .before .before .before .args .c) _ _ _ (c .before .before .before .before .before .before .before .before .before .before .before .before .read-frame .ensures) _ _ _ (c .before .before .before .before .before .before .before .before .before .before .f2 .given .1) _ _ _ (c .before .before .before .before .before .take-field .ensures .0) _ (c .before .t .given .1),
+  step-bad _ (c .before .before .before .before .before .before .before .before .before .before .before .before .before .before .before .before .before .args .c) _ _ _ (c .before .before .before .before .before .before .before .before .before .before .before .before .next-frame .ensures) _ _ _ (c .before .before .before .before .before .before .before .before .before .before .f2 .given .1) _ _ _ (c .before .before .before .before .before .take-field .ensures .0) _ (c .before .t .given .1),
   flags-refused _ _ _ _ _ _,
 )
 
 returns-6 : tie.Need-returns-6
 returns-6 c = (
-  step-keep _ (c .before .before .before .before .before .before .before .before .before .before .before .before .before .before .before .before .before .args .c) _ _ _ (c .before .before .before .before .before .before .before .before .before .before .before .before .read-frame .ensures) _ _ _ (c .before .before .before .before .before .before .before .before .before .before .f2 .given .1) _ _ _ (c .before .before .before .before .before .take-field .ensures .0) _ (c .before .t2 .given .1),
-  flags-field _ (c .before .before .before .before .before .before .before .before .before .before .before .before .before .before .before .before .before .args .c) _ _ (c .before .before .before .before .before .before .before .before .before .before .before .before .read-frame .ensures) _ _ _ _ _ _ (c .before .before .before .before .before .before .before .before .before .before .f2 .given .1) (c .before .before .before .before .before .take-field .ensures .1) (c .before .t2 .given .1),
+  step-keep _ (c .before .before .before .before .before .before .before .before .before .before .before .before .before .before .before .before .before .args .c) _ _ _ (c .before .before .before .before .before .before .before .before .before .before .before .before .next-frame .ensures) _ _ _ (c .before .before .before .before .before .before .before .before .before .before .f2 .given .1) _ _ _ (c .before .before .before .before .before .take-field .ensures .0) _ (c .before .t2 .given .1),
+  flags-field _ (c .before .before .before .before .before .before .before .before .before .before .before .before .before .before .before .before .before .args .c) _ _ (c .before .before .before .before .before .before .before .before .before .before .before .before .next-frame .ensures) _ _ _ _ _ _ (c .before .before .before .before .before .before .before .before .before .before .f2 .given .1) (c .before .before .before .before .before .take-field .ensures .1) (c .before .t2 .given .1),
 )
 
 pub step-spec : {M : Type 1} → statement M

@@ -12,7 +12,7 @@ bytes : (c : tie.After-shared-slice-known) → Bytes (now (c .before .args .d))
 bytes c i = omega (arith, c .shared-slice-known .given i)
 
 pool-size-requires : tie.Need-pool-size-requires
-pool-size-requires c κs = c .before .before .before .before .pre .1
+pool-size-requires c κs = (c .before .before .before .before .pre .1, c .before .before .before .before .pre .3 .good (c .if1 .taken))
 
 returns : tie.Need-returns
 returns c = c .pool-size .ensures ∙ ap length (data-pool _ _ _ _ (c .before .if1 .taken))

@@ -14,7 +14,7 @@ bytes : (c : tie.After-shared-slice-known) → Bytes (now (c .before .args .d))
 bytes c i = omega (arith, c .shared-slice-known .given i)
 
 write-pool-requires : tie.Need-write-pool-requires
-write-pool-requires c κs = (c .before .before .before .before .before .before .pre .0, rw (data-pool (now (c .before .before .before .before .before .before .args .order)) (now (c .before .before .before .before .before .before .args .table)) (c .before .before .before .before .before .before .args .i) (now (c .before .before .before .before .before .before .args .d)) (c .before .if1 .taken)) (c .before .before .before .before .before .before .pre .2))
+write-pool-requires c κs = (c .before .before .before .before .before .before .pre .0, c .before .before .before .before .before .before .pre .4 .good (c .before .if1 .taken), rw (data-pool (now (c .before .before .before .before .before .before .args .order)) (now (c .before .before .before .before .before .before .args .table)) (c .before .before .before .before .before .before .args .i) (now (c .before .before .before .before .before .before .args .d)) (c .before .if1 .taken)) (c .before .before .before .before .before .before .pre .2))
 
 returns : tie.Need-returns
 returns c = put-is _ _ _ _ _ (c .before .before .write-pool .ensures) (sym (data-pool _ _ _ _ (c .before .before .before .before .if1 .taken)))

@@ -12,11 +12,11 @@ bytes : (c : tie.After-shared-slice-known) → Bytes (now (c .before .args .s))
 bytes c i = omega (arith, c .shared-slice-known .given i)
 
 first-unread-requires : tie.Need-first-unread-requires
-first-unread-requires c κs = walkable _ (sym (c .before .before .check .ensures) ∙ c .enum-told .given .1)
+first-unread-requires c κs = walkable _ (sym (c .before .before .check .ensures) ∙ c .enum-told .given .1) (bytes (c .before .before .before .before))
 
 close-read-requires : tie.Need-close-read-requires
 close-read-requires c κs = let e = sym (c .before .before .before .before .before .before .check .ensures) ∙ c .before .before .before .before .enum-told .given .1 in
-    (walkable _ e, below _ e (bytes (c .before .before .before .before .before .before .before .before)))
+    (walkable _ e (bytes (c .before .before .before .before .before .before .before .before)), below _ e (bytes (c .before .before .before .before .before .before .before .before)))
 
 returns : tie.Need-returns
 returns c = close-refused _ _ _ (c .before .before .before .check .ensures) _ _ (c .before .n .given .1)

@@ -6,26 +6,25 @@ use borrow.Author.Needs.{needs}
 use Rattle.pool.specs.Pool.{stringsOf}
 use Rattle.pool.proofs.StringLaws.{below}
 use Rattle.string_order.specs.Order.{ordering}
-use Rattle.ids.proofs.PlaceLaws.{Halving, halving-start, halving-done, Middle, middle, halving-seen, halving-up, halving-down}
-use Rattle.ids.proofs.MemoryLaws.{sorted-most}
+use Rattle.ids.proofs.FindLaws.{Halving, halving-start, halving-done, Middle, middle, halving-seen, halving-up, halving-down}
 use Rattle.ids.proofs.find.Statement.{statement}
 use Rattle.ids.proofs.find.Tie as tie
 
 abbrev Inv-loop : tie.InvT-loop
-Inv-loop pool starts order n id lo₀ hi₀ back₀ lo hi back = Halving (stringsOf pool) order n id lo hi back
+Inv-loop pool starts order from to id lo₀ hi₀ back₀ lo hi back = Halving (stringsOf pool) order from to id lo hi back
 
 abbrev μ-loop : tie.MeasureT-loop
-μ-loop pool starts order n id lo₀ hi₀ back₀ lo hi back = hi - lo
+μ-loop pool starts order from to id lo₀ hi₀ back₀ lo hi back = hi - lo
 
 loop-holds : tie.Need-loop-holds Inv-loop μ-loop
-loop-holds c = halving-start _ _ _ _
+loop-holds c = halving-start _ _ _ _ _ (c .before .before .before .pre .1 .order)
 
 -- the place to look at, seen from within the loop's body
-mid : (c : tie.In-loop Inv-loop μ-loop) → Middle (c .before .before .before .before .before .args .n) (c .before .loop .lo) (c .before .loop .hi) (c .before .loop .back)
-mid c = middle _ _ _ _ _ _ _ (c .before .loop .inv) (c .loop-test .taken)
+mid : (c : tie.In-loop Inv-loop μ-loop) → Middle (c .before .before .before .before .before .args .from) (c .before .before .before .before .before .args .to) (c .before .loop .lo) (c .before .loop .hi) (c .before .loop .back)
+mid c = middle _ _ _ _ _ _ _ _ (c .before .loop .inv) (c .loop-test .taken)
 
-mid-room : (c : tie.In-loop Inv-loop μ-loop) → c .before .loop .hi - c .before .loop .back < 8192
-mid-room c = below (now (c .before .before .before .before .before .args .pool)) _ (omega (arith, mid c .inside, sorted-most _ _ _ (c .before .before .before .before .before .pre .1)))
+mid-room : (c : tie.In-loop Inv-loop μ-loop) → c .before .loop .hi - c .before .loop .back < 8320
+mid-room c = omega (arith, mid c .inside, c .before .before .before .before .before .pre .1 .inside)
 
 sub-mid : tie.Need-sub-mid Inv-loop μ-loop
 sub-mid c = mid c .back-room
@@ -34,16 +33,16 @@ mul-j : tie.Need-mul-j Inv-loop μ-loop
 mul-j c = omega (arith, mid-room c)
 
 element-copy-out-j : tie.Need-element-copy-out-j Inv-loop μ-loop
-element-copy-out-j c = mid-room c
+element-copy-out-j c = omega (arith, mid-room c)
 
 cast-j : tie.Need-cast-j Inv-loop μ-loop
-cast-j c = omega (arith, below (now (c .before .before .before .before .before .before .args .pool)) _ (c .before .before .before .before .before .before .pre .1 .known _ (mid (c .before) .inside)))
+cast-j c = omega (arith, below (now (c .before .before .before .before .before .before .args .pool)) _ (c .before .before .before .before .before .before .pre .1 .known _ (mid (c .before) .from) (mid (c .before) .inside)))
 
 text-by-requires : tie.Need-text-by-requires Inv-loop μ-loop
-text-by-requires c κs = (c .before .before .before .before .before .before .pre .0, c .before .before .before .before .before .before .pre .1 .known _ (mid (c .before) .inside))
+text-by-requires c κs = (c .before .before .before .before .before .before .pre .0, c .before .before .before .before .before .before .pre .1 .known _ (mid (c .before) .from) (mid (c .before) .inside))
 
 returns : tie.Need-returns Inv-loop μ-loop
-returns c = halving-seen _ _ _ _ _ _ _ (c .before .before .before .before .before .before .loop .inv) (c .before .before .before .before .before .loop-test .taken) _ (c .before .before .compare .ensures ∙ ap (λ t. ordering t (now (c .before .before .before .before .before .before .before .before .before .before .args .id))) (c .before .before .before .text-by .ensures)) (c .enum-told .given .1)
+returns c = halving-seen _ _ _ _ _ _ _ _ (c .before .before .before .before .before .before .loop .inv) (c .before .before .before .before .before .loop-test .taken) _ (c .before .before .compare .ensures ∙ ap (λ t. ordering t (now (c .before .before .before .before .before .before .before .before .before .before .args .id))) (c .before .before .before .text-by .ensures)) (c .enum-told .given .1)
 
 add-lo : tie.Need-add-lo Inv-loop μ-loop
 add-lo c = omega (arith, mid-room (c .before .before .before .before .before))
@@ -55,7 +54,7 @@ loop-less : tie.Need-loop-less Inv-loop μ-loop
 loop-less c = omega (arith, mid (c .before .before .before .before .before) .from-low, mid (c .before .before .before .before .before) .to-high)
 
 loop-again : tie.Need-loop-again Inv-loop μ-loop
-loop-again c = halving-up _ _ _ _ _ _ _ (c .before .before .before .before .before .before .loop .inv) (c .before .before .before .before .before .loop-test .taken) _ (c .before .before .compare .ensures ∙ ap (λ t. ordering t (now (c .before .before .before .before .before .before .before .before .before .before .args .id))) (c .before .before .before .text-by .ensures)) (c .before .before .before .before .before .before .before .before .before .before .pre .1) (c .enum-told2 .given .1)
+loop-again c = halving-up _ _ _ _ _ _ _ _ (c .before .before .before .before .before .before .loop .inv) (c .before .before .before .before .before .loop-test .taken) _ (c .before .before .compare .ensures ∙ ap (λ t. ordering t (now (c .before .before .before .before .before .before .before .before .before .before .args .id))) (c .before .before .before .text-by .ensures)) (c .before .before .before .before .before .before .before .before .before .before .pre .1) (c .enum-told2 .given .1)
 
 sub-back-2 : tie.Need-sub-back-2 Inv-loop μ-loop
 sub-back-2 c = mid (c .before .before .before .before .before) .from-low
@@ -67,10 +66,10 @@ loop-less-2 : tie.Need-loop-less-2 Inv-loop μ-loop
 loop-less-2 c = omega (arith, mid (c .before .before .before .before .before) .from-low, mid (c .before .before .before .before .before) .to-high)
 
 loop-again-2 : tie.Need-loop-again-2 Inv-loop μ-loop
-loop-again-2 c = halving-down _ _ _ _ _ _ _ (c .before .before .before .before .before .before .loop .inv) (c .before .before .before .before .before .loop-test .taken) _ (c .before .before .compare .ensures ∙ ap (λ t. ordering t (now (c .before .before .before .before .before .before .before .before .before .before .args .id))) (c .before .before .before .text-by .ensures)) (c .before .before .before .before .before .before .before .before .before .before .pre .1) (c .enum-told3 .given .1)
+loop-again-2 c = halving-down _ _ _ _ _ _ _ _ (c .before .before .before .before .before .before .loop .inv) (c .before .before .before .before .before .loop-test .taken) _ (c .before .before .compare .ensures ∙ ap (λ t. ordering t (now (c .before .before .before .before .before .before .before .before .before .before .args .id))) (c .before .before .before .text-by .ensures)) (c .before .before .before .before .before .before .before .before .before .before .pre .1) (c .enum-told3 .given .1)
 
 returns-2 : tie.Need-returns-2 Inv-loop μ-loop
-returns-2 c = halving-done _ _ _ _ _ _ _ (c .before .loop .inv) (c .loop-test .left)
+returns-2 c = halving-done _ _ _ _ _ _ _ _ (c .before .loop .inv) (c .loop-test .left)
 
 pub find-spec : {M : Type 1} → statement M
 find-spec =

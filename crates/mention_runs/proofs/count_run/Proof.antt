@@ -7,7 +7,7 @@ returns : tie.Need-returns
 returns c = counted-is _ _ _ _ _ _ _ _ (c .before .before .before .before .before .stage .given .1) (c .before .before .count-intervals .ensures)
 
 returns-2 : tie.Need-returns-2
-returns-2 c = counted-is _ _ _ _ _ _ _ _ (c .before .before .before .before .before .stage2 .given .1) (c .before .before .count-names .ensures)
+returns-2 c = counted-is _ _ _ _ _ _ _ _ (c .before .before .before .before .before .stage2 .given .1) (c .before .before .count-locations .ensures)
 
 pub count-run-spec : {M : Type 1} → statement M
 count-run-spec =

@@ -15,10 +15,13 @@ loop-holds : tie.Need-loop-holds Inv-loop μ-loop
 loop-holds c = going-start _ _ _ (c .before .pre)
 
 take-entry-requires : tie.Need-take-entry-requires Inv-loop μ-loop
-take-entry-requires c κs = (c .before .before .before .pre, c .before .loop .inv .order, c .before .loop .inv .end, c .before .loop .inv .inside)
+take-entry-requires c κs = (c .before .loop .inv .order, c .before .loop .inv .end, c .before .loop .inv .walk .inside)
 
 returns : tie.Need-returns Inv-loop μ-loop
 returns c = going-bad _ _ _ _ _ _ _ (c .before .before .before .before .before .loop .inv) (c .before .before .before .before .loop-test .taken) _ (c .before .before .before .take-entry .ensures) _ (c .before .k .given .1)
+
+read-entries-requires : tie.Need-read-entries-requires Inv-loop μ-loop
+read-entries-requires c κs = c .before .before .before .before .before .before .pre
 
 add-done : tie.Need-add-done Inv-loop μ-loop
 add-done c = omega (arith, c .before .before .before .before .loop-test .taken)
@@ -29,8 +32,8 @@ loop-less c = omega (arith, c .before .before .before .before .loop-test .taken)
 loop-again : tie.Need-loop-again Inv-loop μ-loop
 loop-again c = going-next _ _ _ _ _ _ _ (c .before .before .before .before .before .loop .inv) (c .before .before .before .before .loop-test .taken) _ (c .before .before .before .take-entry .ensures) _ _ _ (c .before .e .given .1)
 
-returns-2 : tie.Need-returns-2 Inv-loop μ-loop
-returns-2 c = going-done _ _ _ _ _ _ _ (c .before .loop .inv) (omega arith)
+returns-3 : tie.Need-returns-3 Inv-loop μ-loop
+returns-3 c = going-done _ _ _ _ _ _ _ (c .before .loop .inv) (omega arith)
 
 pub read-entries-spec : {M : Type 1} → statement M
 read-entries-spec =
@@ -43,7 +46,10 @@ read-entries-spec =
     (λ c. search needs)
     returns
     (λ c. search needs)
+    read-entries-requires
+    (λ c. search needs)
+    (λ c. search needs)
     add-done
     loop-less
     loop-again
-    returns-2)
+    returns-3)

@@ -1,16 +1,13 @@
 use borrow.Author.Needs.{needs}
-use Rattle.old_dictionaries.proofs.EntryLaws.{key-larger, key-second, key-other}
+use Rattle.old_dictionaries.proofs.EntryLaws.{key-larger, key-other}
 use Rattle.old_entries.proofs.take_key.Statement.{statement}
 use Rattle.old_entries.proofs.take_key.Tie as tie
 
 returns : tie.Need-returns
-returns c = key-larger _ _ _ _ _ _ _ (c .before .before .before .before .before .before .pre .3) (c .before .before .before .before .before .before .pre .4) _ (c .before .before .comes-before .ensures) (c .before .if1 .taken) _ (c .take-value .ensures)
+returns c = key-larger _ _ _ _ _ (c .before .before .before .before .before .before .pre .2) (c .before .before .before .before .before .before .pre .3) _ (c .before .before .comes-before .ensures) (c .before .if1 .taken) _ (c .take-value .ensures)
 
 returns-2 : tie.Need-returns-2
-returns-2 c = key-second _ _ _ _ _ _ _ (c .before .before .before .before .before .before .before .before .pre .3) (c .before .before .before .before .before .before .before .before .pre .4) _ (c .before .before .before .before .comes-before .ensures) (c .before .before .before .if1 .left) _ (c .before .has-key .ensures) (c .if2 .taken)
-
-returns-3 : tie.Need-returns-3
-returns-3 c = key-other _ _ _ _ _ _ _ (c .before .before .before .before .before .before .before .before .before .pre .3) (c .before .before .before .before .before .before .before .before .before .pre .4) _ (c .before .before .before .before .before .comes-before .ensures) (c .before .before .before .before .if1 .left) _ (c .before .before .has-key .ensures) (c .before .before .before .before .before .before .before .before .before .pre .1) (c .before .before .before .before .before .before .before .before .before .pre .2) (c .before .if2 .left) _ (c .take-value2 .ensures)
+returns-2 c = key-other _ _ _ _ _ (c .before .before .before .before .before .pre .2) (c .before .before .before .before .before .pre .3)
 
 pub take-key-spec : {M : Type 1} → statement M
 take-key-spec =
@@ -25,10 +22,4 @@ take-key-spec =
     (λ c κs. search needs)
     (λ c κs. search needs)
     returns
-    (λ c. search needs)
-    (λ c. search needs)
-    (λ c. search needs)
-    (λ c κs. search needs)
-    returns-2
-    (λ c κs. search needs)
-    returns-3)
+    returns-2)

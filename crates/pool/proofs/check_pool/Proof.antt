@@ -5,8 +5,8 @@ use native.Mathlib.Omega.{arith}
 use lib.ListN.{length, take, drop, length-drop}
 use denote.Ref.{now}
 use Rattle.base.proofs.Parts.{part-from}
-use Rattle.utf8.specs.Ascii.{ascii}
-use Rattle.utf8.proofs.AsciiLaws.{front-ascii}
+use Rattle.pool.specs.Index.{Plain}
+use Rattle.pool.proofs.FillLaws.{plain-front}
 use Rattle.counts.proofs.CountLaws.{Counted, counted}
 use Rattle.pool.proofs.CheckLaws.{room-counted, pool-unread, pool-large, pool-counted}
 use borrow.Author.Needs.{needs}
@@ -19,27 +19,18 @@ returns c = pool-large _ _ _ (c .before .before .before .before .read-count .ens
 behind-count : (c : tie.Else1) → Counted (now (c .before .before .before .before .before .before .before .args .d)) (c .before .before .g2 .given .0 .0) (c .before .before .g2 .given .0 .1 .0)
 behind-count c = counted _ (sym (c .before .before .g2 .given .1) ∙ c .before .before .before .before .read-count .ensures)
 
--- the front that is known to be ASCII
-front : (c : tie.After-ascii-front)
-    → (let s = drop (c .before .before .before .before .g2 .given .0 .1 .0) (now (c .before .before .before .before .before .before .before .before .before .args .d)) in
-    (c .ascii-front .result ≤ length s) × (ascii (take (c .ascii-front .result) s) ≡ true))
-front c =
-    let e = part-from (c .before .before .before .before .g2 .given .0 .1 .0) (now (c .before .before .before .before .before .before .before .before .before .args .d)) in
-    front-ascii _ _ (rw e at (c .ascii-front .ensures))
+-- what is known to be ASCII
+plain : (c : tie.After-ascii-front) → Plain (now (c .before .before .before .before .before .before .before .before .before .args .d)) (c .before .before .before .before .g2 .given .0 .1 .0) (c .before .before .before .before .g2 .given .0 .1 .0 + c .ascii-front .result)
+plain c = plain-front _ _ _ (behind-count (c .before .before) .within) (rw (part-from (c .before .before .before .before .g2 .given .0 .1 .0) (now (c .before .before .before .before .before .before .before .before .before .args .d))) at (c .ascii-front .ensures))
 
 fill-requires : tie.Need-fill-requires
 fill-requires c κs =
-    let q = behind-count (c .before .before .before) in
-    let a = c .before .before .before .before .before .g2 .given .0 .1 .0 in
-    let d = now (c .before .before .before .before .before .before .before .before .before .before .args .d) in
-    let f = front (c .before) in
-    let z : a + c .before .ascii-front .result - a ≡ c .before .ascii-front .result = omega arith in (
+    let q = behind-count (c .before .before .before) in (
       q .within,
       q .size,
       omega arith,
       omega (arith, room-counted _ _ (c .before .before .before .before .before .before .before .read-count .ensures) _ _ (c .before .before .before .before .before .g2 .given .1) (c .before .before .before .if1 .left), c .before .before .before .before .before .before .before .before .before .before .pre),
-      omega (arith, q .within, f .0, length-drop a d),
-      rw z (f .1),
+      plain (c .before),
     )
 
 returns-2 : tie.Need-returns-2
@@ -60,7 +51,7 @@ check-pool-spec =
     (λ c. behind-count c .within)
     (λ c. search needs)
     (λ c κs. search needs)
-    (λ c. omega (arith, front c .0, length-drop (c .before .before .before .before .g2 .given .0 .1 .0) (now (c .before .before .before .before .before .before .before .before .before .args .d)), behind-count (c .before .before) .within))
+    (λ c. omega (arith, plain c .0))
     fill-requires
     returns-2
     (λ c. search needs)

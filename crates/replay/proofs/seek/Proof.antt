@@ -1,5 +1,6 @@
+use Prim.Native.Nat.{_-_, _≤_, _<_}
 use native.Mathlib.Omega.{arith}
-use Prim.Native.Nat.{_<_}
+use lib.ListN.{length}
 use borrow.Author.Needs.{needs}
 use Rattle.replay.proofs.seek.Statement.{statement}
 use Rattle.replay.proofs.seek.Tie as tie

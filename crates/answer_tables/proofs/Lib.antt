@@ -1,0 +1,5 @@
+pub mod RowLaws
+pub mod TableLaws
+pub mod AnswerLaws
+pub mod ListLaws
+pub mod Worked

@@ -1,0 +1,3 @@
+pub mod WiderLaws
+pub mod KeyLaws
+pub mod StepLaws

@@ -121,11 +121,17 @@ impl core::error::Error for Error {}
 
 /// Takes a result of a C function apart: on 0 the length that it carries, else the error.
 pub(crate) fn decode(result: u64) -> Result<usize, Error> {
-    let rest = (result / 256) as usize;
-    match (result % 256) as u8 {
-        0 => Ok(rest),
-        number => Err(Error { number: Number::of(number), place: rest }),
+    if result % 256 == 0 {
+        Ok((result / 256) as usize)
+    } else {
+        Err(refusal(result))
     }
+}
+
+/// Apart, so that a result that is no refusal takes no way by the table of numbers.
+#[cold]
+fn refusal(result: u64) -> Error {
+    Error { number: Number::of((result % 256) as u8), place: (result / 256) as usize }
 }
 
 #[cfg(test)]

@@ -24,8 +24,8 @@
 //! ```
 //!
 //! The crate is `no_std`; the feature `std`, which is on unless it is turned off, has the conversion from `SystemTime`.
-//! It links the archive of the proved library, which is for x86-64 Linux; a call needs up to 80 KB of stack, and
-//! [`close_pool`] 296 KB, as measured.
+//! It links the archive of the proved library, which is for x86-64 Linux; a call needs up to 82 KB of stack, [`replay`] 141 KB
+//! and [`close_pool`] 323 KB, as measured.
 
 #![no_std]
 

@@ -1,5 +1,5 @@
 #!/usr/bin/env python3
-"""Writes the input and the expected output of the program check_cases: run it in any folder.
+"""Writes the input and the expected output of check_cases in the program question_cases: run it in any folder.
 
 The second reader (tests/second_reader) checks each file, reads its version text and answers the question under both editions; only the place of a version text, which
 it doesn't give, is found here, by the field sizes, and the bytes there must be those that it gives.
@@ -485,4 +485,4 @@ for end in (MOST - 7, MOST - 6, MOST, MOST + 1):
     if end == MOST:
         long_case(head, text(WORD), times, last + b"\x01", id_, checked="2 4194304", asked="2 4194304")
 
-write_cases("check_cases", [(line, " | ".join(said)) for line, said in cases.items()], 131072)
+write_cases("check_cases", [(line, " | ".join(said)) for line, said in cases.items()])

@@ -7,15 +7,45 @@ import tempfile
 TOP = os.path.dirname(os.path.dirname(os.path.dirname(os.path.abspath(__file__))))
 
 
-def write_cases(program, cases, room=65536):
-    """Writes the input lines and the expected output of a program: pairs of a line and what is written for it. The program has so much room for its
-    input."""
+# Programs that run the cases of several scripts, each line behind a word that says which.
+PROGRAMS = {
+    "question_cases": ("check", "location", "name", "old_name", "table", "wall"),
+    "tool_cases": ("closing", "difference", "replay", "rewrite", "starts"),
+}
+
+
+def write_cases(name, cases, room=65536):
+    """Writes the input lines and the expected output of a program, or the part of these that a script makes: pairs of a line and the one line that is
+    written for it. The program has so much room for its input."""
+    cases = list(cases)
+    word = name[:-len("_cases")]
+    program = next((program for program, words in PROGRAMS.items() if word in words), None)
+    if program is None:
+        write_program(name, cases, room)
+    else:
+        own = [(word + " " + line, said) for line, said in cases]
+        others = [case for case in stored_cases(program) if case[0].split(" ", 1)[0] != word]
+        # In the order of the scripts; each script's own order stays.
+        write_program(program, sorted(own + others, key=lambda case: PROGRAMS[program].index(case[0].split(" ", 1)[0])), 393216)
+    print("%d cases" % len(cases))
+
+
+def stored_cases(program):
+    """The cases that a program has."""
+    names = [os.path.join(TOP, "crates", program, name) for name in ("stdin", "stdout")]
+    if not all(map(os.path.exists, names)):
+        return []
+    lines, said = (open(name).read().splitlines() for name in names)
+    assert len(lines) == len(said), program
+    return list(zip(lines, said))
+
+
+def write_program(program, cases, room):
     lines = "".join(line + "\n" for line, _ in cases)
     assert len(lines) <= room, "the program's input has %d bytes" % len(lines)
     for name, text_ in ("stdin", lines), ("stdout", "".join(said + "\n" for _, said in cases)):
         with open(os.path.join(TOP, "crates", program, name), "w") as f:
             f.write(text_)
-    print("%d cases" % len(cases))
 
 
 def count(n):

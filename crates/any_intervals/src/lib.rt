@@ -1,14 +1,18 @@
 // An interval of a zone, code by code.
 use base::END;
+use base::FIRST;
+use base::LAST;
 use base::Read;
 use intervals::Interval;
 use intervals::IntervalRead;
+use transitions::HOUR;
 ghost use mathlib.Core.Path.{_≡_};
-ghost use Prim.Native.Nat.{_≤_};
+ghost use Prim.Native.Nat.{_+_, _≤_};
 ghost use lib.ListN.{length, drop};
 ghost use Rattle.base.specs.Parsed.{parse};
 ghost use Rattle.offsets.specs.Offset.{inDay};
 ghost use Rattle.transitions.specs.Transition.{readMoment};
+ghost use Rattle.transitions.specs.Later.{Later};
 ghost use Rattle.places.specs.Placed.{Stands, ofRead};
 ghost use Rattle.intervals.specs.Interval.{standardSum, rises as risesOf, parseDetails, parseInterval};
 ghost use Rattle.intervals.specs.Scan.{ofInterval};
@@ -66,7 +70,7 @@ fn read_details(s: &[u8], at: usize, pool: u64, m: u64) -> IntervalRead
     }
 }
 
-// The same. The usual offsets take no call.
+// The same. Offsets take no call where bytes enough are left for any two of them.
 fn usual_details(s: &[u8], at: usize, pool: u64, m: u64) -> IntervalRead
     requires { ⌜ at ≤ length (now s) ⌝ }
     ensures { λ r. ⌜ Stands (now (s .entry)) (parseDetails pool m (drop at (now (s .entry)))) (ofInterval r) ⌝ }
@@ -74,7 +78,7 @@ fn usual_details(s: &[u8], at: usize, pool: u64, m: u64) -> IntervalRead
     match places::name_at(s, at, pool) {
         Read::Refused(k) => IntervalRead::Refused(k),
         Read::Value(n, a) => {
-            if 5 < s.len() - a {
+            if 6 < s.len() - a {
                 let w = usual_sums::usual_sum(s, a);
                 if w != 0 {
                     let b = a + usual_sums::usual_size(s[a]);
@@ -100,7 +104,29 @@ fn usual_details(s: &[u8], at: usize, pool: u64, m: u64) -> IntervalRead
     }
 }
 
-// An interval's start. The mark and ticks, with which a list begins, take no call.
+// The instant of two bytes of hours after prev; 0 where there is none.
+fn hours_start(s: &[u8], at: usize, prev: u64) -> u64
+    requires { ⌜ at + 2 ≤ length (now s) ⌝ }
+    ensures { λ r. ⌜ Later prev (drop at (now (s .entry))) 2 r ⌝ }
+{
+    if prev < FIRST {
+        return 0;
+    }
+    if LAST < prev {
+        return 0;
+    }
+    let v = interval_runs::hours_at(s, at);
+    if v == 0 {
+        return 0;
+    }
+    let m = prev + v * HOUR;
+    if LAST < m {
+        return 0;
+    }
+    m
+}
+
+// An interval's start. The mark and ticks, with which a list begins, and hours in two bytes take no call.
 fn start_at(s: &[u8], at: usize, prev: u64) -> Read
     requires { ⌜ at ≤ length (now s) ⌝ }
     ensures { λ r. ⌜ Stands (now (s .entry)) (parse (readMoment prev) (drop at (now (s .entry)))) (ofRead r) ⌝ }
@@ -112,11 +138,15 @@ fn start_at(s: &[u8], at: usize, prev: u64) -> Read
         return Read::Value(0, at + 1);
     }
     if s[at] == 2 {
-        let raw = counts::fixed_from(&s[at + 1..], 8, 0);
+        let raw = count_readers::fixed_from(&s[at + 1..], 8, 0);
         let t = signed::from_raw(raw);
         if t != 0 {
             return Read::Value(t, at + 9);
         }
+    }
+    let m = hours_start(s, at, prev);
+    if m != 0 {
+        return Read::Value(m, at + 2);
     }
     places::moment_at(s, at, prev)
 }

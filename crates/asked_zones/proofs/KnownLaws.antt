@@ -9,7 +9,7 @@ use Rattle.base.specs.Parsed.{Parsed, got, bad}
 use Rattle.base.specs.Equal.{equal}
 use Rattle.base.proofs.Tests.{clash, never}
 use Rattle.pool.specs.Pool.{stringsOf}
-use Rattle.places.specs.Placed.{Placed, at, no, viewPlaced, Stands}
+use Rattle.places.specs.Placed.{Placed, at, Stands}
 use Rattle.places.specs.Name.{parseName}
 use Rattle.zones.specs.Content.{Zone}
 use Rattle.zones.specs.Lookup.{verdictOf}
@@ -22,30 +22,21 @@ use Rattle.frames.specs.declared.Frame.the-variants.{End as FrameEnd, Cut as Fr
 use Rattle.frames.proofs.AtLaws.{at-version, whole-inside}
 use Rattle.answers.specs.Answers.{Pool}
 use Rattle.locate.specs.Asked.{Held, holder}
-use Rattle.locate.specs.View.{part, poolAt, JudgedTo, JudgedAs, LocatedAs}
+use Rattle.locate.specs.View.{part, poolAt, JudgedAs, LocatedAs}
 use Rattle.locate.specs.declared.Spot.{Spot}
 use Rattle.locate.specs.declared.Located.{Located}
 use Rattle.locate.specs.declared.Located.the-variants.{Found, Refused, Cut, End}
 use Rattle.locate.specs.declared.Judged.{Judged}
 use Rattle.locate.specs.declared.Judged.the-variants.{Here, Keep, Fault}
-use Rattle.locate.proofs.JudgeLaws.{judged-unnamed, judged-here, judged-keep}
+use Rattle.locate.proofs.JudgeLaws.{judged-keep}
 use Rattle.locate.proofs.WalkingLaws.{Walking, walking-start, walking-end, walking-cut, walking-refused, walking-here, walking-fault, walking-keep}
-use Rattle.asked_zones.specs.Known.{NamedBy, JudgedBy, WalkedAs}
+use Rattle.asked_zones.specs.Known.{JudgedBy, WalkedAs}
 
--- what reading a zone's ID gave
-module _ (count : ℕ) (s : List ℕ) (x : Placed ℕ) (h : Stands s (parseName count (drop 0 s)) x) (pool id : List ℕ) where
-  pub named-fault : (n : ℕ) → x ≡ no n → NamedBy id pool (parseZone count s) (Fault n)
-  named-fault n f = record { means = λ start z r e. judged-unnamed count s x h pool id n f .means start }
-
-  module _ (k e : ℕ) (f : x ≡ at k e) where
-    pub named-here : true ≡ equal (getD (stringsOf pool) k []) id → NamedBy id pool (parseZone count s) Here
-    named-here n = record { means = λ start z r g. judged-here count s x h pool id k e f n .means start }
-
-    pub named-other : false ≡ equal (getD (stringsOf pool) k []) id → NamedBy id pool (parseZone count s) Keep
-    named-other n = record { means = λ start z r g. judged-keep count s x h pool id k e f (z .id) n (sym (ap verdictOf g)) .means start }
-
-pub judged-known : (known : Bool) (id pool : List ℕ) (p : Parsed Zone) (j : Judged) → known ≡ true → NamedBy id pool p j → JudgedBy known id pool p j
-judged-known known id pool p j e h = record { means = λ q. let g = q e in record { means = λ a. h .means a (g .0) (g .1) (g .2) } }
+-- a zone that is known to be a good one and has another ID
+module _ (count : ℕ) (s : List ℕ) (x : Placed ℕ) (h : Stands s (parseName count (drop 0 s)) x) (pool id : List ℕ) (k e : ℕ) (f : x ≡ at k e) where
+  pub judged-known : (known : Bool) → known ≡ true → false ≡ equal (getD (stringsOf pool) k []) id → JudgedBy known id pool (parseZone count s) Keep
+  judged-known known q n =
+      record { means = λ g. let u = g q in judged-keep count s x h pool id k e f ((u .0) .id) n (sym (ap verdictOf (u .2))) }
 
 pub judged-any : (known : Bool) (id pool : List ℕ) (p : Parsed Zone) (j : Judged) → JudgedAs id pool p j → JudgedBy known id pool p j
 judged-any known id pool p j h = record { means = λ q. h }

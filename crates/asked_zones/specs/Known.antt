@@ -6,17 +6,13 @@ use mathlib.Core.List.{List}
 use Rattle.base.specs.Parsed.{Parsed, got}
 use Rattle.zones.specs.Content.{Zone}
 use Rattle.frames.specs.Machine.{Out, found}
-use Rattle.answers.specs.Answers.{Pool, poolOf}
+use Rattle.answers.specs.Answers.{Pool}
 use Rattle.locate.specs.Asked.{Held}
-use Rattle.locate.specs.View.{JudgedTo, JudgedAs, LocatedAs}
+use Rattle.locate.specs.View.{JudgedAs, LocatedAs}
 use Rattle.locate.specs.declared.Judged.{Judged}
 use Rattle.locate.specs.declared.Located.{Located}
 
--- j tells what a zone says by its ID, if it is a good one
-pub record NamedBy (id pool : List ℕ) (p : Parsed Zone) (j : Judged) : Type 0 where
-  pub means : (start : ℕ) (z : Zone) (r : List ℕ) → p ≡ got z r → JudgedTo id (poolOf start pool) p j
-
--- the same, and of any zone where none is known to be good
+-- j tells what a zone says by its ID, if it is a good one where it is known to be one
 pub record JudgedBy (known : Bool) (id pool : List ℕ) (p : Parsed Zone) (j : Judged) : Type 0 where
   pub means : (known ≡ true → (z : Zone) × (r : List ℕ) × (p ≡ got z r)) → JudgedAs id pool p j
 

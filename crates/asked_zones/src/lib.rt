@@ -17,7 +17,7 @@ ghost use Rattle.zones.specs.Parse.{parseZone};
 ghost use Rattle.frames.specs.Machine.{from, stateAt};
 ghost use Rattle.locate.specs.Asked.{holder};
 ghost use Rattle.locate.specs.View.{part, poolAt, Lies, byPool, JudgedAs, LocatedAs};
-ghost use Rattle.asked_zones.specs.Known.{NamedBy, JudgedBy, WalkedAs};
+ghost use Rattle.asked_zones.specs.Known.{JudgedBy, WalkedAs};
 
 // A whole zone in d: whether its ID, which stands first, is the asked one; else it is checked.
 pub fn judge(pool: &[u8], starts: &[u32], count: usize, d: &[u8], id: &[u8]) -> Judged
@@ -39,10 +39,11 @@ pub fn judge(pool: &[u8], starts: &[u32], count: usize, d: &[u8], id: &[u8]) -> 
     }
 }
 
-// A good zone in d: whether its ID is the asked one.
-fn named(pool: &[u8], starts: &[u32], count: usize, d: &[u8], id: &[u8]) -> Judged
+// A whole zone in d, which isn't checked again where it is known to be good. The walk over zones has this for itself, so that it is put in place
+// there; `judge` is for walks over other fields too.
+fn judge_by(pool: &[u8], starts: &[u32], count: usize, d: &[u8], id: &[u8], known: bool) -> Judged
     requires { ⌜ Ready (now pool) (now starts) × (count ≡ length (stringsOf (now pool))) ⌝ }
-    ensures { λ r. ⌜ NamedBy (now (id .entry)) (now (pool .entry)) (parseZone count (now (d .entry))) r ⌝ }
+    ensures { λ r. ⌜ JudgedBy known (now (id .entry)) (now (pool .entry)) (parseZone count (now (d .entry))) r ⌝ }
 {
     match places::name_at(d, 0, count as u64) {
         Read::Refused(n) => Judged::Fault(n),
@@ -51,20 +52,15 @@ fn named(pool: &[u8], starts: &[u32], count: usize, d: &[u8], id: &[u8]) -> Judg
             if strings::has_id(pool, starts, k, id) {
                 return Judged::Here;
             }
-            Judged::Keep
+            if known {
+                return Judged::Keep;
+            }
+            match zone_checks::check(d, count as u64) {
+                ZoneVerdict::Refused(n) => Judged::Fault(n),
+                ZoneVerdict::Good(_) => Judged::Keep,
+            }
         }
     }
-}
-
-// A whole zone in d, which isn't checked again where it is known to be good.
-fn judge_by(pool: &[u8], starts: &[u32], count: usize, d: &[u8], id: &[u8], known: bool) -> Judged
-    requires { ⌜ Ready (now pool) (now starts) × (count ≡ length (stringsOf (now pool))) ⌝ }
-    ensures { λ r. ⌜ JudgedBy known (now (id .entry)) (now (pool .entry)) (parseZone count (now (d .entry))) r ⌝ }
-{
-    if known {
-        return named(pool, starts, count, d, id);
-    }
-    judge(pool, starts, count, d, id)
 }
 
 // The zones behind field 0, whose data is s[start..end]. Where `known` says that the asked one has been met, those before it are not checked again.

@@ -441,7 +441,7 @@ pub extern "C" fn nzd_receiver_normalize(r: Receiver, buffer: &[u8], out: &mut [
 pub extern "C" fn nzd_read_count(s: &[u8], out: &mut [i64; 2]) -> u64
     ensures { λ r. ⌜ Gives (readReply (readCount (now (s .entry)))) (now (out .entry)) r (now (out .exit)) ⌝ }
 {
-    let c = counts::read_count(s);
+    let c = count_readers::read_count(s);
     replies::give_read(c, out)
 }
 
@@ -449,7 +449,7 @@ pub extern "C" fn nzd_read_count(s: &[u8], out: &mut [i64; 2]) -> u64
 pub extern "C" fn nzd_read_signed_count(s: &[u8], out: &mut [i64; 2]) -> u64
     ensures { λ r. ⌜ Gives (numberReply (readSignedCount (now (s .entry)))) (now (out .entry)) r (now (out .exit)) ⌝ }
 {
-    let c = counts::read_signed_count(s);
+    let c = count_readers::read_signed_count(s);
     replies::give_number(c, out)
 }
 
@@ -457,7 +457,7 @@ pub extern "C" fn nzd_read_signed_count(s: &[u8], out: &mut [i64; 2]) -> u64
 pub extern "C" fn nzd_read_offset(s: &[u8], out: &mut [i64; 2]) -> u64
     ensures { λ r. ⌜ Gives (numberReply (readOffset (now (s .entry)))) (now (out .entry)) r (now (out .exit)) ⌝ }
 {
-    let c = offsets::read_offset(s);
+    let c = offset_readers::read_offset(s);
     replies::give_number(c, out)
 }
 
@@ -479,7 +479,7 @@ pub extern "C" fn nzd_read_transition(
     ensures { λ r. ⌜ Gives (momentReply (readMoment (previousOf finite previous) (now (s .entry)))) (now (out .entry)) r (now (out .exit)) ⌝ }
 {
     let p = moment_replies::previous_of(finite, previous);
-    let c = transitions::read_moment(p, s);
+    let c = transition_readers::read_moment(p, s);
     moment_replies::give_moment(c, out)
 }
 
@@ -495,7 +495,7 @@ pub extern "C" fn nzd_write_count(v: i64, out: &mut [u8]) -> u64
 pub extern "C" fn nzd_write_signed_count(v: i64, out: &mut [u8]) -> u64
     ensures { λ r. ⌜ Puts (signedCountForm v) (now (out .entry)) r (now (out .exit)) ⌝ }
 {
-    let w = counts::write_signed_count(v, out);
+    let w = count_writers::write_signed_count(v, out);
     replies::written(w)
 }
 
@@ -503,7 +503,7 @@ pub extern "C" fn nzd_write_signed_count(v: i64, out: &mut [u8]) -> u64
 pub extern "C" fn nzd_write_offset(ms: i64, out: &mut [u8]) -> u64
     ensures { λ r. ⌜ Puts (offsetForm ms) (now (out .entry)) r (now (out .exit)) ⌝ }
 {
-    let w = offsets::write_offset(ms, out);
+    let w = offset_writers::write_offset(ms, out);
     replies::written(w)
 }
 
@@ -527,7 +527,7 @@ pub extern "C" fn nzd_write_transition(
 {
     let p = moment_replies::previous_of(finite, previous);
     let m = moment_replies::moment_of(kind, ticks);
-    let w = transitions::write_moment(p, m, out);
+    let w = transition_writers::write_moment(p, m, out);
     replies::written(w)
 }
 

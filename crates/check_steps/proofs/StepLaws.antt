@@ -124,7 +124,7 @@ module _ (s : List ℕ) (c : Cursor) (ix od : List ℕ) (f : Frame)
     first-zero z = ltb-false 4 (c .at) (zero-first seen (c .prev) i (headed .ordered) z)
 
     -- the field ends past the version
-    ends-past : (0 < c .at → 4 ≤ c .at) → 4 < c .at + (n + m)
+    pub ends-past : (0 < c .at → 4 ≤ c .at) → 4 < c .at + (n + m)
     ends-past p = let l : 4 ≤ c .at = p (pos-of-ne-zero (headed .place)) in omega (arith, room .head)
 
     content-is : (y : Memory) (x : Content Memory ⊥) → judged y i (c .at + n) (part s (c .at + n) (c .at + (n + m))) ≡ x

@@ -1,12 +1,15 @@
 // One step of the walk over a file: the frame at a cursor.
+use extents::Extent;
 use field_checks::Conclusion;
 use field_readers::Kept;
 use field_readers::Taken;
 use frames::Frame;
+ghost use mathlib.Core.Path.{_≡_};
 ghost use Prim.Native.Nat.{_≤_};
 ghost use lib.ListN.{length};
 ghost use Rattle.field_readers.specs.Remembered.{Indexed, Ordered};
 ghost use Rattle.check_steps.specs.Cursor.{Stepped};
+ghost use Rattle.check_steps.specs.Passed.{passed};
 ghost use Rattle.check_steps.specs.Flags.{FlagsStepped};
 
 // A place between frames, the ID of the field before it, and what is remembered. A field came before it where it is past the version's end.
@@ -22,7 +25,29 @@ pub enum Turn {
     Next(Cursor),
 }
 
-// The frame at a cursor.
+// A cursor behind the fields of which nothing is read: behind an ID above 7 there are no others, so their heads are walked over at once.
+fn pass(s: &[u8], c: Cursor) -> Cursor
+    requires { ⌜ c .at ≤ length (now s) ⌝ }
+    ensures { λ r. ⌜ r ≡ passed (now (s .entry)) c ⌝ }
+{
+    let prev = c.prev;
+    if prev < 8 {
+        return c;
+    }
+    let from = Extent {
+        at: c.at,
+        prev: prev,
+    };
+    let kept = c.kept;
+    let x = extents::whole_end(s, from);
+    Cursor {
+        at: x.at,
+        prev: x.prev,
+        kept: kept,
+    }
+}
+
+// The frame at a cursor, and the fields behind it of which nothing is read.
 pub fn step(
     s: &[u8],
     c: Cursor,
@@ -50,11 +75,14 @@ pub fn step(
             let t = each_field::take_field(s, kept, i, at + h, e, index, order, flags);
             match t {
                 Taken::Refused(m) => Turn::Done(Conclusion::Refused(m, at)),
-                Taken::Keep(k) => Turn::Next(Cursor {
-                    at: e,
-                    prev: i as usize,
-                    kept: k,
-                }),
+                Taken::Keep(k) => {
+                    let d = Cursor {
+                        at: e,
+                        prev: i as usize,
+                        kept: k,
+                    };
+                    Turn::Next(pass(s, d))
+                }
             }
         }
     }

@@ -29,7 +29,7 @@ pub fn field_size(n: usize) -> usize
     requires { ⌜ n ≤ 20971520 ⌝ }
     ensures { λ r. ⌜ r ≡ 1 + length (writeCount n) + n ⌝ }
 {
-    1 + counts::count_size(n as u64) + n
+    1 + count_writers::count_size(n as u64) + n
 }
 
 // Writes the closed data of a field with the ID i.

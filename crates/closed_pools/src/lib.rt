@@ -23,7 +23,7 @@ fn count_from(d: &[u8], at: usize) -> Read
             return Read::Value(b, 1);
         }
     }
-    counts::read_count(&d[at..])
+    count_readers::read_count(&d[at..])
 }
 
 // The places of the k strings of a good pool, from the first one on.
@@ -53,7 +53,7 @@ fn index_pool(d: &[u8], starts: &mut [u32]) -> usize
     requires { ⌜ GoodPool (now d) × (8192 ≤ length (now starts)) ⌝ }
     ensures { λ r. ⌜ Indexed (now (d .entry)) (now (starts .exit)) r ⌝ }
 {
-    let g = counts::read_count(d);
+    let g = count_readers::read_count(d);
     match g {
         Read::Refused(_) => 0,
         Read::Value(v, a) => {
@@ -73,7 +73,7 @@ fn text_size(d: &[u8], starts: &[u32], n: usize, k: usize) -> usize
         return 1;
     }
     let t = strings::text_by(d, starts, k);
-    counts::count_size(t.len() as u64) + t.len()
+    count_writers::count_size(t.len() as u64) + t.len()
 }
 
 // The length of the strings with the numbers in order.
@@ -97,7 +97,7 @@ pub fn pool_size(d: &[u8], order: &[u64]) -> usize
 {
     let mut starts = [0u32; 8192];
     let n = index_pool(d, &mut starts);
-    counts::count_size(order.len() as u64) + texts_size(d, &starts, n, order)
+    count_writers::count_size(order.len() as u64) + texts_size(d, &starts, n, order)
 }
 
 // Writes a string's length and its bytes.

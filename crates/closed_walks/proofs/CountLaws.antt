@@ -1,10 +1,12 @@
 -- The mentions of all fields counted. Assumes nothing.
-use mathlib.Core.Path.{_≡_, refl, sym, ap, _∙_}
+use mathlib.Core.Path.{_≡_, refl, sym, ap, _∙_, subst}
 use mathlib.Core.List.{List, [], _∷_, _++_}
 use Prim.Native.Nat.{ℕ, zero, suc, _+_, _-_, _≤_, _<_}
 use native.Mathlib.Omega.{arith}
 use lib.ListN.{length, getD, length-take}
+use Rattle.base.specs.All.{All}
 use Rattle.base.specs.Parsed.{Parsed, got, bad}
+use Rattle.base.proofs.AllLaws.{all-head, all-tail}
 use Rattle.frames.specs.Frame.{Field}
 use Rattle.frames.specs.Fields.{fields}
 use Rattle.frames.specs.Covers.{Covers}
@@ -17,9 +19,11 @@ use Rattle.mentions.specs.declared.Stage.{Stage}
 use Rattle.mentions.specs.Walk.{firstStage}
 use Rattle.mentions.specs.Content.{Mention, parseMention, onward, contentFrom, numbersIn, numbersOf}
 use Rattle.mentions.proofs.ContentLaws.{mention-left}
+use Rattle.mention_runs.specs.Run.{Room}
+use Rattle.counted_zones.specs.Steps.{zoneNames, zoneEnd}
 use Rattle.renumbering.specs.Table.{Fits}
 use Rattle.closed_files.specs.File.{mentionsIn}
-use Rattle.closed_walks.specs.View.{Walkable}
+use Rattle.closed_walks.specs.View.{ZoneStepped, Walkable}
 
 mention-append : (a b u : List ℕ) → mentionAll (a ++ b) u ≡ mentionAll b (mentionAll a u)
 unfolding mentionAll
@@ -47,17 +51,24 @@ module _ (f start : List ℕ) where
   pub record Counting (uses : List ℕ) (at : ℕ) : Type 0 where
     pub rest : List Field
     pub covers : Covers f at rest
+    pub zones : All (λ g. ZoneStepped (g .id) (g .body)) rest
     pub all : length uses ≡ length start
     pub room : (k : ℕ) → getD uses k 0 + (length f - at) ≤ 4294967295
     pub same : mentionAll (mentionsIn rest) uses ≡ mentionAll (mentionsIn (fields f)) start
 
   pub counting-start : Walkable f → Fits start (length f) → Counting start 4
-  counting-start w t = record { rest = fields f; covers = w .covers; all = refl; room = λ k. omega (arith, t .room k); same = refl }
+  counting-start w t = record { rest = fields f; covers = w .covers; zones = w .zones; all = refl; room = λ k. omega (arith, t .room k); same = refl }
 
   module _ (uses : List ℕ) (at : ℕ) (c : Counting uses at) where
     module _ (r : Extent) (l : at < length f) (i : IsField f at r) where
       pub turn : Turned f at (c .rest) r
       turn = turned f at (c .rest) r (c .covers) l i
+
+      zones-turned : All (λ g. ZoneStepped (g .id) (g .body)) (turn .field ∷ turn .others)
+      zones-turned = subst (All (λ g. ZoneStepped (g .id) (g .body))) (turn .split) (c .zones)
+
+      pub zone-here : ZoneStepped (r .id) (partOf f r)
+      zone-here = let u = turn in rw (u .id, u .body) (all-head zones-turned)
 
       part-length : length (partOf f r) ≤ r .end - r .start
       part-length = rw length-take (omega arith)
@@ -74,6 +85,7 @@ module _ (f start : List ℕ) where
           rw e (record {
             rest = u .others;
             covers = u .covers;
+            zones = all-tail zones-turned;
             all = length-uses (numbersOf (r .id) (partOf f r)) uses ∙ c .all;
             room = λ k. let m = uses-most (numbersOf (r .id) (partOf f r)) uses k in let n : length (numbersOf (r .id) (partOf f r)) ≤ length (partOf f r) = numbers-most (suc (length (partOf f r))) (firstStage (r .id)) (partOf f r) in omega (arith, c .room k, u .farther, u .ordered, u .within);
             same =
@@ -86,3 +98,11 @@ module _ (f start : List ℕ) where
     pub counting-end : length f ≤ at → uses ≡ mentionAll (mentionsIn (fields f)) start
     unfolding mentionsIn mentionAll
     counting-end l = sym (ap (λ (q : List Field). mentionAll (mentionsIn q) uses) (none-left f at (c .rest) (c .covers) l)) ∙ c .same
+
+-- a zone, by its codes' first bytes
+module _ (i : ℕ) (d u : List ℕ) (z : ZoneStepped i d) (e : i ≡ 1) where
+  pub zone-fits : Fits u (length d) → (zoneEnd d ≤ length d) × Room u (length d)
+  zone-fits t = (z .within e, record { room = t .room })
+
+  pub zone-counted : (w : List ℕ) → w ≡ mentionAll (zoneNames d) u → w ≡ mentionAll (numbersOf i d) u
+  zone-counted w h = h ∙ ap (λ (ns : List ℕ). mentionAll ns u) (z .names e)

@@ -10,17 +10,25 @@ use Rattle.base.specs.All.{All}
 use Rattle.frames.specs.Fields.{fields}
 use Rattle.frames.specs.Covers.{Covers}
 use Rattle.frames.specs.Frame.{Field}
+use Rattle.mentions.specs.Content.{numbersOf}
+use Rattle.counted_zones.specs.Steps.{zoneNames, zoneEnd}
 use Rattle.closed_files.specs.File.{mentionsIn, closedData, closedFields}
 use Rattle.closed_fields.specs.View.{NumbersKept, PoolChecked}
 use Rattle.closed_walks.specs.declared.Unread.{Unread}
 use Rattle.closed_walks.specs.declared.Unread.the-variants.{At, Nothing}
 
--- the fields of f stand behind the version, one behind the other to its end, and its pool is one that the check takes
+-- the data d of a field with the ID i, where that is a zone's, are a zone whose names stand where its codes' first bytes say
+pub record ZoneStepped (i : ℕ) (d : List ℕ) : Type 0 where
+  pub names : i ≡ 1 → zoneNames d ≡ numbersOf i d
+  pub within : i ≡ 1 → zoneEnd d ≤ length d
+
+-- the fields of f stand behind the version, one behind the other to its end, and its pool and its zones are such as the check takes
 pub record Walkable (f : List ℕ) : Type 0 where
   pub covers : Covers f 4 (fields f)
   pub version : take 4 f ≡ 0 ∷ 0 ∷ 0 ∷ 0 ∷ []
   pub limit : length f ≤ 4194304
   pub pools : All (λ g. PoolChecked (g .id) (g .body)) (fields f)
+  pub zones : All (λ g. ZoneStepped (g .id) (g .body)) (fields f)
 
 -- where kept holds, each number of an order stands at its own place
 pub record InPlace (kept : Bool) (order : List ℕ) : Type 0 where

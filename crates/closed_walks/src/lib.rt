@@ -11,7 +11,7 @@ ghost use Rattle.renumbering.specs.Table.{Fits};
 ghost use Rattle.closed_files.specs.File.{mentionsIn, closedData, closedFields, unreadId, firstUnread};
 ghost use Rattle.mentions.specs.Content.{numbersOf};
 ghost use Rattle.closed_fields.specs.View.{NumbersKept, PoolChecked};
-ghost use Rattle.closed_walks.specs.View.{Walkable, InPlace, Closable, sizesOf, HasSizes, SizeAt, unreadOf};
+ghost use Rattle.closed_walks.specs.View.{ZoneStepped, Walkable, InPlace, Closable, sizesOf, HasSizes, SizeAt, unreadOf};
 
 // Whether a field with the ID i is one that isn't read.
 fn is_unread(i: u8) -> bool
@@ -48,6 +48,18 @@ pub fn first_unread(s: &[u8]) -> Unread
     Unread::Nothing
 }
 
+// Counts the mentions in the data of a field with the ID i. A zone's, nearly all, are counted by the first bytes of its codes.
+fn count_field(i: u8, d: &[u8], uses: &mut [u32])
+    requires { ⌜ ZoneStepped i (now d) × Fits (now uses) (length (now d)) ⌝ }
+    ensures { λ _. ⌜ now (uses .exit) ≡ mentionAll (numbersOf i (now (d .entry))) (now (uses .entry)) ⌝ }
+{
+    if i == 1 {
+        counted_zones::count_zone(d, uses);
+        return;
+    }
+    renumbering::count(i, d, uses);
+}
+
 // Counts the mentions of all fields.
 pub fn count_mentions(s: &[u8], uses: &mut [u32])
     requires { ⌜ Walkable (now s) × Fits (now uses) (length (now s)) ⌝ }
@@ -58,7 +70,7 @@ pub fn count_mentions(s: &[u8], uses: &mut [u32])
         let f = whole_fields::read_field(s, at);
         let a = f.start;
         let e = f.end;
-        renumbering::count(f.id, &s[a..e], uses);
+        count_field(f.id, &s[a..e], uses);
         at = e;
     }
 }

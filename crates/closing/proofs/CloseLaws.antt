@@ -16,11 +16,13 @@ use Rattle.base.proofs.AllLaws.{all-map}
 use Rattle.base.proofs.Tests.{clash}
 use Rattle.frames.specs.Frame.{Field}
 use Rattle.pool.specs.Pool.{stringsIn}
+use Rattle.pool.proofs.PoolLaws.{few as few-strings}
 use Rattle.frames.specs.Fields.{Listing, fields}
 use Rattle.frames.specs.Covers.{Covers}
 use Rattle.frames.proofs.PartLaws.{walk-ended}
 use Rattle.frames.proofs.CoverLaws.{ordered-some, framed-listing, listing-covers}
 use Rattle.field_checks.specs.Check.{start, job, checkOf, WellFormed}
+use Rattle.field_checks.specs.File.{AsZone}
 use Rattle.field_checks.specs.declared.Verdict.{Verdict}
 use Rattle.field_checks.specs.declared.Verdict.the-variants.{Good, Refused as Ill}
 use Rattle.field_checks.proofs.WellFormedLaws.{good-well-formed}
@@ -29,15 +31,19 @@ use Rattle.pieces.specs.View.{Put}
 use Rattle.use_order.specs.Order.{mentionAll, orderOf, numberedFrom, newNumber}
 use Rattle.use_order.specs.Fill.{Ordered}
 use Rattle.use_order.proofs.NumberLaws.{numbered-most}
+use Rattle.mentions.specs.Content.{numbersOf}
 use Rattle.renumbered_runs.specs.Run.{Small}
+use Rattle.counted_zones.specs.Steps.{zoneNames}
+use Rattle.stepped_zones.proofs.ZoneLaws.{zone-stepped}
 use Rattle.renumbering.specs.Table.{Fits}
-use Rattle.closed_files.specs.File.{mentionsIn, newOrder, newTable, closedFields, closedFile, closed, firstUnread, givenSized, leftSized, closeOf, outputOf}
+use Rattle.closed_files.specs.File.{mentionsIn, usesOf, newOrder, newTable, closedFields, closedFile, closed, firstUnread, givenSized, leftSized, closeOf, outputOf}
 use Rattle.closed_files.specs.declared.Closed.{Closed}
 use Rattle.closed_files.specs.declared.Closed.the-variants.{Length, Refused}
-use Rattle.closed_files.proofs.PlaceLaws.{Placed, mentioned-placed}
+use Rattle.closed_files.proofs.PlaceLaws.{Placed, length-uses-of, mentioned-placed}
 use Rattle.mentioned_numbers.proofs.MentionedLaws.{file-below}
 use Rattle.closed_fields.specs.View.{NumbersKept, PoolChecked}
-use Rattle.closed_walks.specs.View.{Walkable, InPlace, unreadOf}
+use Rattle.closed_walks.specs.View.{ZoneStepped, Walkable, InPlace, unreadOf}
+use Rattle.unchanged_files.specs.View.{SameWhere}
 use Rattle.closed_walks.specs.declared.Unread.{Unread}
 use Rattle.closed_walks.specs.declared.Unread.the-variants.{At, Nothing}
 
@@ -53,12 +59,32 @@ pools-good f w b =
     rw all (all-also (record { good = λ _. file .pool ∙ ap (λ (ts : List (List ℕ)). got ts []) (sym (ap stringsIn (file .pool))) })
     (all-map (λ g h. record { good = λ e. absurd (omega arith) }) (ordered-some 0 (file .others) (file .framed .ordered))))
 
+-- and its zones were read
+zones-good : (f : List ℕ) → WellFormed f → Bytes f → All (λ g. ZoneStepped (g .id) (g .body)) (fields f)
+zones-good f w b =
+    let file = well-formed-file f w in
+    let all : fields f ≡ file .first ∷ file .others = ap (λ (x : Listing). x .fields) (framed-listing f b (file .first) (file .others) (file .framed)) in
+    let few : length (file .strings) ≤ 8192 =
+    subst (λ (ts : List (List ℕ)). length ts ≤ 8192) (ap stringsIn (file .pool)) (few-strings (file .first .body)) in
+    rw all (all-also (no-zone (file .first) (file .framed .is-first))
+    (all-map (λ g h. stepped (file .strings) few g h) (file .zones)))
+  where
+    no-zone : (g : Field) → g .id ≡ 0 → ZoneStepped (g .id) (g .body)
+    no-zone g h = record { names = λ e. absurd (omega (arith, h, e)); within = λ e. absurd (omega (arith, h, e)) }
+
+    stepped : (ts : List (List ℕ)) → length ts ≤ 8192 → (g : Field) → AsZone ts g → ZoneStepped (g .id) (g .body)
+    stepped ts few g h =
+        record {
+          names = λ e. subst⁻¹ (λ (i : ℕ). zoneNames (g .body) ≡ numbersOf i (g .body)) e (zone-stepped (length ts) few (g .body) (h e .zone) (h e .parsed) .0);
+          within = λ e. zone-stepped (length ts) few (g .body) (h e .zone) (h e .parsed) .1;
+        }
+
 -- A GOOD FILE can be walked
 pub walkable : (f : List ℕ) → checkOf f ≡ Good → Bytes f → Walkable f
 walkable f e b =
     let w = good-well-formed f e in
     let c = listing-covers f (walk-ended job start (w .memory) f (length f) (w .ends) .whole) (w .some-field) in
-    record { covers = c; version = well-formed-file f w .framed .version; limit = covers-limit f 4 (fields f) (omega arith) c; pools = pools-good f w b }
+    record { covers = c; version = well-formed-file f w .framed .version; limit = covers-limit f 4 (fields f) (omega arith) c; pools = pools-good f w b; zones = zones-good f w b }
 
 -- and mentions no number past the largest count of a pool
 pub below : (f : List ℕ) → checkOf f ≡ Good → Bytes f → All (λ k. k < 8192) (mentionsIn (fields f))
@@ -154,3 +180,15 @@ module _ (f uses order₀ order table : List ℕ) (n : ℕ) (u : uses ≡ mentio
 
       stays : kept ≡ true → (k : ℕ) → Placed (newOrder (fields f)) (newTable (fields f)) k → newNumber (newTable (fields f)) k ≡ k
       stays e k q = sym (places .at-place e (newNumber (newTable (fields f)) k) (q .inside)) ∙ q .is
+
+pub uses-few : (gs : List Field) (uses : List ℕ) → uses ≡ usesOf gs → length uses ≤ 8192
+uses-few gs uses e = omega (arith, (ap length e ∙ length-uses-of gs))
+
+-- a file that is its own closed file
+module _ (f d : List ℕ) (w : Walkable f) (r : Bool) (s : SameWhere r f) (t : r ≡ true) where
+  pub same-no-room : length d < length f → (Refused 15 0 ≡ givenSized (closedFile (fields f)) d) × (d ≡ leftSized (closedFile (fields f)) d)
+  same-no-room h = rw (s .same t) (no-room f d (w .limit) h)
+
+  pub same-written : (n : ℕ) (o : List ℕ) → length f ≤ length d → Put f d n o
+      → (Length n ≡ givenSized (closedFile (fields f)) d) × (o ≡ leftSized (closedFile (fields f)) d)
+  same-written n o h p = rw (s .same t) (written f d (w .limit) n o h p)

@@ -7,21 +7,19 @@ ghost use mathlib.Core.Path.{_≡_};
 ghost use Prim.Native.Nat.{_<_};
 ghost use Rattle.base.specs.All.{All};
 ghost use Rattle.frames.specs.Fields.{fields};
-ghost use Rattle.closed_files.specs.File.{mentionsIn, closedFile, givenSized, leftSized, closeOf, outputOf};
+ghost use Rattle.closed_files.specs.File.{mentionsIn, usesOf, closedFile, givenSized, leftSized, closeOf, outputOf};
 ghost use Rattle.closed_walks.specs.View.{Walkable};
 
-// Closes up the pool of a file that is good and has no field that isn't read. Where its order is the pool's own, no mention is written anew.
-fn close_read(s: &[u8], out: &mut [u8]) -> Closed
-    requires { ⌜ Walkable (now s) × All (λ k. k < 8192) (mentionsIn (fields (now s))) ⌝ }
+// Closes up the pool of a file whose uses are counted. Where its order is the pool's own, no mention is written anew.
+fn close_counted(s: &[u8], uses: &[u32], out: &mut [u8]) -> Closed
+    requires { ⌜ Walkable (now s) × All (λ k. k < 8192) (mentionsIn (fields (now s))) × (now uses ≡ usesOf (fields (now s))) ⌝ }
     ensures { λ r. ⌜ (r ≡ givenSized (closedFile (fields (now (s .entry)))) (now (out .entry))) × (now (out .exit) ≡ leftSized (closedFile (fields (now (s .entry)))) (now (out .entry))) ⌝ }
 {
-    let mut uses = [0u32; 8192];
     let mut order = [0u64; 8192];
     let mut room = [0u64; 8192];
     let mut table = [0u32; 8192];
     let mut sizes = [0u32; 8192];
-    closed_walks::count_mentions(s, &mut uses);
-    let n = use_order::ordered(&uses, &mut order, &mut room);
+    let n = use_order::ordered(uses, &mut order, &mut room);
     use_order::number(&order[..n], &mut table);
     let kept = closed_walks::in_place(&order[..n]);
     let size = closed_walks::total(s, &order[..n], &table, kept, &mut sizes);
@@ -32,6 +30,22 @@ fn close_read(s: &[u8], out: &mut [u8]) -> Closed
         return Closed::Refused(15, 0);
     }
     Closed::Length(closed_walks::write_file(s, &order[..n], &table, kept, &sizes, out))
+}
+
+// Closes up the pool of a file that is good and has no field that isn't read. A file that is closed up already is copied.
+fn close_read(s: &[u8], out: &mut [u8]) -> Closed
+    requires { ⌜ Walkable (now s) × All (λ k. k < 8192) (mentionsIn (fields (now s))) ⌝ }
+    ensures { λ r. ⌜ (r ≡ givenSized (closedFile (fields (now (s .entry)))) (now (out .entry))) × (now (out .exit) ≡ leftSized (closedFile (fields (now (s .entry)))) (now (out .entry))) ⌝ }
+{
+    let mut uses = [0u32; 8192];
+    closed_walks::count_mentions(s, &mut uses);
+    if unchanged_files::is_closed(s, &uses) {
+        if out.len() < s.len() {
+            return Closed::Refused(15, 0);
+        }
+        return Closed::Length(bytes::copy(s, out));
+    }
+    close_counted(s, &uses, out)
 }
 
 // Closes up the pool of a whole file into the front of the output, all checked first.

@@ -41,31 +41,31 @@ fn show_wrote(r: Wrote) {
 
 fn read_code(kind: u8, previous: i64, s: &[u8]) {
     if kind == b'c' {
-        show_read(counts::read_count(s));
+        show_read(count_readers::read_count(s));
         return;
     }
     if kind == b's' {
-        show_signed(counts::read_signed_count(s));
+        show_signed(count_readers::read_signed_count(s));
         return;
     }
     if kind == b'o' {
-        show_signed(offsets::read_offset(s));
+        show_signed(offset_readers::read_offset(s));
         return;
     }
-    show_signed(transitions::read_transition(previous, s));
+    show_signed(transition_readers::read_transition(previous, s));
 }
 
 fn write_code(kind: u8, previous: i64, s: &[u8], out: &mut [u8]) -> Wrote {
     if kind == b'c' {
-        return counts::write_count(cases::natural(s), out);
+        return count_writers::write_count(cases::natural(s), out);
     }
     if kind == b's' {
-        return counts::write_signed_count(cases::integer(s), out);
+        return count_writers::write_signed_count(cases::integer(s), out);
     }
     if kind == b'o' {
-        return offsets::write_offset(cases::integer(s), out);
+        return offset_writers::write_offset(cases::integer(s), out);
     }
-    transitions::write_transition(previous, cases::integer(s), out)
+    transition_writers::write_transition(previous, cases::integer(s), out)
 }
 
 // Writes the number that s spells, and shows the output.

@@ -46,7 +46,7 @@ fn write_piece(prev: u64, m: u64, s: &[u8], out: &mut [u8]) -> usize
     requires { ⌜ Moment m × (length (writeMoment prev m ++ now s) ≤ length (now out)) ⌝ }
     ensures { λ r. ⌜ Put (writeMoment prev m ++ now (s .entry)) (now (out .entry)) r (now (out .exit)) ⌝ }
 {
-    match transitions::write_moment(prev, m, out) {
+    match transition_writers::write_moment(prev, m, out) {
         Wrote::Refused(_) => 0,
         Wrote::Length(n) => n + bytes::copy(s, &mut out[n..]),
     }
@@ -112,11 +112,11 @@ pub fn size_length(s: &[u8]) -> usize
     match pieces::read_head(s) {
         Read::Refused(_) => 0,
         Read::Value(n, _) => {
-            let most = counts::count_size(s.len() as u64);
-            if counts::count_size(pieces::least(s.len() as u64, n)) == most {
+            let most = count_writers::count_size(s.len() as u64);
+            if count_writers::count_size(pieces::least(s.len() as u64, n)) == most {
                 return most;
             }
-            counts::count_size(zone_size(s) as u64)
+            count_writers::count_size(zone_size(s) as u64)
         }
     }
 }

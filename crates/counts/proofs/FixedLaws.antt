@@ -1,5 +1,5 @@
 -- Laws of numbers in a fixed number of bytes, at every width. Assumes nothing.
-use mathlib.Core.Path.{_≡_, refl, ap, ap₂, _∙_, subst⁻¹}
+use mathlib.Core.Path.{_≡_, refl, sym, ap, ap₂, _∙_, subst⁻¹}
 use mathlib.Core.List.{List, [], _∷_, _++_}
 use Prim.Native.Nat.{ℕ, zero, suc, _+_, _*_, _-_, _/_, _%_, _^_, _≤_, _<_}
 use native.Mathlib.Omega.{arith}
@@ -126,3 +126,51 @@ pub width : (n high wide : ℕ) → n ≤ 3 → high < wide → (high + 1) * 256
 width n high wide hn hh =
     let a : high + 1 ≤ wide = omega arith in
     mul-le-mul a (three n hn)
+
+-- four bytes, one after the other
+pub four-is : (s : List ℕ) (at : ℕ) → at + 4 ≤ length s
+    → ((getD s at 0 * 256 + getD s (at + 1) 0) * 256 + getD s (at + 2) 0) * 256 + getD s (at + 3) 0 ≡ fixedFrom 4 0 (drop at s)
+unfolding fixedFrom
+four-is s at h =
+    let a : suc at ≡ at + 1 = omega arith in
+    let b : suc (at + 1) ≡ at + 2 = omega arith in
+    let c : suc (at + 2) ≡ at + 3 = omega arith in
+    let d : drop at s ≡ getD s at 0 ∷ getD s (at + 1) 0 ∷ getD s (at + 2) 0 ∷ getD s (at + 3) 0 ∷ drop (suc (at + 3)) s =
+    drop-cons s at 0 (omega arith)
+    ∙ ap (λ (r : List ℕ). getD s at 0 ∷ r) (ap (λ (i : ℕ). drop i s) a ∙ drop-cons s (at + 1) 0 (omega arith)
+    ∙ ap (λ (r : List ℕ). getD s (at + 1) 0 ∷ r) (ap (λ (i : ℕ). drop i s) b ∙ drop-cons s (at + 2) 0 (omega arith)
+    ∙ ap (λ (r : List ℕ). getD s (at + 2) 0 ∷ r) (ap (λ (i : ℕ). drop i s) c ∙ drop-cons s (at + 3) 0 (omega arith)))) in
+    let z : getD s at 0 ≡ 0 + getD s at 0 = omega arith in
+    rw d (ap (λ (x : ℕ). ((x * 256 + getD s (at + 1) 0) * 256 + getD s (at + 2) 0) * 256 + getD s (at + 3) 0) z)
+
+-- eight bytes, four and four
+four-cons : (s : List ℕ) (at : ℕ) → at + 4 ≤ length s → drop at s ≡ getD s at 0 ∷ getD s (at + 1) 0 ∷ getD s (at + 2) 0 ∷ getD s (at + 3) 0 ∷ drop (at + 4) s
+four-cons s at h =
+    let a : suc at ≡ at + 1 = omega arith in
+    let b : suc (at + 1) ≡ at + 2 = omega arith in
+    let c : suc (at + 2) ≡ at + 3 = omega arith in
+    let d : suc (at + 3) ≡ at + 4 = omega arith in
+    drop-cons s at 0 (omega arith)
+    ∙ ap (λ (r : List ℕ). getD s at 0 ∷ r) (ap (λ (i : ℕ). drop i s) a ∙ drop-cons s (at + 1) 0 (omega arith)
+    ∙ ap (λ (r : List ℕ). getD s (at + 1) 0 ∷ r) (ap (λ (i : ℕ). drop i s) b ∙ drop-cons s (at + 2) 0 (omega arith)
+    ∙ ap (λ (r : List ℕ). getD s (at + 2) 0 ∷ r) (ap (λ (i : ℕ). drop i s) c ∙ drop-cons s (at + 3) 0 (omega arith)
+    ∙ ap (λ (r : List ℕ). getD s (at + 3) 0 ∷ r) (ap (λ (i : ℕ). drop i s) d))))
+
+below-high : (x a b c d : ℕ) (r : List ℕ) → fixedFrom 4 x (a ∷ b ∷ c ∷ d ∷ r) ≡ x * 4294967296 + fixedFrom 4 0 (a ∷ b ∷ c ∷ d ∷ r)
+unfolding fixedFrom
+below-high x a b c d r = omega arith
+
+four-first : (a b c d : ℕ) (r : List ℕ) → fixedFrom 8 0 (a ∷ b ∷ c ∷ d ∷ r) ≡ fixedFrom 4 (fixedFrom 4 0 (a ∷ b ∷ c ∷ d ∷ r)) r
+unfolding fixedFrom
+four-first a b c d r = refl
+
+pub eight-is : (s : List ℕ) (at : ℕ) → at + 8 ≤ length s → (a b : ℕ) → a ≡ fixedFrom 4 0 (drop at s) → b ≡ fixedFrom 4 0 (drop (at + 4) s)
+    → a * 4294967296 + b ≡ fixedFrom 8 0 (drop at s)
+eight-is s at h a b e f =
+    let p = four-cons s at (omega arith) in
+    let q = four-cons s (at + 4) (omega arith) in
+    ap (λ (x : ℕ). x * 4294967296 + b) e ∙ ap (λ (x : ℕ). fixedFrom 4 0 (drop at s) * 4294967296 + x) f
+    ∙ sym (ap (fixedFrom 8 0) p ∙ four-first _ _ _ _ (drop (at + 4) s)
+    ∙ ap (λ (r : List ℕ). fixedFrom 4 (fixedFrom 4 0 r) (drop (at + 4) s)) (sym p)
+    ∙ ap (fixedFrom 4 (fixedFrom 4 0 (drop at s))) q ∙ below-high (fixedFrom 4 0 (drop at s)) _ _ _ _ _
+    ∙ ap (λ (r : List ℕ). fixedFrom 4 0 (drop at s) * 4294967296 + fixedFrom 4 0 r) (sym q))

@@ -1,6 +1,6 @@
 -- What a cursor over a zone's intervals stands for. The code's way, tied to the zone's lookup by `held-same` (proofs/CursorLaws.antt): what a
 -- cursor holds is what the lookup gives at each instant of the interval.
-use Prim.Native.Nat.{ℕ, _≤_, _<_}
+use Prim.Native.Nat.{ℕ, _+_, _≤_, _<_}
 use mathlib.Core.Path.{_≡_}
 use mathlib.Core.List.{List, [], _∷_}
 use lib.ListN.{length, drop}
@@ -8,6 +8,7 @@ use Rattle.base.specs.Parsed.{Parsed, got, bad, many}
 use Rattle.base.specs.Moment.{Finite, endOfTime}
 use Rattle.intervals.specs.declared.Interval.{Interval}
 use Rattle.intervals.specs.Interval.{parseInterval, startOf}
+use Rattle.intervals.specs.Short.{shortInterval}
 use Rattle.intervals.specs.Sound.{Rising}
 use Rattle.tails.specs.Sound.{NamedTailOk}
 use Rattle.tails.specs.declared.NamedTail.{NamedTail}
@@ -71,6 +72,10 @@ pub record ListAt (pool : ℕ) (s : List ℕ) (i : Interval) (left place : ℕ) 
   pub stand : Stand pool s (i .start) list place
   pub ending-is : ending ≡ readOf behind
   pub whole : Whole pool s
+
+-- a cursor at the interval i, behind which one of five bytes stands at a place, and starts at m
+abbrev pub usualCursor : List ℕ → Interval → ℕ → ℕ → ℕ → Cursor
+usualCursor s i left place m = record { held = until i m; left = left; next = shortInterval s (place + 2) m; place = place + 5 }
 
 abbrev pub NextTo : ℕ → List ℕ → List Interval → Cursor → Type 0
 NextTo pool s [] c = Unit {0}

@@ -1,18 +1,18 @@
 -- Where the walk over heads ends, that it can go on from there with more bytes, and that its place is that of the first unfinished field.
 -- Assumes nothing.
 use mathlib.Core.Path.{_≡_, refl, sym, ap, _∙_}
-use mathlib.Core.Bool.{true, false}
+use mathlib.Core.Bool.{Bool, true, false}
 use mathlib.Core.List.{List, _++_}
 use mathlib.Core.Logic.{_⊎_, inl, inr}
-use Prim.Native.Nat.{ℕ, zero, suc, _+_, _-_, _≤_, _<_}
+use Prim.Native.Nat.{ℕ, zero, suc, _+_, _≤_, _<_}
 use native.Mathlib.Omega.{arith}
-use lib.ListN.{length, take, drop, length-drop, length-append}
+use lib.ListN.{length, drop, length-drop, length-append}
 use lib.Seq.{drop-drop, drop-append-le}
-use lib.Dec.{ltb}
+use lib.Dec.{ltb, eqb}
 use native.Mathlib.Nat.{pos-of-ne-zero}
-use borrow.Author.Tests.{lt-ltb, le-ltb}
-use Rattle.base.proofs.Parts.{part-from}
-use Rattle.frames.specs.Frame.{frame}
+use borrow.Author.Tests.{lt-ltb, le-ltb, eq-eqb, ne-eqb, eqb-true, eqb-false}
+use Rattle.base.specs.Pick.{pick}
+use Rattle.frames.specs.Frame.{version, frame}
 use Rattle.frames.specs.Fields.{refusedAt, listed, scan, listing, placeOf, unfinished}
 use Rattle.frames.specs.declared.Frame.{Frame}
 use Rattle.frames.specs.declared.Frame.the-variants.{End, Cut, Refused, Version, Whole}
@@ -167,27 +167,62 @@ module _ (s : List ℕ) where
       ap (λ (d : Extent). d .at) (sym (steps-enough (length s) s none (omega arith) (omega arith)))
       ∙ place-scan (suc (length s)) none (λ z. absurd (omega arith)) (omega arith) (omega arith)
 
--- the ways out of the code
-module _ (s : List ℕ) (c : Extent) (f : Frame) (h : f ≡ frame 255 (c .at) (ltb 4 (c .at)) (c .prev) (take (length s - c .at) (drop (c .at) s))) where
-  here-is : (x : Frame) → f ≡ x → x ≡ frame 255 (c .at) (ltb 4 (c .at)) (c .prev) (drop (c .at) s)
-  here-is x e = sym e ∙ h ∙ ap (frame 255 (c .at) (ltb 4 (c .at)) (c .prev)) (part-from (c .at) s)
+-- before the version
+module _ (s : List ℕ) where
+  version-frame : (a : ℕ) (seen : Bool) (prev : ℕ) → a ≡ 0 → frame 255 a seen prev (drop a s) ≡ version s
+  unfolding frame
+  version-frame a seen prev e = rw e
 
-  pub step-is : (x : Frame) → f ≡ x → behindFrame c x ≡ stepOf s c
+  -- a way out of the code: the version is x
+  pub version-step : (c : Extent) → c .at ≡ 0 → (f x : Frame) → f ≡ version s → f ≡ x → behindFrame c x ≡ pick (eqb (c .at) 0) (stepOf s c) c
   unfolding stepOf
-  step-is x e = ap (behindFrame c) (here-is x e)
+  version-step c z f x h e =
+      rw (eq-eqb (c .at) 0 z) (ap (behindFrame c) (sym e ∙ h ∙ sym (version-frame (c .at) (ltb 4 (c .at)) (c .prev) z)))
 
-  pub version-fits : f ≡ Version → c .at ≤ length s → c .at + 4 ≤ length s
-  version-fits e l =
-      omega (arith, version-room 255 (c .at) (ltb 4 (c .at)) (c .prev) (drop (c .at) s) (here-is Version e) .1, length-drop (c .at) s)
+  pub version-end : (c : Extent) → c .at ≡ 0 → record { at = 4; prev = 0 } ≡ behindFrame c Version
+  version-end c z = ap (λ (a : ℕ). record { at = a; prev = 0 }) (omega arith)
 
-  pub field-fits : (i u n : ℕ) → f ≡ Whole i u n → c .at ≤ length s → c .at + (u + n) ≤ length s
-  field-fits i u n e l =
-      omega (arith, whole-room 255 (c .at) (ltb 4 (c .at)) (c .prev) (drop (c .at) s) i u n (here-is (Whole i u n) e) .within, length-drop (c .at) s)
+  -- no field stands there
+  pub version-field : (f : Frame) → f ≡ version s → (i h n : ℕ) → f ≡ Whole i h n → ⊥
+  version-field f h i u n e = whole-headed 255 0 false 0 s i u n (version-frame 0 false 0 refl ∙ sym h ∙ e) .place refl
+
+  pub version-none : (c : Extent) → (c .at ≡ 0 → ⊥) → c ≡ pick (eqb (c .at) 0) (stepOf s c) c
+  version-none c z = rw (ne-eqb (c .at) 0 z)
 
 -- the loop has come to c
 pub record Coming (s : List ℕ) (from c : Extent) : Type 0 where
   pub within : c .at ≤ length s
   pub same : extentOf s c ≡ extentOf s from
+
+-- behind the version, where that is there
+module _ (s : List ℕ) (from c : Extent) (inside : from .at ≤ length s) (h : c ≡ pick (eqb (from .at) 0) (stepOf s from) from) where
+  by-version : (P : Type 0) → (from .at ≡ 0 → c ≡ stepOf s from → P) → ((from .at ≡ 0 → ⊥) → c ≡ from → P) → P
+  by-version P k j = go (eqb (from .at) 0) refl h
+    where
+      go : (t : Bool) → eqb (from .at) 0 ≡ t → c ≡ pick t (stepOf s from) from → P
+      go true e q = k (eqb-true (from .at) 0 e) q
+      go false e q = j (eqb-false (from .at) 0 e) q
+
+  pub coming-start : Coming s from c
+  coming-start =
+      by-version _
+      (λ z q. record { within = rw q (step-within (step-moves s from inside)); same = rw q (extent-onward s from inside) })
+      (λ z q. record { within = rw q inside; same = ap (extentOf s) q })
+    where
+      step-within : (stepOf s from ≡ from) ⊎ Moved s from → stepOf s from .at ≤ length s
+      step-within (inl q) = rw q inside
+      step-within (inr m) = m .within
+
+  -- no version
+  pub coming-none : c .at ≡ 0 → c ≡ extentOf s from
+  coming-none z =
+      by-version _
+      (λ y q. q ∙ stay (step-moves s from inside) (ap (λ (d : Extent). d .at) (sym q) ∙ z) y)
+      (λ y q. absurd (y (ap (λ (d : Extent). d .at) (sym q) ∙ z)))
+    where
+      stay : (stepOf s from ≡ from) ⊎ Moved s from → stepOf s from .at ≡ 0 → from .at ≡ 0 → stepOf s from ≡ extentOf s from
+      stay (inl q) e f = q ∙ sym (steps-stay (length s) s from q)
+      stay (inr m) e f = absurd (omega (arith, m .farther))
 
 module _ (s : List ℕ) (from c d : Extent) (w : Coming s from c) (h : d ≡ stepOf s c) where
   pub coming-done : d .at ≡ c .at → c ≡ extentOf s from

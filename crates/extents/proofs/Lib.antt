@@ -1,2 +1,4 @@
+pub mod SpanLaws
+pub mod FieldLaws
 pub mod ExtentLaws
 pub mod Examples

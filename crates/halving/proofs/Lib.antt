@@ -1,3 +1,4 @@
 pub mod StepLaws
+pub mod LookLaws
 pub mod HalvingLaws
 pub mod Worked

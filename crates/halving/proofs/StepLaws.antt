@@ -12,6 +12,7 @@ use borrow.Author.Tests.{lt-ltb, le-ltb, eq-eqb, ne-eqb}
 use Rattle.base.specs.Pick.{pick}
 use Rattle.base.proofs.Tests.{by-order}
 use Rattle.halving.specs.Halving.{halve, findStart}
+use Rattle.halving.specs.Looks.{Standing}
 use Rattle.halving.specs.declared.Search.the-variants.{Entry, Refused}
 
 -- both parts of n entries are some, and fewer
@@ -98,19 +99,15 @@ module _ (xs : List ℤ) (z : ℤ) where
     pub halve-drops : leZ (getD xs (low + n / 2) (pos 0)) z ≡ false → halve n xs z low n k ≡ halve (n / 2) xs z low (n / 2) (k + 1)
     halve-drops e = next ∙ rw e (halve-more (n - 1) (n / 2) low (n / 2) (k + 1) (omega (arith, d .fewer)) (omega arith))
 
-  -- where the loop stands: the n entries from low on are left, k were looked at
-  pub record Standing (low n k : ℕ) : Type 0 where
-    pub some : 0 < n
-    pub inside : low + n ≤ length xs
-    pub few : k + n ≤ length xs
-    pub same : findStart xs z ≡ halve n xs z low n k
+  abbrev Stands : ℕ → ℕ → ℕ → Type 0
+  Stands low n k = Standing xs z low n k
 
-  pub standing-start : (length xs ≡ 0 → ⊥) → Standing 0 (length xs) 0
+  pub standing-start : (length xs ≡ 0 → ⊥) → Stands 0 (length xs) 0
   standing-start h = record { some = omega arith; inside = omega arith; few = omega arith; same = find-some (omega arith) }
 
-  module _ (low n k : ℕ) (g : Standing low n k) where
+  module _ (low n k : ℕ) (g : Stands low n k) where
     module _ (h : 1 < n) where
-      pub standing-kept : leZ (getD xs (low + n / 2) (pos 0)) z ≡ true → Standing (low + n / 2) (n - n / 2) (k + 1)
+      pub standing-kept : leZ (getD xs (low + n / 2) (pos 0)) z ≡ true → Stands (low + n / 2) (n - n / 2) (k + 1)
       standing-kept e =
           let d : Halved n = halved n h in
           record {
@@ -120,7 +117,7 @@ module _ (xs : List ℤ) (z : ℤ) where
             same = g .same ∙ halve-keeps low n k h e;
           }
 
-      pub standing-before : leZ (getD xs (low + n / 2) (pos 0)) z ≡ false → Standing low (n / 2) (k + 1)
+      pub standing-before : leZ (getD xs (low + n / 2) (pos 0)) z ≡ false → Stands low (n / 2) (k + 1)
       standing-before e =
           let d : Halved n = halved n h in
           record {
@@ -134,10 +131,10 @@ module _ (xs : List ℤ) (z : ℤ) where
       pub standing-counted : (j : ℕ) → j ≡ pick (leZ (getD xs (low + n / 2) (pos 0)) z) 1 0 → Counted n j
       standing-counted j is = counted n j h (rw is (pick-one (leZ (getD xs (low + n / 2) (pos 0)) z)))
 
-      pub standing-next : (j : ℕ) → j ≡ pick (leZ (getD xs (low + n / 2) (pos 0)) z) 1 0 → Standing (low + n / 2 * (1 + j) - n / 2) ((n + j) / 2) (k + 1)
+      pub standing-next : (j : ℕ) → j ≡ pick (leZ (getD xs (low + n / 2) (pos 0)) z) 1 0 → Stands (low + n / 2 * (1 + j) - n / 2) ((n + j) / 2) (k + 1)
       standing-next j is = go (leZ (getD xs (low + n / 2) (pos 0)) z) refl
         where
-          go : (t : Bool) → leZ (getD xs (low + n / 2) (pos 0)) z ≡ t → Standing (low + n / 2 * (1 + j) - n / 2) ((n + j) / 2) (k + 1)
+          go : (t : Bool) → leZ (getD xs (low + n / 2) (pos 0)) z ≡ t → Stands (low + n / 2 * (1 + j) - n / 2) ((n + j) / 2) (k + 1)
           go true e = rw (is, e, twice low (n / 2), upper n) (standing-kept e)
           go false e = rw (is, e, once low (n / 2), add-zero n) (standing-before e)
 

@@ -38,7 +38,7 @@ fn order(seen: bool, prev: usize, i: u8) -> u8
 }
 
 // The version at the front of `r`.
-fn version(r: &[u8]) -> Frame
+pub fn version(r: &[u8]) -> Frame
     ensures { λ f. ⌜ f ≡ versionOf (now (r .entry)) ⌝ }
 {
     if r.len() < 4 {

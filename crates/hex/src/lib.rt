@@ -76,6 +76,12 @@ pub fn text<'a>(line: &'a [u8], k: usize) -> &'a [u8] {
     &line[at..e]
 }
 
+// What stands behind the first word of line.
+pub fn behind<'a>(line: &'a [u8]) -> &'a [u8] {
+    let at = past(line, find(line, 0, 32));
+    &line[at..]
+}
+
 // Puts the bytes that the k-th word of line spells at the start of out, and gives their number. A word that is not there, or is `-`,
 // spells none.
 pub fn word(line: &[u8], k: usize, out: &mut [u8]) -> usize

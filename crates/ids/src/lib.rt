@@ -45,7 +45,8 @@ fn find(
     while lo < hi {
         let mid = hi - back;
         let j = order[mid] as usize;
-        let o = string_order::compare(strings::text_by(pool, starts, j), id);
+        // Passed on as a part, which copies place and length one by one: both at once would wait for the stores of the caller.
+        let o = string_order::compare(strings::text_by(pool, starts, j), &id[0..]);
         match o {
             Ordering::Equal => {
                 return Place::Seen(j);

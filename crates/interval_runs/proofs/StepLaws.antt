@@ -24,7 +24,7 @@ use Rattle.long_starts.proofs.LongLaws.{size-least, size-two}
 use Rattle.pieces.specs.Form.{codePreferred}
 use Rattle.intervals.specs.Short.{shortOk}
 use Rattle.interval_runs.specs.declared.Run.{Run}
-use Rattle.interval_runs.specs.Run.{hoursAt, detailsAt, SameDetails, stepOf, Behind, longStepOf, nextOf, behind, goesOn, runAt, runFrom, runOf, Passed, Stopped, Fives}
+use Rattle.interval_runs.specs.Run.{hoursAt, detailsAt, SameDetails, stepOf, Behind, longStepOf, nextOf, behind, goesOn, runAt, runFrom, runOf, Passed, Stopped, Fitting}
 
 pub two-bytes-most : (s : List ℕ) (place : ℕ) → Bytes s → twoBytes s place ≤ 16383
 unfolding twoBytes
@@ -287,10 +287,27 @@ module _ (s : List ℕ) (pool : ℕ) (form : Bool) (stop : ℕ) where
 
 -- where the loop over intervals of five bytes stands
 module _ (s : List ℕ) (pool stop : ℕ) (from : Run) where
-  pub passed-start : from .place ≤ length s → Finite (from .last) → Passed s pool stop from (runAt (from .left) (from .place) (from .last))
-  passed-start i f = record { fewer = omega arith; inside = i; instant = f; same = λ _. refl }
+  pub passed-start : from .place ≤ length s → Finite (from .last) → (form : Bool) → Passed s pool form stop from (runAt (from .left) (from .place) (from .last))
+  passed-start i f form = record { fewer = omega arith; inside = i; instant = f; same = refl }
 
-  module _ (left place last : ℕ) (g : Passed s pool stop from (runAt left place last)) where
+  -- behind a longer start
+  pub passed-long : (form : Bool) (left place last : ℕ) → Passed s pool form stop from (runAt left place last) → (k : ℕ) → k ≡ startSize s place
+      → (k ≡ 2 → ⊥) → place + (k + 3) ≤ length s → (m : ℕ) → m ≡ longStepOf s pool form place k last → (m ≡ 0 → ⊥) → 0 < left → m ≤ stop
+      → Passed s pool form stop from (runAt (left - 1) (place + (k + 3)) m)
+  passed-long form left place last g k e z w m f o p l =
+      let x = long-stepped s pool form place k last m f o in
+      let y : behind s place ≡ place + (k + 3) = omega arith in
+      record {
+        fewer = omega (arith, g .fewer);
+        inside = w;
+        instant = x .later .instant (omega arith);
+        same =
+            g .same
+            ∙ run-goes s pool form stop left place last (omega arith) m (next-long s pool form place last k e z ∙ sym f) o p l
+            ∙ ap (λ (q : ℕ). runFrom s pool form stop (left - 1) q m) y;
+      }
+
+  module _ (left place last : ℕ) (g : (form : Bool) → Passed s pool form stop from (runAt left place last)) where
     stopped : (startSize s place ≡ 2 → (form : Bool) → runAt left place last ≡ runFrom s pool form stop left place last)
         → Stopped s pool stop from (runAt left place last)
     stopped h = record { passed = g; ends = h }
@@ -299,11 +316,11 @@ module _ (s : List ℕ) (pool stop : ℕ) (from : Run) where
     stopped-done z = stopped (λ _ form. run-none s pool form stop left place last z)
 
     pub stopped-cut : length s - place < 5 → Stopped s pool stop from (runAt left place last)
-    stopped-cut h = stopped (λ e form. run-cut s pool form stop left place last (omega (arith, g .inside)))
+    stopped-cut h = stopped (λ e form. run-cut s pool form stop left place last (omega (arith, g true .inside)))
 
     module _ (h : 5 ≤ length s - place) (m : ℕ) (e : m ≡ stepOf s pool place last) where
       end-two : startSize s place ≡ 2 → behind s place ≤ length s
-      end-two k = omega (arith, g .inside)
+      end-two k = omega (arith, g true .inside)
 
       pub stopped-other : m ≡ 0 → Stopped s pool stop from (runAt left place last)
       stopped-other z =
@@ -314,33 +331,34 @@ module _ (s : List ℕ) (pool stop : ℕ) (from : Run) where
         stopped-late l =
             stopped (λ k form. run-late s pool form stop left place last (end-two k) m (next-two s pool form place last k ∙ sym e) z l)
 
-        pub passed-next : 0 < left → m ≤ stop → stop ≤ lastInstant → Passed s pool stop from (runAt (left - 1) (place + 5) m)
-        passed-next k l t =
+        pub passed-next : 0 < left → m ≤ stop → stop ≤ lastInstant → (form : Bool) → Passed s pool form stop from (runAt (left - 1) (place + 5) m)
+        passed-next k l t form =
             let x = stepped s pool place last m e z in
             let two = two-size s place (x .two) in
             let five : behind s place ≡ place + 5 = omega arith in
             record {
-              fewer = omega (arith, g .fewer);
-              inside = omega (arith, g .inside);
-              instant = record { low = omega (arith, g .instant .low, x .sum); high = omega arith };
-              same = λ form.
-                  g .same form
+              fewer = omega (arith, g form .fewer);
+              inside = omega (arith, g form .inside);
+              instant = record { low = omega (arith, g form .instant .low, x .sum); high = omega arith };
+              same =
+                  g form .same
                   ∙ run-goes s pool form stop left place last (end-two two) m (next-two s pool form place last two ∙ sym e) z k l
                   ∙ ap (λ (q : ℕ). runFrom s pool form stop (left - 1) q m) five;
             }
 
-pub stopped-on : (s : List ℕ) (pool stop : ℕ) (from q r : Run) → Passed s pool stop from q → Stopped s pool stop q r → Stopped s pool stop from r
-stopped-on s pool stop from q r g x =
-    let y = x .passed in
-    record {
-      passed = record { fewer = omega (arith, g .fewer, y .fewer); inside = y .inside; instant = y .instant; same = λ form. g .same form ∙ y .same form };
-      ends = x .ends;
-    }
+pub passed-on : (s : List ℕ) (pool : ℕ) (form : Bool) (stop : ℕ) (from q r : Run) → Passed s pool form stop from q → Passed s pool form stop q r
+    → Passed s pool form stop from r
+passed-on s pool form stop from q r g y =
+    record { fewer = omega (arith, g .fewer, y .fewer); inside = y .inside; instant = y .instant; same = g .same ∙ y .same }
+
+pub stopped-on : (s : List ℕ) (pool stop : ℕ) (from q r : Run) → ((form : Bool) → Passed s pool form stop from q) → Stopped s pool stop q r
+    → Stopped s pool stop from r
+stopped-on s pool stop from q r g x = record { passed = λ form. passed-on s pool form stop from q r (g form) (x .passed form); ends = x .ends }
 
 -- where the loop behind two intervals stands: `left` of those for which there are bytes are to be read, and `rest` others
 module _ (s : List ℕ) (pool stop : ℕ) (from : Run) where
   pub record More (rest left place last : ℕ) : Type 0 where
-    pub passed : Passed s pool stop from (runAt (rest + left) place last)
+    pub passed : (form : Bool) → Passed s pool form stop from (runAt (rest + left) place last)
     pub two : Behind s pool place
     pub fits : 5 * left ≤ length s - place
     pub cut : 0 < rest → length s - place < 5 * left + 5
@@ -375,7 +393,7 @@ module _ (s : List ℕ) (pool stop : ℕ) (from : Run) where
             }
 
 pub more-start : (s : List ℕ) (pool stop left n place last : ℕ) → place ≤ length s → Finite last → Behind s pool place
-    → Fives left (length s - place) n → More s pool stop (runAt (left - n + n) place last) (left - n) n place last
+    → Fitting left (length s - place) 5 n → More s pool stop (runAt (left - n + n) place last) (left - n) n place last
 more-start s pool stop left n place last i f b x =
     record {
       passed = passed-start s pool stop (runAt (left - n + n) place last) i f;
@@ -409,8 +427,11 @@ module _ (s : List ℕ) (pool : ℕ) (form : Bool) (stop n from prev : ℕ) wher
       let f : Finite prev = record { low = l; high = h } in
       record { inside = i; instant = f; same = rw (finite-yes prev f) }
 
-  pub going-passed : (q r : Run) → Going q → Stopped s pool stop q r → Going r
-  going-passed q r g x = record { inside = x .passed .inside; instant = x .passed .instant; same = g .same ∙ x .passed .same form }
+  pub going-passed : (q r : Run) → Going q → Passed s pool form stop q r → Going r
+  going-passed q r g x = record { inside = x .inside; instant = x .instant; same = g .same ∙ x .same }
+
+  pub going-unasked : (q r : Run) → Going q → form ≡ false → Passed s pool false stop q r → Going r
+  going-unasked q r g e x = record { inside = x .inside; instant = x .instant; same = g .same ∙ rw e (x .same) }
 
   module _ (r : Run) (g : Going r) where
     pub ends-done : r .left ≡ 0 → r ≡ runOf s pool form stop n from prev
@@ -440,15 +461,15 @@ module _ (s : List ℕ) (pool : ℕ) (form : Bool) (stop n from prev : ℕ) wher
           pub ends-late : stop < m → r ≡ runOf s pool form stop n from prev
           ends-late l = run-late s pool form stop (r .left) (r .place) (r .last) room m next o l ∙ sym (g .same)
 
+          -- its details were judged
+          pub judged : detailsAt s pool (r .place + (k + 3) - 3) ≡ true
+          judged =
+              let x = long-stepped s pool form (r .place) k (r .last) m f o in
+              let y : r .place + (k + 3) - 3 ≡ r .place + k = omega arith in
+              rw (y, x .details, x .ok)
+
           pub going-next : 0 < r .left → m ≤ stop → Going (runAt (r .left - 1) (r .place + (k + 3)) m)
           going-next p l =
-              let x = long-stepped s pool form (r .place) k (r .last) m f o in
-              let y : behind s (r .place) ≡ r .place + (k + 3) = omega arith in
-              record {
-                inside = omega (arith, room);
-                instant = x .later .instant (omega arith);
-                same =
-                    g .same
-                    ∙ run-goes s pool form stop (r .left) (r .place) (r .last) room m next o p l
-                    ∙ ap (λ (q : ℕ). runFrom s pool form stop (r .left - 1) q m) y;
-              }
+              let q = passed-start s pool stop r (g .inside) (g .instant) form in
+              going-passed r (runAt (r .left - 1) (r .place + (k + 3)) m) g
+              (passed-long s pool stop r form (r .left) (r .place) (r .last) q k e z (omega (arith, g .inside)) m f o p l)

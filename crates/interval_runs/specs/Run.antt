@@ -2,12 +2,14 @@
 -- intervals by `run-ran` (proofs/RunLaws.antt).
 use Prim.Native.Nat.{ℕ, zero, suc, _+_, _-_, _*_, _≤_, _<_}
 use mathlib.Core.Path.{_≡_}
-use mathlib.Core.Bool.{Bool, true}
+use mathlib.Core.Bool.{Bool, true, false}
 use mathlib.Core.List.{List}
 use lib.Dec.{ltb, leb, eqb}
 use lib.ListN.{length, drop}
 use Rattle.base.specs.Pick.{pick, both}
 use Rattle.base.specs.Moment.{Finite, finite, lastInstant, endOfTime}
+use Rattle.counts.specs.Fixed.{fixedFrom}
+use Rattle.signed.specs.Instant.{fromRaw}
 use Rattle.transitions.specs.Transition.{hour, readMoment}
 use Rattle.transitions.specs.Later.{laterIn}
 use Rattle.places.specs.Short.{twoBytes, shortDetails}
@@ -72,22 +74,32 @@ unfoldable pub runOf : List ℕ → ℕ → Bool → ℕ → ℕ → ℕ → ℕ
 runOf s pool form stop left place last = pick (finite last) (runFrom s pool form stop left place last) (runAt left place last)
 
 -- a run from `from` on comes to r: what is left of it from there on is the same
-pub record Passed (s : List ℕ) (pool stop : ℕ) (from r : Run) : Type 0 where
+pub record Passed (s : List ℕ) (pool : ℕ) (form : Bool) (stop : ℕ) (from r : Run) : Type 0 where
   pub fewer : r .left ≤ from .left
   pub inside : r .place ≤ length s
   pub instant : Finite (r .last)
-  pub same : (form : Bool) → runFrom s pool form stop (from .left) (from .place) (from .last) ≡ runFrom s pool form stop (r .left) (r .place) (r .last)
+  pub same : runFrom s pool form stop (from .left) (from .place) (from .last) ≡ runFrom s pool form stop (r .left) (r .place) (r .last)
 
--- and it ends at r, unless a longer start stands there
+-- whether forms are asked for or not, and it ends at r, unless a longer start stands there
 pub record Stopped (s : List ℕ) (pool stop : ℕ) (from r : Run) : Type 0 where
-  pub passed : Passed s pool stop from r
+  pub passed : (form : Bool) → Passed s pool form stop from r
   pub ends : startSize s (r .place) ≡ 2 → (form : Bool) → r ≡ runFrom s pool form stop (r .left) (r .place) (r .last)
 
--- r is how many times five there are in room, at most n
-pub record Fives (n room r : ℕ) : Type 0 where
+-- r is how many times size there is in room, at most n
+pub record Fitting (n room size r : ℕ) : Type 0 where
   pub most : r ≤ n
-  pub fits : 5 * r ≤ room
-  pub all : r < n → room < 5 * r + 5
+  pub fits : size * r ≤ room
+  pub all : r < n → room < size * r + size
+
+-- r, where it is an instant, is that of the ticks in eight bytes at a place
+pub record TicksAt (s : List ℕ) (place r : ℕ) : Type 0 where
+  pub to : Finite r → r ≡ fromRaw (fixedFrom 8 0 (drop place s))
+
+-- r, where it is not 0, is the next start of a run that asks for no forms, if it is an instant; it is in ticks, with details of a byte each
+pub record TicksStep (s : List ℕ) (pool place prev r : ℕ) : Type 0 where
+  pub size : 0 < r → startSize s place ≡ 9
+  pub details : 0 < r → detailsAt s pool (place + 9) ≡ true
+  pub start : 0 < r → r ≤ lastInstant → r ≡ longStepOf s pool false place 9 prev
 
 -- the last start that a run may have, where `end` is the first start after t, or end of time while there is none: any instant, and else t
 unfoldable pub stopOf : ℕ → ℕ → ℕ

@@ -1,15 +1,16 @@
 // Listed intervals whose name and offsets take a byte each, the usual ones, read in a row: an instant needs only the last of them. Those of five
-// bytes, nearly all, have a loop of their own.
+// bytes, nearly all, have a loop of their own, and so have those in ticks where no forms are asked for.
 use base::END;
 use base::FIRST;
 use base::LAST;
 use transitions::HOUR;
 ghost use mathlib.Core.Path.{_≡_};
-ghost use Prim.Native.Nat.{_+_, _≤_};
+ghost use mathlib.Core.Bool.{true, false};
+ghost use Prim.Native.Nat.{_+_, _-_, _≤_, _<_};
 ghost use lib.ListN.{length};
 ghost use Rattle.base.specs.Moment.{Finite, lastInstant};
 ghost use Rattle.long_starts.specs.Long.{startSize};
-ghost use Rattle.interval_runs.specs.Run.{hoursAt, detailsAt, SameDetails, stepOf, Behind, longStepOf, runOf, stopOf, Fives, Stopped};
+ghost use Rattle.interval_runs.specs.Run.{hoursAt, detailsAt, SameDetails, stepOf, Behind, longStepOf, runOf, stopOf, Fitting, TicksAt, TicksStep, Passed, Stopped};
 
 // Where a run ends: how many intervals are left, the place behind it, and its last start.
 pub struct Run {
@@ -19,7 +20,7 @@ pub struct Run {
 }
 
 // The hours of a start of two bytes; 0 where no such start stands there.
-fn hours_at(s: &[u8], at: usize) -> u64
+pub fn hours_at(s: &[u8], at: usize) -> u64
     requires { ⌜ at + 2 ≤ length (now s) ⌝ }
     ensures { λ r. ⌜ (r ≡ hoursAt (now (s .entry)) at) × (r ≤ 16383) ⌝ }
 {
@@ -132,11 +133,12 @@ pub fn stop_at(end: u64, t: u64) -> u64
     t
 }
 
-// How many intervals of five bytes may stand in so many bytes, at most n.
-fn fives(n: u64, room: usize) -> u64
-    ensures { λ r. ⌜ Fives n room r ⌝ }
+// How many intervals of so many bytes each may stand in so many bytes, at most n.
+fn fitting(n: u64, room: usize, size: usize) -> u64
+    requires { ⌜ 0 < size ⌝ }
+    ensures { λ r. ⌜ Fitting n room size r ⌝ }
 {
-    let k = (room / 5) as u64;
+    let k = (room / size) as u64;
     if n < k {
         return n;
     }
@@ -148,7 +150,7 @@ fn read_more(s: &[u8], pool: u64, stop: u64, from: Run) -> Run
     requires { ⌜ (from .place ≤ length (now s)) × (stop ≤ lastInstant) × Finite (from .last) × Behind (now s) pool (from .place) ⌝ }
     ensures { λ r. ⌜ Stopped (now (s .entry)) pool stop from r ⌝ }
 {
-    let n = fives(from.left, s.len() - from.place);
+    let n = fitting(from.left, s.len() - from.place, 5);
     let rest = from.left - n;
     let mut left = n;
     let mut place = from.place;
@@ -228,6 +230,72 @@ fn read_fives(s: &[u8], pool: u64, stop: u64, from: Run) -> Run
     )
 }
 
+// The instant of the ticks in eight bytes, where it is one; any number outside the instants else. Four bytes and four become one load.
+fn ticks_at(s: &[u8], at: usize) -> u64
+    requires { ⌜ at + 8 ≤ length (now s) ⌝ }
+    ensures { λ r. ⌜ TicksAt (now (s .entry)) at r ⌝ }
+{
+    let high = count_readers::four_at(s, at);
+    let low = count_readers::four_at(s, at + 4);
+    let raw = high * 4294967296 + low;
+    if raw < 17699160297709551616 {
+        return raw + 747583776000000000;
+    }
+    raw - 17699160297709551616
+}
+
+// The start of an interval in ticks behind prev, where old are details that were judged; 0 where there is none.
+fn ticks_step(s: &[u8], at: usize, old: usize, pool: u64, prev: u64) -> u64
+    requires { ⌜ (at + 12 ≤ length (now s)) × (old + 3 ≤ length (now s)) × Finite prev × (detailsAt (now s) pool old ≡ true) ⌝ }
+    ensures { λ r. ⌜ TicksStep (now (s .entry)) pool at prev r ⌝ }
+{
+    if s[at] != 2 {
+        return 0;
+    }
+    let t = ticks_at(s, at + 1);
+    if t <= prev {
+        return 0;
+    }
+    if same_details(s, at + 9, old) {
+        return t;
+    }
+    if details_ok(s, at + 9, pool) {
+        return t;
+    }
+    0
+}
+
+// The part of a run that is in ticks, behind an interval with details of a byte each.
+fn read_ticks(s: &[u8], pool: u64, stop: u64, from: Run) -> Run
+    requires { ⌜ (from .place ≤ length (now s)) × (stop ≤ lastInstant) × Finite (from .last) × (3 ≤ from .place) × (detailsAt (now s) pool (from .place - 3) ≡ true) ⌝ }
+    ensures { λ r. ⌜ Passed (now (s .entry)) pool false stop from r ⌝ }
+{
+    let n = fitting(from.left, s.len() - from.place, 12);
+    let rest = from.left - n;
+    let mut left = n;
+    let mut place = from.place;
+    let mut old = from.place - 3;
+    let mut last = from.last;
+    while 0 < left {
+        let m = ticks_step(s, place, old, pool, last);
+        if m == 0 {
+            break;
+        }
+        if stop < m {
+            break;
+        }
+        left -= 1;
+        old = place - 3;
+        place += 12;
+        last = m;
+    }
+    Run {
+        left: rest + left,
+        place: place,
+        last: last,
+    }
+}
+
 // At most n intervals from the place at on, behind the start prev, none of which starts after stop.
 pub fn read_run(s: &[u8], at: usize, pool: u64, stop: u64, n: u64, prev: u64, form: bool) -> Run
     requires { ⌜ (at ≤ length (now s)) × (stop ≤ lastInstant) ⌝ }
@@ -272,6 +340,11 @@ pub fn read_run(s: &[u8], at: usize, pool: u64, stop: u64, n: u64, prev: u64, fo
             place: r.place + (k + 3),
             last: start,
         };
+        if k == 9 {
+            if !form {
+                r = read_ticks(s, pool, stop, r);
+            }
+        }
     }
     r
 }

@@ -7,11 +7,14 @@ use intervals::ScanRead;
 ghost use mathlib.Core.Path.{_≡_};
 ghost use Prim.Native.Nat.{_≤_};
 ghost use lib.ListN.{length, drop};
+ghost use Rattle.base.specs.Pick.{both};
 ghost use Rattle.base.specs.Parsed.{many};
 ghost use Rattle.base.specs.Moment.{endOfTime};
 ghost use Rattle.places.specs.Placed.{Stands};
+ghost use Rattle.pieces.specs.Form.{codePreferred};
 ghost use Rattle.intervals.specs.Interval.{parseInterval, startOf};
 ghost use Rattle.intervals.specs.Scan.{ofScan, advance as advanceOf, scanOf, FormOf};
+ghost use Rattle.interval_scans.specs.Start.{StartAt};
 
 fn advance(t: u64, c: Scan, i: Interval) -> Scan
     ensures { λ r. ⌜ r ≡ advanceOf t c i ⌝ }
@@ -31,6 +34,33 @@ fn advance(t: u64, c: Scan, i: Interval) -> Scan
         end: end,
         last: i.start,
     }
+}
+
+// Whether the start m at a place, after prev, is in the writer's form, where all before it are: one of at most three bytes is, and one in ticks is by
+// its moment.
+fn start_preferred(s: &[u8], at: usize, prev: u64, m: u64, before: bool) -> bool
+    requires { ⌜ StartAt (now s) at prev m ⌝ }
+    ensures { λ r. ⌜ r ≡ both before (codePreferred prev (drop at (now (s .entry)))) ⌝ }
+{
+    if before {
+        if s.len() - at < 3 {
+            return pieces::code_preferred(s, at, prev, before);
+        }
+        if s[at] == 2 {
+            return transition_writers::moment_size(prev, m) == 9;
+        }
+        if s[at] < 128 {
+            return true;
+        }
+        if s[at + 1] < 128 {
+            return true;
+        }
+        if s[at + 2] < 128 {
+            return true;
+        }
+        return pieces::code_preferred(s, at, prev, before);
+    }
+    false
 }
 
 // n intervals from the place at on, and whether their starts are in the writer's form, which is looked at where `preferred` says so. Those whose
@@ -68,7 +98,7 @@ pub fn read_intervals(s: &[u8], at: usize, pool: u64, n: u64, t: u64, preferred:
                     return ScanRead::Refused(k);
                 }
                 IntervalRead::Got(i, e) => {
-                    form = pieces::code_preferred(s, place, c.last, form);
+                    form = start_preferred(s, place, c.last, i.start, form);
                     left -= 1;
                     place = e;
                     c = advance(t, c, i);

@@ -6,9 +6,11 @@ use intervals::IntervalRead;
 use zones::Found;
 use zones::ZoneEnd;
 ghost use mathlib.Core.Path.{_≡_};
+ghost use Prim.Native.Nat.{_+_, _≤_};
+ghost use lib.ListN.{length};
 ghost use Rattle.zones.specs.Intervals.{Holds};
 ghost use Rattle.zones.specs.Lookup.{until as untilOf};
-ghost use Rattle.cursors.specs.Cursors.{listEnd, ListAt, Points};
+ghost use Rattle.cursors.specs.Cursors.{listEnd, ListAt, Points, usualCursor};
 
 // A listed interval, which lasts until a moment.
 fn until(i: Interval, end: u64) -> Found
@@ -79,5 +81,20 @@ pub fn at_interval(
                 place: place,
             }
         }
+    }
+}
+
+// The same where the next interval is one of five bytes and starts at m.
+pub fn at_usual(s: &[u8], i: Interval, left: u64, place: usize, m: u64) -> Cursor
+    requires { ⌜ place + 5 ≤ length (now s) ⌝ }
+    ensures { λ r. ⌜ r ≡ usualCursor (now (s .entry)) i left place m ⌝ }
+{
+    let held = until(i, m);
+    let j = short_intervals::short_interval(s, place + 2, m);
+    Cursor {
+        held: held,
+        left: left,
+        next: j,
+        place: place + 5,
     }
 }

@@ -1,7 +1,8 @@
-// How many instants of a whole zone read as a local time, the earliest and the latest, in one walk over its data.
+// How many instants of a whole zone read as a local time, the earliest and the latest.
 use base::END;
 use intervals::Interval;
 use intervals::IntervalRead;
+use intervals::ScanRead;
 use local_times::LocalAnswer;
 use local_times::LocalScan;
 use local_times::LocalScanRead;
@@ -16,7 +17,7 @@ ghost use Rattle.base.specs.Moment.{endOfTime};
 ghost use Rattle.places.specs.Placed.{Stands};
 ghost use Rattle.intervals.specs.Interval.{parseInterval, startOf};
 ghost use Rattle.zones.specs.Parse.{parseZone};
-ghost use Rattle.local_times.specs.View.{advance as advanceOf, scanOf, ofScan, withLast, IntervalsAt, answerOf};
+ghost use Rattle.local_times.specs.View.{advance as advanceOf, scanOf, ofScan, withLast, dayBefore, IntervalsAt, IntervalsTo, answerOf};
 
 // The next interval: now the end of the one before it is known.
 fn advance(l: u64, c: LocalScan, i: Interval) -> LocalScan
@@ -80,22 +81,71 @@ fn with_last(l: u64, c: LocalScan, end: u64) -> Tally
     local_times::counted(c.tally, t)
 }
 
-// A zone whose n intervals stand at a place.
-fn find_listed(s: &[u8], at: usize, pool: u64, n: u64, l: u64) -> LocalAnswer
+// A day before a local time, which has a day added.
+fn day_before(l: u64) -> u64
+    ensures { λ r. ⌜ r ≡ dayBefore l ⌝ }
+{
+    if l < 1728000000000 {
+        return 0;
+    }
+    l - 1728000000000
+}
+
+// A zone whose intervals end at a place and left c.
+fn find_behind(s: &[u8], at: usize, pool: u64, l: u64, c: LocalScan) -> LocalAnswer
+    requires { ⌜ IntervalsTo pool l (now s) at c ⌝ }
+    ensures { λ r. ⌜ r ≡ answerOf l (parseZone pool (now (s .entry))) ⌝ }
+{
+    match zone_ends::read_end(s, at, pool, c.last) {
+        ZoneEnd::Refused(k) => LocalAnswer::Refused(k),
+        ZoneEnd::Untailed => LocalAnswer::Instants(with_last(l, c, END)),
+        ZoneEnd::Tailed(m) => {
+            let tail = m.tail;
+            let a = with_last(l, c, tail.start);
+            LocalAnswer::Instants(local_times::with_tail(l, a, tail))
+        }
+    }
+}
+
+// A zone whose n intervals stand at a place, which are read one by one.
+fn find_each(s: &[u8], at: usize, pool: u64, n: u64, l: u64) -> LocalAnswer
     requires { ⌜ IntervalsAt pool (now s) n at ⌝ }
     ensures { λ r. ⌜ r ≡ answerOf l (parseZone pool (now (s .entry))) ⌝ }
 {
     match read_intervals(s, at, pool, n, l) {
         LocalScanRead::Refused(k) => LocalAnswer::Refused(k),
-        LocalScanRead::Got(c, e) => match zone_ends::read_end(s, e, pool, c.last) {
-            ZoneEnd::Refused(k) => LocalAnswer::Refused(k),
-            ZoneEnd::Untailed => LocalAnswer::Instants(with_last(l, c, END)),
-            ZoneEnd::Tailed(m) => {
-                let tail = m.tail;
-                let a = with_last(l, c, tail.start);
-                LocalAnswer::Instants(local_times::with_tail(l, a, tail))
+        LocalScanRead::Got(c, e) => find_behind(s, e, pool, l, c),
+    }
+}
+
+// A zone whose n intervals stand at a place. Mostly none starts within a day of the local time: then the interval that holds the instant a day before
+// is the one that counts, and it is found as for a question, in runs. Where one does, all are read once more, one by one. Where they
+// take more than eight bytes each there are few runs, and they are read one by one at once.
+fn find_listed(s: &[u8], at: usize, pool: u64, n: u64, l: u64) -> LocalAnswer
+    requires { ⌜ IntervalsAt pool (now s) n at ⌝ }
+    ensures { λ r. ⌜ r ≡ answerOf l (parseZone pool (now (s .entry))) ⌝ }
+{
+    if 8 * n < (s.len() - at) as u64 {
+        return find_each(s, at, pool, n, l);
+    }
+    match interval_scans::read_intervals(s, at, pool, n, day_before(l), false) {
+        ScanRead::Refused(k) => LocalAnswer::Refused(k),
+        ScanRead::Got(c, e, _) => {
+            if c.end <= l {
+                return find_each(s, at, pool, n, l);
             }
-        },
+            let held = c.held;
+            let left = LocalScan {
+                held: held,
+                tally: Tally {
+                    count: 0,
+                    earliest: 0,
+                    latest: 0,
+                },
+                last: c.last,
+            };
+            find_behind(s, e, pool, l, left)
+        }
     }
 }
 

@@ -65,13 +65,17 @@ module _ (l w a e : ℕ) where
   unfolding candidate
   candidate-is t h = rw (fits-yes t h) (omega (arith, h .sum))
 
--- none in an interval of no length
-pub candidate-none : (l w a e : ℕ) → e ≤ a → candidate l w a e ≡ 0
-candidate-none l w a e h = go (candidate l w a e) refl (eqb (candidate l w a e) 0) refl
+-- none where nothing fits
+pub no-candidate : (l w a e : ℕ) → ((t : ℕ) → FitsAt l w a e t → ⊥) → candidate l w a e ≡ 0
+no-candidate l w a e h = go (candidate l w a e) refl (eqb (candidate l w a e) 0) refl
   where
     go : (t : ℕ) → candidate l w a e ≡ t → (b : Bool) → eqb t 0 ≡ b → candidate l w a e ≡ 0
     go t c true k = c ∙ eqb-true t 0 k
-    go t c false k = let f = candidate-fits l w a e t c (eqb-false t 0 k) in absurd (omega (arith, f .from, f .to))
+    go t c false k = absurd (h t (candidate-fits l w a e t c (eqb-false t 0 k)))
+
+-- as in an interval of no length
+pub candidate-none : (l w a e : ℕ) → e ≤ a → candidate l w a e ≡ 0
+candidate-none l w a e h = no-candidate l w a e (λ t f. omega (arith, f .from, f .to))
 
 -- a number as a list
 pub some-is : (c t : ℕ) → Among t (some c) → (c ≡ t) × (t ≡ 0 → ⊥)

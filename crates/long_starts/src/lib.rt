@@ -1,6 +1,8 @@
 // Starts of intervals in more than two bytes, at a place of a field's data: hours in three, minutes in four, ticks in nine.
 use base::LAST;
 use transitions::HOUR;
+use transitions::MINUTE;
+use transitions::YEAR_1800;
 ghost use mathlib.Core.Path.{_≡_};
 ghost use Prim.Native.Nat.{_+_, _≤_, _<_};
 ghost use lib.ListN.{length, drop};
@@ -8,10 +10,6 @@ ghost use Rattle.base.specs.Moment.{Finite};
 ghost use Rattle.transitions.specs.Transition.{fromCount, readMoment};
 ghost use Rattle.transitions.specs.Later.{laterIn};
 ghost use Rattle.long_starts.specs.Long.{startSize};
-
-const MINUTE: u64 = 600000000;
-
-const YEAR_1800: u64 = 693937152000000000;
 
 // How many bytes such a start takes, by its first bytes; 2 where none stands there.
 pub fn start_size(s: &[u8], at: usize) -> usize
@@ -100,5 +98,5 @@ pub fn long_start(s: &[u8], at: usize, n: usize, prev: u64) -> u64
     if n == 4 {
         return four_bytes(s, at, prev);
     }
-    transitions::ticks_after(prev, &s[at..])
+    transition_readers::ticks_after(prev, &s[at..])
 }

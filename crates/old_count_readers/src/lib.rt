@@ -10,7 +10,7 @@ fn value_from(s: &[u8], n: usize, high: u64, first: u64) -> Read
     requires { ⌜ (n ≤ 3) × (high < 64) × (first < 2 ^ 32) ⌝ }
     ensures { λ r. ⌜ r ≡ valueFrom first (readFixed n high (now (s .entry))) ⌝ }
 {
-    match counts::read_fixed(s, n, high) {
+    match count_readers::read_fixed(s, n, high) {
         Read::Value(v, m) => Read::Value(first + v, m + 1),
         Read::Refused(k) => Read::Refused(k),
     }
@@ -20,7 +20,7 @@ fn value_from(s: &[u8], n: usize, high: u64, first: u64) -> Read
 fn largest(s: &[u8]) -> Read
     ensures { λ r. ⌜ r ≡ largest (readFixed 4 0 (now (s .entry))) ⌝ }
 {
-    match counts::read_fixed(s, 4, 0) {
+    match count_readers::read_fixed(s, 4, 0) {
         Read::Value(v, m) => {
             if v < 0x1020408f {
                 return Read::Refused(7);

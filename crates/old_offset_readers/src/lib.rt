@@ -11,12 +11,12 @@ fn by_seconds(s: &[u8], high: u64) -> Read
     requires { ⌜ high < 256 ⌝ }
     ensures { λ r. ⌜ r ≡ judged bySeconds 1800000 (readFixed 2 high (now (s .entry))) ⌝ }
 {
-    match counts::read_fixed(s, 2, high) {
+    match count_readers::read_fixed(s, 2, high) {
         Read::Value(v, n) => {
             if v + 86400 < 0x83ffff {
                 return Read::Refused(7);
             }
-            offsets::offset_of(n + 1, 1800000, (v + 86400 - 0x83ffff) * 1000)
+            offset_readers::offset_of(n + 1, 1800000, (v + 86400 - 0x83ffff) * 1000)
         }
         Read::Refused(k) => Read::Refused(k),
     }
@@ -26,8 +26,8 @@ fn by_seconds(s: &[u8], high: u64) -> Read
 fn by_milliseconds(s: &[u8]) -> Read
     ensures { λ r. ⌜ r ≡ judged byMilliseconds 1000 (readFixed 4 0 (now (s .entry))) ⌝ }
 {
-    match counts::read_fixed(s, 4, 0) {
-        Read::Value(v, n) => offsets::offset_of(n + 1, 1000, (v + 86400000) % 0x100000000),
+    match count_readers::read_fixed(s, 4, 0) {
+        Read::Value(v, n) => offset_readers::offset_of(n + 1, 1000, (v + 86400000) % 0x100000000),
         Read::Refused(k) => Read::Refused(k),
     }
 }
@@ -44,7 +44,7 @@ fn read_sum(s: &[u8]) -> Read
         return Read::Refused(7);
     }
     if b < 0x6f {
-        return offsets::offset_of(1, 172800000, (b + 48 - 0x3f) * 1800000);
+        return offset_readers::offset_of(1, 172800000, (b + 48 - 0x3f) * 1800000);
     }
     if b < 0x82 {
         return Read::Refused(7);

@@ -47,7 +47,7 @@ code-read prev s m r e = go (readMoment prev s) refl e
     go (Refused n) h k = bad-got k
 
 -- a code of at most three bytes is preferred
-code-few : (prev : ℕ) (s : List ℕ) (m : ℕ) (r : List ℕ) (c : Code prev s m r) → Bytes s → c .size ≤ 3 → length (writeMoment prev m) ≡ c .size
+pub code-few : (prev : ℕ) (s : List ℕ) (m : ℕ) (r : List ℕ) (c : Code prev s m r) → Bytes s → c .size ≤ 3 → length (writeMoment prev m) ≡ c .size
 code-few prev s m r c b h = go (renewed prev s b (c .is))
   where
     go : Preferred prev s m (c .size) ⊎ Longer prev m (c .size) → length (writeMoment prev m) ≡ c .size

@@ -51,7 +51,7 @@ pub fn code_size(prev: u64, m: u64, k: usize) -> usize
     if k <= 3 {
         return k;
     }
-    transitions::moment_size(prev, m)
+    transition_writers::moment_size(prev, m)
 }
 
 // Whether the transition at a place, after prev, is in the writer's form, where all before it are.

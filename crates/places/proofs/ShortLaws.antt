@@ -155,7 +155,7 @@ hours-from prev v t h =
 
 -- what an instant after prev is, in two bytes and in nine
 module _ (prev : ℕ) (s : List ℕ) (place : ℕ) where
-  hours-later : place + 2 ≤ length s → Later prev (drop place s) 2 (hoursIn prev (twoBytes s place))
+  pub hours-later : place + 2 ≤ length s → Later prev (drop place s) 2 (hoursIn prev (twoBytes s place))
   unfolding readMoment
   hours-later w =
       record {

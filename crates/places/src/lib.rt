@@ -24,7 +24,7 @@ fn any_count_at(s: &[u8], at: usize) -> Read
     requires { ⌜ at ≤ length (now s) ⌝ }
     ensures { λ r. ⌜ Stands (now (s .entry)) (parse readCount (drop at (now (s .entry)))) (ofRead r) ⌝ }
 {
-    match counts::read_count(&s[at..]) {
+    match count_readers::read_count(&s[at..]) {
         Read::Value(v, n) => Read::Value(v, at + n),
         Read::Refused(k) => Read::Refused(k),
     }
@@ -49,7 +49,7 @@ pub fn zigzag_at(s: &[u8], at: usize) -> Read
     requires { ⌜ at ≤ length (now s) ⌝ }
     ensures { λ r. ⌜ Stands (now (s .entry)) (parse readZigzag (drop at (now (s .entry)))) (ofRead r) ⌝ }
 {
-    match counts::read_groups(&s[at..], 15) {
+    match count_readers::read_groups(&s[at..], 15) {
         Read::Value(v, n) => Read::Value(v, at + n),
         Read::Refused(k) => Read::Refused(k),
     }
@@ -59,7 +59,7 @@ fn any_sum_at(s: &[u8], at: usize) -> Read
     requires { ⌜ at ≤ length (now s) ⌝ }
     ensures { λ r. ⌜ Stands (now (s .entry)) (parse readSum (drop at (now (s .entry)))) (ofRead r) ⌝ }
 {
-    match offsets::read_sum(&s[at..]) {
+    match offset_readers::read_sum(&s[at..]) {
         Read::Value(v, n) => Read::Value(v, at + n),
         Read::Refused(k) => Read::Refused(k),
     }
@@ -87,7 +87,7 @@ pub fn moment_at(s: &[u8], at: usize, prev: u64) -> Read
     requires { ⌜ at ≤ length (now s) ⌝ }
     ensures { λ r. ⌜ Stands (now (s .entry)) (parse (readMoment prev) (drop at (now (s .entry)))) (ofRead r) ⌝ }
 {
-    match transitions::read_moment(prev, &s[at..]) {
+    match transition_readers::read_moment(prev, &s[at..]) {
         Read::Value(v, n) => Read::Value(v, at + n),
         Read::Refused(k) => Read::Refused(k),
     }

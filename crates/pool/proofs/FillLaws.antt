@@ -10,7 +10,7 @@ use lib.Seq.{sets, drop-drop, drop-cons}
 use lib.Dec.{ltb}
 use borrow.Author.Tests.{lt-ltb, le-ltb, ltb-true}
 use Rattle.base.specs.Pick.{pick, both}
-use Rattle.base.proofs.Tests.{by-order, both-left, both-right}
+use Rattle.base.proofs.Tests.{by-order, both-left, both-right, never}
 use Rattle.base.proofs.Parts.{part-from}
 use Rattle.base.specs.declared.Read.the-variants.{Value}
 use Rattle.counts.specs.Count.{readCount}
@@ -120,6 +120,28 @@ plain-here d at plain n l e f h =
     rw (part-from at d)
     (text-tested s (readCount s) refl n 1 c (omega arith) true (omega arith) (plain-utf8 (plain - at) 1 n s e (omega arith)))
 
+-- a byte that is known to be ASCII
+ascii-first : (b n : ℕ) (s : List ℕ) → ascii (take (suc n) (b ∷ s)) ≡ true → b < 128
+unfolding ascii
+ascii-first b n s e = go (ltb b 0x80) refl e
+  where
+    go : (t : Bool) → ltb b 0x80 ≡ t → pick t (ascii (take n s)) false ≡ true → b < 128
+    go true q h = ltb-true b 0x80 q
+    go false q h = never h refl
+
+-- the string at a place 128 bytes and more before `plain` is short
+module _ (d : List ℕ) (at plain : ℕ) (p : Plain d at plain) (l : at + 128 ≤ plain) where
+  plain-byte : getD d at 0 < 128
+  plain-byte =
+      let h : at < length d = omega (arith, p .0) in
+      let z : plain - at ≡ suc (plain - at - 1) = omega arith in
+      ascii-first (getD d at 0) (plain - at - 1) (drop (suc at) d) (rw (z, drop-cons d at 0 h) at (p .1))
+
+  plain-text : Part 1 (getD d at 0) ≡ readText (take (length d - at) (drop at d))
+  plain-text =
+      let b : getD d at 0 < 128 = plain-byte in
+      plain-here d at plain (getD d at 0) (p .0) (p .1) (short-is d at plain (omega (arith, p .0)) (omega arith) (omega arith)) b
+
 module _ (d : List ℕ) (from k : ℕ) (ix₀ ix : List ℕ) (at i : ℕ) (f : Filling d from k ix₀ ix at i) where
   module _ (less : i < k) (t : Text) (ht : t ≡ readText (take (length d - at) (drop at d))) where
     text-here : (x : Text) → t ≡ x → readText (drop at d) ≡ x
@@ -186,3 +208,15 @@ module _ (d : List ℕ) (from k : ℕ) (ix₀ ix : List ℕ) (at i : ℕ) (f : F
     where
       below : at ≤ length d → (at ≡ length d → ⊥) → at < length d
       below p q = by-order at (length d) (λ m. m) (λ m. absurd (q (omega arith)))
+
+-- a short string is passed: r is the place behind it
+module _ (d : List ℕ) (at plain : ℕ) (p : Plain d at plain) (l : at + 128 ≤ plain) (r : ℕ) (h : r ≡ at + (1 + getD d at 0)) where
+  pub passed-filling : (from k : ℕ) (ix₀ ix ix′ : List ℕ) (i : ℕ) → Filling d from k ix₀ ix at i → i < k → ix′ ≡ set ix i at → Filling d from k ix₀ ix′ r (i + 1)
+  passed-filling from k ix₀ ix ix′ i f less q =
+      rw (h, q) (filling-next d from k ix₀ ix at i f less (Part 1 (getD d at 0)) (plain-text d at plain p l) 1 (getD d at 0) refl)
+
+  pub passed-plain : Plain d r plain
+  passed-plain = rw h (plain-later d at plain (1 + getD d at 0) p)
+
+  pub passed-near : r ≤ at + 128
+  passed-near = omega (arith, plain-byte d at plain p l)

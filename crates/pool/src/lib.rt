@@ -2,8 +2,9 @@
 use base::Read;
 use texts::Text;
 ghost use mathlib.Core.Path.{_≡_};
-ghost use Prim.Native.Nat.{_-_, _≤_, _<_};
-ghost use lib.ListN.{length, drop};
+ghost use mathlib.Core.Bool.{true};
+ghost use Prim.Native.Nat.{_+_, _-_, _≤_, _<_};
+ghost use lib.ListN.{length, drop, getD, set};
 ghost use lib.Seq.{sets};
 ghost use Rattle.pool.specs.Pool.{allStrings, parsePool, checked};
 ghost use Rattle.pool.specs.Index.{readStarts, startsOf, roomOf, shortLength, Plain};
@@ -45,14 +46,14 @@ fn short(d: &[u8], at: usize, plain: usize) -> usize
     128
 }
 
-// Up to which place the bytes from a place on are known to be ASCII. They are looked at again 128 bytes behind what is known, unless the next
+// Up to which place the bytes from a place on are known to be ASCII. They are looked at again 64 bytes behind what is known, unless the next
 // string's length or its first character isn't ASCII: so every byte is looked at a few times at most.
 fn plain_from(d: &[u8], at: usize, plain: usize) -> usize
     requires { ⌜ (at ≤ length (now d)) × Plain (now d) at plain ⌝ }
     ensures { λ r. ⌜ Plain (now (d .entry)) at r ⌝ }
 {
     if plain <= at {
-        if 128 <= at - plain {
+        if 64 <= at - plain {
             if 1 < d.len() - at {
                 if d[at] < 128 {
                     if d[at + 1] < 128 {
@@ -65,7 +66,34 @@ fn plain_from(d: &[u8], at: usize, plain: usize) -> usize
     plain
 }
 
+// Whether four of the strings that are left are short and lie before the place `plain`, up to which the bytes are ASCII: so are their lengths
+// then, and each string takes at most 128 bytes.
+fn are_short(left: usize, at: usize, plain: usize) -> bool
+    ensures { λ r. ⌜ (r ≡ true → (4 ≤ left) × (at + 512 ≤ plain)) ⌝ }
+{
+    if left < 4 {
+        return false;
+    }
+    if plain < 512 {
+        return false;
+    }
+    if plain - 512 < at {
+        return false;
+    }
+    true
+}
+
+// Passes a short string at a place: starts gets the place as its i-th. The place behind the string.
+fn pass_short(d: &[u8], at: usize, i: usize, starts: &mut [u32]) -> usize
+    requires { ⌜ (at < length (now d)) × (at < 4294967296) × (i < length (now starts)) ⌝ }
+    ensures { λ r. ⌜ (r ≡ at + (1 + getD (now (d .entry)) at 0)) × (now (starts .exit) ≡ set (now (starts .entry)) i at) ⌝ }
+{
+    starts[i] = at as u32;
+    at + (1 + d[at] as usize)
+}
+
 // The strings of d from a place on, k of them and nothing behind. starts gets the place of each. The bytes up to the place `front` are ASCII.
+// Short ones are taken by four, which leaves no test between the length of one and the length of the next.
 fn fill(d: &[u8], from: usize, k: usize, front: usize, starts: &mut [u32]) -> Checked
     requires { ⌜ (from ≤ length (now d)) × (from ≤ 5) × (k ≤ 8192) × (k ≤ length (now starts)) × Plain (now d) from front ⌝ }
     ensures { λ r. ⌜ (r ≡ checked (allStrings k (drop from (now (d .entry))))) × (now (starts .exit) ≡ sets (now (starts .entry)) 0 (readStarts k from (drop from (now (d .entry))))) ⌝ }
@@ -74,23 +102,32 @@ fn fill(d: &[u8], from: usize, k: usize, front: usize, starts: &mut [u32]) -> Ch
     let mut i: usize = 0;
     let mut plain = front;
     while i < k {
-        let n = short(d, at, plain);
-        if n < 128 {
-            starts[i] = at as u32;
-            at = at + (1 + n);
-            i += 1;
+        if are_short(k - i, at, plain) {
+            let mut j: usize = 0;
+            while j < 4 {
+                at = pass_short(d, at, i, starts);
+                i += 1;
+                j += 1;
+            }
         } else {
-            let known = behind(plain, at);
-            let t = texts::read_text_in(&d[at..], known);
-            match t {
-                Text::Refused(m) => {
-                    return Checked::Refused(m);
-                }
-                Text::Part(a, m) => {
-                    starts[i] = at as u32;
-                    at = at + (a + m);
-                    i += 1;
-                    plain = plain_from(d, at, plain);
+            let n = short(d, at, plain);
+            if n < 128 {
+                starts[i] = at as u32;
+                at = at + (1 + n);
+                i += 1;
+            } else {
+                let known = behind(plain, at);
+                let t = texts::read_text_in(&d[at..], known);
+                match t {
+                    Text::Refused(m) => {
+                        return Checked::Refused(m);
+                    }
+                    Text::Part(a, m) => {
+                        starts[i] = at as u32;
+                        at = at + (a + m);
+                        i += 1;
+                        plain = plain_from(d, at, plain);
+                    }
                 }
             }
         }
@@ -105,7 +142,7 @@ fn fill(d: &[u8], from: usize, k: usize, front: usize, starts: &mut [u32]) -> Ch
 pub fn room(d: &[u8]) -> usize
     ensures { λ r. ⌜ r ≡ roomOf (now (d .entry)) ⌝ }
 {
-    let g = counts::read_count(d);
+    let g = count_readers::read_count(d);
     match g {
         Read::Refused(_) => 0,
         Read::Value(v, _) => {
@@ -123,7 +160,7 @@ pub fn check_pool(d: &[u8], starts: &mut [u32]) -> Checked
     requires { ⌜ roomOf (now d) ≤ length (now starts) ⌝ }
     ensures { λ r. ⌜ (r ≡ checked (parsePool (now (d .entry)))) × (now (starts .exit) ≡ sets (now (starts .entry)) 0 (startsOf (now (d .entry)))) ⌝ }
 {
-    let g = counts::read_count(d);
+    let g = count_readers::read_count(d);
     match g {
         Read::Refused(m) => Checked::Refused(m),
         Read::Value(v, a) => {

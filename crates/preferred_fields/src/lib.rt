@@ -34,7 +34,7 @@ fn whole_size(n: usize) -> usize
     requires { ⌜ 1 + length (writeCount n) + n ≤ 4194304 ⌝ }
     ensures { λ r. ⌜ r ≡ 1 + length (writeCount n) + n ⌝ }
 {
-    1 + counts::count_size(n as u64) + n
+    1 + count_writers::count_size(n as u64) + n
 }
 
 // The length of a field in its preferred form.
@@ -54,7 +54,7 @@ fn write_head(i: u8, n: usize, out: &mut [u8]) -> usize
     ensures { λ r. ⌜ Put (i ∷ writeCount n) (now (out .entry)) r (now (out .exit)) ⌝ }
 {
     out[0] = i;
-    match counts::write_count(n as u64, &mut out[1..]) {
+    match count_writers::write_count(n as u64, &mut out[1..]) {
         Wrote::Refused(_) => 0,
         Wrote::Length(k) => 1 + k,
     }

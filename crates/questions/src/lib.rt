@@ -61,12 +61,30 @@ fn ask_with(
     answer_at(s, &*starts, d, e, t, edition, l)
 }
 
-// The same with an index of its own, for a pool of few strings: a short index is cleared at once.
+// The same with an index of its own, for a pool of a few strings. The index is cleared at each question, so it is no longer than need be.
+fn ask_tiny(s: &[u8], d: usize, e: usize, id: &[u8], t: u64, edition: Edition) -> Outcome
+    requires { ⌜ Lies (now s) d e × (roomOf (part d e (now s)) ≤ 32) × Finite t ⌝ }
+    ensures { λ r. ⌜ r ≡ outcomeAt edition t (byPool (now (id .entry)) (now (s .entry)) d e (parsePool (part d e (now (s .entry))))) ⌝ }
+{
+    let mut starts = [0u32; 32];
+    ask_with(s, d, e, id, t, edition, &mut starts)
+}
+
+// The same for a pool of at most 256 strings.
 fn ask_short(s: &[u8], d: usize, e: usize, id: &[u8], t: u64, edition: Edition) -> Outcome
     requires { ⌜ Lies (now s) d e × (roomOf (part d e (now s)) ≤ 256) × Finite t ⌝ }
     ensures { λ r. ⌜ r ≡ outcomeAt edition t (byPool (now (id .entry)) (now (s .entry)) d e (parsePool (part d e (now (s .entry))))) ⌝ }
 {
     let mut starts = [0u32; 256];
+    ask_with(s, d, e, id, t, edition, &mut starts)
+}
+
+// The same for a pool of at most 2,048.
+fn ask_middle(s: &[u8], d: usize, e: usize, id: &[u8], t: u64, edition: Edition) -> Outcome
+    requires { ⌜ Lies (now s) d e × (roomOf (part d e (now s)) ≤ 2048) × Finite t ⌝ }
+    ensures { λ r. ⌜ r ≡ outcomeAt edition t (byPool (now (id .entry)) (now (s .entry)) d e (parsePool (part d e (now (s .entry))))) ⌝ }
+{
+    let mut starts = [0u32; 2048];
     ask_with(s, d, e, id, t, edition, &mut starts)
 }
 
@@ -79,6 +97,24 @@ fn ask_long(s: &[u8], d: usize, e: usize, id: &[u8], t: u64, edition: Edition) -
     ask_with(s, d, e, id, t, edition, &mut starts)
 }
 
+// The same with the shortest index that has room.
+fn ask_by_room(s: &[u8], d: usize, e: usize, id: &[u8], t: u64, edition: Edition) -> Outcome
+    requires { ⌜ Lies (now s) d e × Finite t ⌝ }
+    ensures { λ r. ⌜ r ≡ outcomeAt edition t (byPool (now (id .entry)) (now (s .entry)) d e (parsePool (part d e (now (s .entry))))) ⌝ }
+{
+    let n = pool::room(&s[d..e]);
+    if n <= 32 {
+        return ask_tiny(s, d, e, id, t, edition);
+    }
+    if n <= 256 {
+        return ask_short(s, d, e, id, t, edition);
+    }
+    if n <= 2048 {
+        return ask_middle(s, d, e, id, t, edition);
+    }
+    ask_long(s, d, e, id, t, edition)
+}
+
 // The question without its mark, at an instant in range.
 pub fn ask_at(s: &[u8], id: &[u8], t: u64, edition: Edition) -> Outcome
     requires { ⌜ Finite t ⌝ }
@@ -88,11 +124,6 @@ pub fn ask_at(s: &[u8], id: &[u8], t: u64, edition: Edition) -> Outcome
         First::Refused(n, p) => Outcome::Refused(n, p),
         First::Cut(p) => Outcome::Cut(p),
         First::End(p) => Outcome::End(p),
-        First::Pool(d, e) => {
-            if pool::room(&s[d..e]) <= 256 {
-                return ask_short(s, d, e, id, t, edition);
-            }
-            ask_long(s, d, e, id, t, edition)
-        }
+        First::Pool(d, e) => ask_by_room(s, d, e, id, t, edition),
     }
 }

@@ -62,7 +62,7 @@ fn size_intervals(s: &[u8], at: usize, start: u64, left: u64, table: &[u32]) -> 
             }
             Read::Value(v, e) => {
                 let k = renumber(table, v as usize);
-                size += (p - place) + counts::count_size(k);
+                size += (p - place) + count_writers::count_size(k);
                 place = e;
                 last = next.start;
                 n -= 1;
@@ -110,7 +110,7 @@ fn size_names(
             }
             Read::Value(v, e) => {
                 let k = renumber(table, v as usize);
-                size += counts::count_size(k);
+                size += count_writers::count_size(k);
                 place = e;
                 n -= 1;
             }
@@ -165,7 +165,7 @@ pub fn write_number(v: u64, out: &mut [u8]) -> usize
     requires { ⌜ (v ≤ 2147483647) × (length (writeCount v) ≤ length (now out)) ⌝ }
     ensures { λ r. ⌜ Put (writeCount v) (now (out .entry)) r (now (out .exit)) ⌝ }
 {
-    match counts::write_count(v, out) {
+    match count_writers::write_count(v, out) {
         Wrote::Refused(_) => 0,
         Wrote::Length(n) => n,
     }

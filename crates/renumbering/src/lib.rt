@@ -54,7 +54,7 @@ pub fn size(i: u8, s: &[u8], table: &[u32]) -> usize
             }
             Mentioned::Here(behind, v, p, e) => {
                 let k = renumbered_runs::renumber(table, v as usize);
-                n += (p - place) + counts::count_size(k);
+                n += (p - place) + count_writers::count_size(k);
                 at = e;
                 stage = behind;
             }

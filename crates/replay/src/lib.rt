@@ -27,13 +27,13 @@ pub enum Report {
 fn key(s: &[u8], names: usize, at: usize) -> u32
     requires { ⌜ (at + 20 ≤ length (now s)) × (names + (nameStart at (now s) + nameLength at (now s)) ≤ length (now s)) ⌝ }
 {
-    let start = traces::four_at(s, at + 8) as usize;
-    let len = traces::four_at(s, at + 12) as usize;
+    let start = count_readers::four_at(s, at + 8) as usize;
+    let len = count_readers::four_at(s, at + 12) as usize;
     let to = names + start + len;
     let mut i = names + start;
     let mut h = len as u64;
     while 4 <= to - i {
-        h = (h * 16777619 + traces::four_at(s, i)) % 4294967296;
+        h = (h * 16777619 + count_readers::four_at(s, i)) % 4294967296;
         i += 4;
     }
     while i < to {
@@ -82,8 +82,8 @@ fn reach_name(
     requires { ⌜ (at + 20 ≤ length (now s)) × (names + (nameStart at (now s) + nameLength at (now s)) ≤ length (now s)) × Lies (now f) d e × Ready (part d e (now f)) (now starts) × (count ≡ length (stringsOf (part d e (now f)))) × PassedOk (now f) d e (now order) (now froms) (now tos) p ⌝ }
     ensures { λ r. ⌜ ReachedAs (now (f .entry)) d e (nameAt names at (now (s .entry))) (now (order .exit)) (now (froms .exit)) (now (tos .exit)) r ⌝ }
 {
-    let start = traces::four_at(s, at + 8) as usize;
-    let len = traces::four_at(s, at + 12) as usize;
+    let start = count_readers::four_at(s, at + 8) as usize;
+    let len = count_readers::four_at(s, at + 12) as usize;
     let from = names + start;
     let to = from + len;
     passed_zones::reach(f, starts, d, e, count, &s[from..to], order, froms, tos, p)
@@ -238,9 +238,9 @@ pub fn replay(f: &[u8], s: &[u8]) -> Report
     ensures { λ r. ⌜ r ≡ replayOf (now (f .entry)) (now (s .entry)) ⌝ }
 {
     if traces::trace_ok(s) {
-        let n = traces::four_at(s, 0);
-        let at = traces::four_at(s, 4) as usize;
-        let names = traces::four_at(s, 12) as usize;
+        let n = count_readers::four_at(s, 0);
+        let at = count_readers::four_at(s, 4) as usize;
+        let names = count_readers::four_at(s, 12) as usize;
         return first_wrong(f, s, names, n, at);
     }
     Report::Refused(21, 0)

@@ -36,7 +36,7 @@ pub fn write_integer(v: i64, out: &mut [u8]) -> Wrote
     if v < 0 {
         return Wrote::Refused(7);
     }
-    counts::write_count(v as u64, out)
+    count_writers::write_count(v as u64, out)
 }
 
 // Value and length of a code without a sign.

@@ -30,7 +30,7 @@ pub fn read_size(r: &[u8]) -> Read
             return Read::Value(b, 1);
         }
     }
-    counts::read_any(r, 7)
+    count_readers::read_any(r, 7)
 }
 
 // The field with the ID `i` at the place `at`, where `r` is what follows its ID byte.

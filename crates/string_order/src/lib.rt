@@ -40,20 +40,33 @@ fn smaller(a: usize, b: usize) -> usize
     if a < b { a } else { b }
 }
 
-// How many bytes at the front of both are the same, by blocks of 64: there may be more in the block at which it ends. n bytes are in both.
-fn same_front(a: &[u8], b: &[u8], n: usize) -> usize
-    requires { ⌜ n ≡ min (length (now a)) (length (now b)) ⌝ }
-    ensures { λ r. ⌜ (r ≤ n) × (ordering (drop r (now (a .entry))) (drop r (now (b .entry))) ≡ ordering (now (a .entry)) (now (b .entry))) ⌝ }
+// Up to which place both are the same from a place on, by blocks of a size: there may be more in the block at which it ends. n bytes are in both.
+fn same_blocks(a: &[u8], b: &[u8], from: usize, size: usize, n: usize) -> usize
+    requires { ⌜ (n ≡ min (length (now a)) (length (now b))) × (from ≤ n) × (0 < size) ⌝ }
+    ensures { λ r. ⌜ (r ≤ n) × (ordering (drop r (now (a .entry))) (drop r (now (b .entry))) ≡ ordering (drop from (now (a .entry))) (drop from (now (b .entry)))) ⌝ }
 {
-    let mut i: usize = 0;
-    while 64 <= n - i {
-        let e = i + 64;
+    let mut i = from;
+    while size <= n - i {
+        let e = i + size;
         if !strings::same(&a[i..e], &b[i..e]) {
             return i;
         }
         i = e;
     }
     i
+}
+
+// How many bytes at the front of both are the same, by blocks of 64, and behind these by blocks of 16. Short strings, as most are, have no such
+// front and take one test.
+fn same_front(a: &[u8], b: &[u8], n: usize) -> usize
+    requires { ⌜ n ≡ min (length (now a)) (length (now b)) ⌝ }
+    ensures { λ r. ⌜ (r ≤ n) × (ordering (drop r (now (a .entry))) (drop r (now (b .entry))) ≡ ordering (now (a .entry)) (now (b .entry))) ⌝ }
+{
+    let i = same_blocks(a, b, 0, 64, n);
+    if i == 0 {
+        return 0;
+    }
+    same_blocks(a, b, i, 16, n)
 }
 
 // The order of what stands from a place on, a byte at a time. n bytes are in both.

@@ -91,6 +91,22 @@ pub fn same(a: &[u8], b: &[u8]) -> bool
     m == 0
 }
 
+// The same of two strings of one length, by blocks of 64 bytes up to the first that differs.
+fn same_by_blocks(a: &[u8], b: &[u8]) -> bool
+    requires { ⌜ length (now a) ≡ length (now b) ⌝ }
+    ensures { λ r. ⌜ r ≡ equal (now (a .entry)) (now (b .entry)) ⌝ }
+{
+    let mut i: usize = 0;
+    while 64 <= a.len() - i {
+        let e = i + 64;
+        if !same(&a[i..e], &b[i..e]) {
+            return false;
+        }
+        i = e;
+    }
+    same(&a[i..], &b[i..])
+}
+
 // Whether the k-th string is id. Names of one length mostly differ in their last byte, which is looked at first.
 pub fn has_id(d: &[u8], starts: &[u32], k: usize, id: &[u8]) -> bool
     requires { ⌜ Ready (now d) (now starts) × (k < length (stringsOf (now d))) ⌝ }
@@ -106,5 +122,5 @@ pub fn has_id(d: &[u8], starts: &[u32], k: usize, id: &[u8]) -> bool
             return false;
         }
     }
-    same(t, id)
+    same_by_blocks(t, id)
 }

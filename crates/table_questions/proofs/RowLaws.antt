@@ -18,7 +18,9 @@ use Rattle.answers.specs.declared.Answer.{Answer}
 use Rattle.answers.specs.declared.Answer.the-variants.{In, Refused}
 use Rattle.halving.specs.Halving.{findStart}
 use Rattle.halving.specs.declared.Search.the-variants.{Entry}
-use Rattle.halving.proofs.StepLaws.{Halved, halved, Counted, find-none, Standing, standing-start, standing-counted, standing-next, standing-done}
+use Rattle.halving.specs.Looks.{Standing, Looks}
+use Rattle.halving.proofs.StepLaws.{halved, Counted, find-none, standing-start, standing-counted, standing-next}
+use Rattle.halving.proofs.LookLaws.{looks-kept, looks-before, last-kept, last-before}
 use Rattle.found_zones.specs.FoundZone.{askZone}
 use Rattle.found_zones.specs.declared.FoundZone.{FoundZone}
 use Rattle.answer_tables.specs.Table.{natural, answerAt, startsOf, holdsIn, keptBy, keptRow, answerOr, askListed}
@@ -41,25 +43,30 @@ lies-behind place size n h =
     (λ (l : n < place + size). lt-leb size (n - place) (omega arith) ∙ sym (lt-leb (place + size) n l))
     (λ (l : place + size ≤ n). le-leb size (n - place) (omega arith) ∙ sym (le-leb (place + size) n l))
 
-module _ (rows : List ℤ) (z : ℤ) where
-  -- where the loop stands: the n rows from low on are left
-  pub record Seeking (low n : ℕ) : Type 0 where
-    pub looks : ℕ
-    pub standing : Standing (startsOf rows) z low n looks
+-- the row half the rows between bounds in, and the looks so far, are within the rows
+pub record Seen (rows : List ℤ) (low high k : ℕ) : Type 0 where
+  pub sum : low + high ≤ length rows
+  pub inside : 7 * ((low + high) / 2) + 7 ≤ length rows
+  pub looks : k < length rows
 
-  pub seeking-start : (n : ℕ) → n ≡ length rows / 7 → 0 < n → Seeking 0 n
+module _ (rows : List ℤ) (z : ℤ) where
+  -- the n rows from low on are left, k were looked at
+  abbrev Seeking : ℕ → ℕ → ℕ → Type 0
+  Seeking low n k = Standing (startsOf rows) z low n k
+
+  pub seeking-start : (n : ℕ) → n ≡ length rows / 7 → 0 < n → Seeking 0 n 0
   seeking-start n e h =
       let l : length (startsOf rows) ≡ n = starts-length (length rows / 7) 0 rows ∙ sym e in
-      record { looks = 0; standing = subst (λ (m : ℕ). Standing (startsOf rows) z 0 m 0) l (standing-start (startsOf rows) z (λ q. omega arith)) }
+      subst (λ (m : ℕ). Seeking 0 m 0) l (standing-start (startsOf rows) z (λ q. omega arith))
 
-  module _ (low n : ℕ) (g : Seeking low n) where
+  module _ (low n k : ℕ) (g : Seeking low n k) where
     pub seeking-in : low + n ≤ length rows / 7
-    seeking-in = omega (arith, g .standing .inside, starts-length (length rows / 7) 0 rows)
+    seeking-in = omega (arith, g .inside, starts-length (length rows / 7) 0 rows)
+
+    pub seeking-few : k + n ≤ length rows / 7
+    seeking-few = omega (arith, g .few, starts-length (length rows / 7) 0 rows)
 
     module _ (h : 1 < n) where
-      pub seeking-half : Halved n
-      seeking-half = halved n h
-
       -- the row looked at
       pub seeking-row : 7 * (low + n / 2) + 7 ≤ length rows
       seeking-row = omega (arith, seeking-in, halved n h .fewer)
@@ -69,15 +76,42 @@ module _ (rows : List ℤ) (z : ℤ) where
         looked = is ∙ ap (λ (s : ℤ). pick {A = ℕ} (leZ s z) 1 0) (sym (start-is rows (low + n / 2) (omega (arith, seeking-in, halved n h .fewer))))
 
         pub seeking-counted : Counted n j
-        seeking-counted = standing-counted (startsOf rows) z low n (g .looks) (g .standing) h j looked
+        seeking-counted = standing-counted (startsOf rows) z low n k g h j looked
 
-        pub seeking-next : Seeking (low + n / 2 * (1 + j) - n / 2) ((n + j) / 2)
-        seeking-next = record { looks = g .looks + 1; standing = standing-next (startsOf rows) z low n (g .looks) (g .standing) h j looked }
+        pub seeking-next : Seeking (low + n / 2 * (1 + j) - n / 2) ((n + j) / 2) (k + 1)
+        seeking-next = standing-next (startsOf rows) z low n k g h j looked
 
-    pub seeking-done : n ≤ 1 → LeftRow rows z low
-    seeking-done h =
-        let e : findStart (startsOf rows) z ≡ Entry low (g .looks) = sym (standing-done (startsOf rows) z low n (g .looks) (g .standing) h) in
-        record { looks = g .looks; is = e; inside = left-inside rows z low (g .looks) e }
+  -- the rows left are those between bounds
+  module _ (low high k : ℕ) (g : Seeking low (high - low) k) where
+    middle-in : (low + high) / 2 < length rows / 7
+    middle-in = omega (arith, seeking-in low (high - low) k g, g .some)
+
+    pub seen : Seen rows low high k
+    seen =
+        let i = seeking-in low (high - low) k g in
+        record { sum = omega (arith, i, g .some); inside = omega (arith, middle-in); looks = omega (arith, seeking-few low (high - low) k g, g .some) }
+
+    by-start : (t : Bool) → leZ (getD rows (7 * ((low + high) / 2) + 5) (pos 0)) z ≡ t → leZ (getD (startsOf rows) ((low + high) / 2) (pos 0)) z ≡ t
+    by-start t e = rw (start-is rows ((low + high) / 2) middle-in) e
+
+    module _ (h : 1 < high - low) where
+      pub row-kept : leZ (getD rows (7 * ((low + high) / 2) + 5) (pos 0)) z ≡ true
+          → Looks (startsOf rows) z (record { low = low; high = high; probes = k }) (record { low = (low + high) / 2; high = high; probes = k + 1 })
+      row-kept e = looks-kept (startsOf rows) z low high k g h (by-start true e)
+
+      pub row-before : leZ (getD rows (7 * ((low + high) / 2) + 5) (pos 0)) z ≡ false
+          → Looks (startsOf rows) z (record { low = low; high = high; probes = k }) (record { low = low; high = (low + high) / 2; probes = k + 1 })
+      row-before e = looks-before (startsOf rows) z low high k g h (by-start false e)
+
+    module _ (h : high - low ≤ 2) where
+      left-row : (p looks : ℕ) → Entry p looks ≡ findStart (startsOf rows) z → LeftRow rows z p
+      left-row p looks e = record { looks = looks; is = sym e; inside = left-inside rows z p looks (sym e) }
+
+      pub left-kept : leZ (getD rows (7 * ((low + high) / 2) + 5) (pos 0)) z ≡ true → LeftRow rows z ((low + high) / 2)
+      left-kept e = left-row ((low + high) / 2) (k + ((low + high) / 2 - low)) (last-kept (startsOf rows) z low high k g h (by-start true e))
+
+      pub left-before : leZ (getD rows (7 * ((low + high) / 2) + 5) (pos 0)) z ≡ false → LeftRow rows z low
+      left-before e = left-row low (k + ((low + high) / 2 - low)) (last-before (startsOf rows) z low high k g h (by-start false e))
 
   -- each way out of the table, of n bytes
   module _ (n : ℕ) where

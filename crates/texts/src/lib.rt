@@ -46,7 +46,7 @@ pub fn read_text_in(s: &[u8], plain: usize) -> Text
     requires { ⌜ ascii (take plain (now s)) ≡ true ⌝ }
     ensures { λ r. ⌜ r ≡ readText (now (s .entry)) ⌝ }
 {
-    match counts::read_count(s) {
+    match count_readers::read_count(s) {
         Read::Refused(k) => Text::Refused(k),
         Read::Value(n, a) => text_behind(s, a, n as usize, plain),
     }
@@ -79,11 +79,11 @@ fn write_sized(t: &[u8], out: &mut [u8]) -> Wrote
     ensures { λ r. ⌜ Writes (bytes (writeText (now (t .entry)))) (now (out .entry)) r (now (out .exit)) ⌝ }
 {
     let n = t.len();
-    let a = counts::count_size(n as u64);
+    let a = count_writers::count_size(n as u64);
     if out.len() < a + n {
         return Wrote::Refused(15);
     }
-    counts::write_count(n as u64, out);
+    count_writers::write_count(n as u64, out);
     bytes::copy(t, &mut out[a..]);
     Wrote::Length(a + n)
 }

@@ -175,11 +175,11 @@ pub fn has_name(s: &[u8], names: usize, at: usize, k: Kept) -> bool
     if k.end == 0 {
         return false;
     }
-    let len = traces::four_at(s, at + 12);
+    let len = count_readers::four_at(s, at + 12);
     if k.len as u64 != len {
         return false;
     }
-    let start = traces::four_at(s, at + 8);
+    let start = count_readers::four_at(s, at + 8);
     if k.name as u64 == start {
         return true;
     }
@@ -252,8 +252,8 @@ pub fn take_found(f: &[u8], s: &[u8], names: usize, at: usize, v: FoundZone) -> 
         };
     }
     let shown = traces::signed_four_at(s, at + 16);
-    let start = traces::four_at(s, at + 8);
-    let len = traces::four_at(s, at + 12);
+    let start = count_readers::four_at(s, at + 8);
+    let len = count_readers::four_at(s, at + 12);
     let k = kept_by(start, len, v);
     take_zone(f, v, k, t, shown)
 }

@@ -7,25 +7,13 @@ ghost use mir.Syntax.{w32, w64};
 ghost use mir.Val.{toZ};
 ghost use Rattle.traces.specs.Trace.{numberAt, within as withinOf, namesWithin, traceOk as traceOkOf};
 
-// The number of the four bytes at a place.
-pub fn four_at(s: &[u8], at: usize) -> u64
-    requires { ⌜ at + 4 ≤ length (now s) ⌝ }
-    ensures { λ r. ⌜ (r ≡ numberAt 4 at (now (s .entry))) × (r < 4294967296) ⌝ }
-{
-    let a = s[at] as u64;
-    let b = s[at + 1] as u64;
-    let c = s[at + 2] as u64;
-    let d = s[at + 3] as u64;
-    ((a * 256 + b) * 256 + c) * 256 + d
-}
-
 // The number of the eight bytes at a place, as a signed one.
 pub fn signed_eight_at(s: &[u8], at: usize) -> i64
     requires { ⌜ at + 8 ≤ length (now s) ⌝ }
     ensures { λ r. ⌜ r ≡ toZ w64 (numberAt 8 at (now (s .entry))) ⌝ }
 {
-    let high = four_at(s, at);
-    let low = four_at(s, at + 4);
+    let high = count_readers::four_at(s, at);
+    let low = count_readers::four_at(s, at + 4);
     signed_64(high * 4294967296 + low)
 }
 
@@ -34,7 +22,7 @@ pub fn signed_four_at(s: &[u8], at: usize) -> i64
     requires { ⌜ at + 4 ≤ length (now s) ⌝ }
     ensures { λ r. ⌜ r ≡ toZ w32 (numberAt 4 at (now (s .entry))) ⌝ }
 {
-    let v = four_at(s, at);
+    let v = count_readers::four_at(s, at);
     signed_32(v)
 }
 
@@ -93,8 +81,8 @@ fn names_within(s: &[u8], at: usize, n: u64, size: u64) -> bool
     let mut left = n;
     let mut place = at;
     while 0 < left {
-        let start = four_at(s, place + 8);
-        let span = four_at(s, place + 12);
+        let start = count_readers::four_at(s, place + 8);
+        let span = count_readers::four_at(s, place + 12);
         if within(start, span, size) {
             left -= 1;
             place += 20;
@@ -113,10 +101,10 @@ pub fn trace_ok(s: &[u8]) -> bool
         return false;
     }
     let total = s.len() as u64;
-    let n = four_at(s, 0);
-    let at = four_at(s, 4);
-    let size = four_at(s, 8);
-    let names = four_at(s, 12);
+    let n = count_readers::four_at(s, 0);
+    let at = count_readers::four_at(s, 4);
+    let size = count_readers::four_at(s, 8);
+    let names = count_readers::four_at(s, 12);
     if records_within(at, n, total) {
         if within(names, size, total) {
             return names_within(s, at as usize, n, size);

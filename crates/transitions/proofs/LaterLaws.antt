@@ -25,7 +25,7 @@ use Rattle.transitions.specs.Transition.{readMoment}
 use Rattle.transitions.proofs.MomentLaws.{moment-holds, moment-read, ticks-read, ticks-none}
 
 -- a count of 2 is the byte 2
-first-two : (s : List ℕ) (n : ℕ) → Value 2 n ≡ readCount s → getD s 0 0 ≡ 2
+pub first-two : (s : List ℕ) (n : ℕ) → Value 2 n ≡ readCount s → getD s 0 0 ≡ 2
 unfolding readGroups
 first-two [] n e = clash cc
 first-two (b ∷ r) n e = go (ltb b 128) (readGroups 3 7 r) e

@@ -21,22 +21,26 @@ use Rattle.old_dictionaries.specs.View.{part}
 use Rattle.unordered_keys.specs.Keys.{keysIn, limitOf, Inside, Stands, KeyTaken}
 use Rattle.unordered_keys.proofs.WiderLaws.{keeps-wider, between-wider}
 
-module _ (s : List ℕ) where
-  -- a place of s fits in 32 bits where any is remembered
-  pub limit-none : 4294967295 < length s → 0 ≡ limitOf s
+-- a place of s fits in 32 bits where any is remembered
+module _ (s : List ℕ) (m : ℕ) where
+  pub limit-none : 4294967295 < length s → 0 ≡ limitOf s m
   unfolding limitOf
   limit-none h = rw (lt-ltb 4294967295 (length s) h)
 
-  pub limit-some : length s ≤ 4294967295 → 8192 ≡ limitOf s
+  pub limit-some : length s ≤ 4294967295 → m ≡ limitOf s m
   unfolding limitOf
   limit-some h = rw (le-ltb 4294967295 (length s) h)
 
-  pub limit-fits : (n : ℕ) → n < limitOf s → (n < 8192) × (length s ≤ 4294967295)
+  pub limit-fits : (n : ℕ) → n < limitOf s m → (n < m) × (length s ≤ 4294967295)
   limit-fits n h =
       by-order 4294967295 (length s)
       (λ l. absurd (omega (arith, limit-none l)))
       (λ l. (omega (arith, limit-some l), l))
 
+pub keys-few : {s st en : List ℕ} {n : ℕ} → Inside s st en n → n ≤ 8192
+keys-few h = omega (arith, h .few, h .room)
+
+module _ (s : List ℕ) where
   pub keys-length : (st en : List ℕ) (n : ℕ) → length (keysIn s st en n) ≡ n
   unfolding keysIn
   keys-length st en zero = refl
@@ -62,11 +66,11 @@ module _ (s : List ℕ) where
       rw (f n (omega arith), g n (omega arith), keys-same st en st′ en′ n (λ k h. f k (omega arith)) (λ k h. g k (omega arith)))
 
   -- one key more, from b to c
-  module _ (st en : List ℕ) (n b c : ℕ) (h : Inside s st en n) (l : n < 8192) (b-c : b ≤ c) (c-s : c ≤ length s) where
+  module _ (st en : List ℕ) (n b c : ℕ) (h : Inside s st en n) (l : n < length st) (b-c : b ≤ c) (c-s : c ≤ length s) where
     pub keys-more : keysIn s (set st n b) (set en n c) (n + 1) ≡ keysIn s st en n ++ (part b c s ∷ [])
     unfolding keysIn
     keys-more =
-        let x : getD (set st n b) n 0 ≡ b = getD-set-same st n b 0 (omega (arith, h .starts)) in
+        let x : getD (set st n b) n 0 ≡ b = getD-set-same st n b 0 l in
         let y : getD (set en n c) n 0 ≡ c = getD-set-same en n c 0 (omega (arith, h .ends)) in
         let z = keys-same st en (set st n b) (set en n c) n (λ k m. getD-set-other st n k b 0 (λ e. omega arith)) (λ k m. getD-set-other en n k c 0 (λ e. omega arith)) in
         rw (add-one n, x, y, z)
@@ -74,14 +78,14 @@ module _ (s : List ℕ) where
     pub inside-more : Inside s (set st n b) (set en n c) (n + 1)
     inside-more =
         record {
-          starts = length-set st n b ∙ h .starts;
-          ends = length-set en n c ∙ h .ends;
-          few = omega arith;
+          room = omega (arith, length-set st n b, h .room);
+          ends = length-set en n c ∙ h .ends ∙ sym (length-set st n b);
+          few = omega (arith, length-set st n b);
           order = λ k m.
               by-order k n
               (λ q. rw (getD-set-other st n k b 0 (λ e. omega arith), getD-set-other en n k c 0 (λ e. omega arith)) (h .order k q))
               (λ q. let z : k ≡ n = omega arith in
-              rw (z, getD-set-same st n b 0 (omega (arith, h .starts)), getD-set-same en n c 0 (omega (arith, h .ends))) b-c);
+              rw (z, getD-set-same st n b 0 l, getD-set-same en n c 0 (omega (arith, h .ends))) b-c);
           inside = λ k m.
               by-order k n
               (λ q. rw (getD-set-other en n k c 0 (λ e. omega arith)) (h .inside k q))
@@ -99,7 +103,7 @@ module _ (s st en : List ℕ) (n : ℕ) (od : List ℕ) (b c : ℕ) (r : Gap) (f
     pub key-gap : Fits od n i j × Between (keysIn s st en n) od n (part b c s) (i + j)
     key-gap = (rw q at f) .is
 
-    pub key-new : (od′ : List ℕ) → Added od n (i + j) n od′ → n < 8192 → b ≤ c → c ≤ length s
+    pub key-new : (od′ : List ℕ) → Added od n (i + j) n od′ → n < length st → b ≤ c → c ≤ length s
         → KeyTaken s st en n od (part b c s) (set st n b) (set en n c) od′ false
     key-new od′ a l b-c c-s =
         record {

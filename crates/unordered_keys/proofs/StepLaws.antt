@@ -1,5 +1,5 @@
 -- The entries one by one, with what is remembered of them. Assumes nothing.
-use mathlib.Core.Path.{_≡_, _∙_}
+use mathlib.Core.Path.{_≡_, refl, _∙_}
 use mathlib.Core.Bool.{Bool, true, false}
 use mathlib.Core.List.{List, [], _∷_, _++_}
 use Prim.Native.Nat.{ℕ, _+_, _≤_, _<_}
@@ -24,14 +24,14 @@ arrays s st en n od mem r = record { most = λ l. let h = r .most l in record { 
 
 -- whether a key is one of n
 module _ (s : List ℕ) (from n : ℕ) (st en od x : List ℕ) (r : Bool) where
-  pub judged-taken : (st′ en′ od′ : List ℕ) → n < limitOf s → KeyTaken s st en n od x st′ en′ od′ r → Judged s from n st en od x st′ en′ od′ r
+  pub judged-taken : (st′ en′ od′ : List ℕ) → n < limitOf s (length st) → KeyTaken s st en n od x st′ en′ od′ r → Judged s from n st en od x st′ en′ od′ r
   judged-taken st′ en′ od′ l t =
       record {
         said = λ mem k m. t .said mem (m .most (omega arith));
         kept = λ mem m e. record { most = λ h. t .kept mem (m .most (omega arith)) e };
       }
 
-  pub judged-past : limitOf s ≤ n → r ≡ keyAmong n x (drop from s) → Judged s from n st en od x st en od r
+  pub judged-past : limitOf s (length st) ≤ n → r ≡ keyAmong n x (drop from s) → Judged s from n st en od x st en od r
   judged-past l q =
       record {
         said = λ mem k m. q ∙ k x;
@@ -84,18 +84,18 @@ pub record Reading (s : List ℕ) (from n : ℕ) (st en od : List ℕ) (done pla
   pub remembers : Remembers s st en done od (keys pre)
 
 -- arrays of zeros
-pub remembers-none : (s : List ℕ) → Remembers s (replicate 8192 0) (replicate 8192 0) 0 (replicate 8449 0) []
-remembers-none s =
+pub remembers-none : (s : List ℕ) (m : ℕ) → m ≤ 8192 → Remembers s (replicate m 0) (replicate m 0) 0 (replicate 8449 0) []
+remembers-none s m r =
     record {
       most = λ l.
           record {
             inside =
                 record {
-                  starts = length-replicate {A = ℕ} 8192 0;
-                  ends = length-replicate {A = ℕ} 8192 0;
+                  room = omega (arith, length-replicate {A = ℕ} m 0);
+                  ends = refl;
                   few = omega arith;
-                  order = λ k m. absurd (omega arith);
-                  inside = λ k m. absurd (omega arith);
+                  order = λ k l. absurd (omega arith);
+                  inside = λ k l. absurd (omega arith);
                 };
             keeps = keeps-start _;
           };

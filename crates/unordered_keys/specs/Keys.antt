@@ -24,9 +24,9 @@ keysIn s st en (suc n) = keysIn s st en n ++ (part (getD st n 0) (getD en n 0) s
 
 -- the first n of these places are of s
 pub record Inside (s st en : List ℕ) (n : ℕ) : Type 0 where
-  pub starts : length st ≡ 8192
-  pub ends : length en ≡ 8192
-  pub few : n ≤ 8192
+  pub room : length st ≤ 8192
+  pub ends : length en ≡ length st
+  pub few : n ≤ length st
   pub order : (k : ℕ) → k < n → getD st k 0 ≤ getD en k 0
   pub inside : (k : ℕ) → k < n → getD en k 0 ≤ length s
 
@@ -45,13 +45,13 @@ pub record KeyTaken (s st en : List ℕ) (n : ℕ) (od x st′ en′ od′ : Lis
   pub said : (mem : List (List ℕ)) → Stands s st en n od mem → r ≡ among x mem
   pub kept : (mem : List (List ℕ)) → Stands s st en n od mem → r ≡ false → Stands s st′ en′ (n + 1) od′ (x ∷ mem)
 
--- how many keys are remembered: 8,192, and none where a place may not fit in 32 bits
-unfoldable pub limitOf : List ℕ → ℕ
-limitOf s = pick (ltb 4294967295 (length s)) 0 8192
+-- how many keys are remembered in arrays of m places: m, and none where a place may not fit in 32 bits
+unfoldable pub limitOf : List ℕ → ℕ → ℕ
+limitOf s m = pick (ltb 4294967295 (length s)) 0 m
 
 -- of n entries so many are remembered
 pub record Remembers (s st en : List ℕ) (n : ℕ) (od : List ℕ) (mem : List (List ℕ)) : Type 0 where
-  pub most : n ≤ limitOf s → Stands s st en n od mem
+  pub most : n ≤ limitOf s (length st) → Stands s st en n od mem
 
 -- the same of n entries from a place of s on, which have the keys mem
 pub record Judged (s : List ℕ) (from n : ℕ) (st en od x st′ en′ od′ : List ℕ) (r : Bool) : Type 0 where
@@ -69,4 +69,4 @@ pub record Stepped (s : List ℕ) (from n place : ℕ) (st en od st′ en′ od�
 
 -- what is known of the arrays where mem is not named
 pub record Arrays (s st en : List ℕ) (n : ℕ) (od : List ℕ) : Type 0 where
-  pub most : n ≤ limitOf s → Held s st en n od
+  pub most : n ≤ limitOf s (length st) → Held s st en n od

@@ -1,4 +1,4 @@
-// The entries of an older dictionary whose keys don't stand in the order of their bytes. Where the first 8,192 keys lie is remembered, and
+// The entries of an older dictionary whose keys don't stand in the order of their bytes. Where the first keys lie is remembered, up to 8,192, and
 // their numbers in the order of the keys.
 use ids::Gap;
 use ids::Place;
@@ -118,7 +118,7 @@ fn take_key(
     b: usize,
     c: usize,
 ) -> bool
-    requires { ⌜ Held (now s) (now starts) (now ends) n (now order) × (n < limitOf (now s)) × (b ≤ c) × (c ≤ length (now s)) ⌝ }
+    requires { ⌜ Held (now s) (now starts) (now ends) n (now order) × (n < limitOf (now s) (length (now starts))) × (b ≤ c) × (c ≤ length (now s)) ⌝ }
     ensures { λ r. ⌜ KeyTaken (now (s .entry)) (now (starts .entry)) (now (ends .entry)) n (now (order .entry)) (part b c (now (s .entry))) (now (starts .exit)) (now (ends .exit)) (now (order .exit)) r ⌝ }
 {
     let g = find_gap(s, &*starts, &*ends, n, &*order, &s[b..c]);
@@ -133,14 +133,14 @@ fn take_key(
     }
 }
 
-// How many keys are remembered: 8,192, and none where a place may not fit in 32 bits.
-fn limit(s: &[u8]) -> u64
-    ensures { λ r. ⌜ r ≡ limitOf (now (s .entry)) ⌝ }
+// How many keys are remembered in arrays of `room` places: as many, and none where a place may not fit in 32 bits.
+fn limit(s: &[u8], room: usize) -> u64
+    ensures { λ r. ⌜ r ≡ limitOf (now (s .entry)) room ⌝ }
 {
     if 4294967295 < s.len() {
         return 0;
     }
-    8192
+    room as u64
 }
 
 // Whether s[b..c] is the key of one of n entries, which start at a place. For a key that is behind those remembered the entries are gone
@@ -158,7 +158,7 @@ fn is_second(
     requires { ⌜ (from ≤ length (now s)) × (b ≤ c) × (c ≤ length (now s)) × Arrays (now s) (now starts) (now ends) n (now order) ⌝ }
     ensures { λ r. ⌜ Judged (now (s .entry)) from n (now (starts .entry)) (now (ends .entry)) (now (order .entry)) (part b c (now (s .entry))) (now (starts .exit)) (now (ends .exit)) (now (order .exit)) r ⌝ }
 {
-    if n < limit(s) {
+    if n < limit(s, starts.len()) {
         return take_key(s, starts, ends, n as usize, order, b, c);
     }
     old_pairs::has_key(s, from, n, &s[b..c])
@@ -222,8 +222,19 @@ fn read_all(
     Found::Entries(n, at)
 }
 
-// n entries of s from a place on.
-pub fn read_entries(s: &[u8], from: usize, n: u64) -> Found
+// The same with arrays of its own, for few entries: short arrays are cleared at once.
+fn read_few(s: &[u8], from: usize, n: u64) -> Found
+    requires { ⌜ from ≤ length (now s) ⌝ }
+    ensures { λ r. ⌜ r ≡ foundOf (now (s .entry)) (parseEntries n [] (drop from (now (s .entry)))) ⌝ }
+{
+    let mut starts = [0u32; 1024];
+    let mut ends = [0u32; 1024];
+    let mut order = [0u16; 8449];
+    read_all(s, from, n, &mut starts, &mut ends, &mut order)
+}
+
+// The same for many.
+fn read_many(s: &[u8], from: usize, n: u64) -> Found
     requires { ⌜ from ≤ length (now s) ⌝ }
     ensures { λ r. ⌜ r ≡ foundOf (now (s .entry)) (parseEntries n [] (drop from (now (s .entry)))) ⌝ }
 {
@@ -231,4 +242,15 @@ pub fn read_entries(s: &[u8], from: usize, n: u64) -> Found
     let mut ends = [0u32; 8192];
     let mut order = [0u16; 8449];
     read_all(s, from, n, &mut starts, &mut ends, &mut order)
+}
+
+// n entries of s from a place on.
+pub fn read_entries(s: &[u8], from: usize, n: u64) -> Found
+    requires { ⌜ from ≤ length (now s) ⌝ }
+    ensures { λ r. ⌜ r ≡ foundOf (now (s .entry)) (parseEntries n [] (drop from (now (s .entry)))) ⌝ }
+{
+    if n <= 1024 {
+        return read_few(s, from, n);
+    }
+    read_many(s, from, n)
 }

@@ -1,4 +1,4 @@
--- The usual offsets at a place: a law for each way out of their reader. Assumes nothing.
+-- Offsets at a place: a law for each way out of their reader. Assumes nothing.
 use mathlib.Core.Path.{_≡_, refl, sym, _∙_}
 use mathlib.Core.List.{List}
 use Prim.Native.Nat.{ℕ, suc, _+_, _*_, _/_, _%_, _≤_, _<_}
@@ -14,7 +14,7 @@ use Rattle.base.specs.declared.Read.the-variants.{Value}
 use Rattle.base.proofs.Tests.{pick-holds}
 use Rattle.counts.specs.Fixed.{fixedFrom}
 use Rattle.offsets.specs.Offset.{readSum}
-use Rattle.offsets.proofs.OffsetLaws.{Fine, Level, minutes, seconds, fine-of}
+use Rattle.offsets.proofs.OffsetLaws.{Fine, Level, minutes, seconds, milliseconds, fine-of}
 use Rattle.places.specs.Placed.{at, Stands}
 use Rattle.places.proofs.ShortLaws.{reads, half-hours}
 use Rattle.usual_sums.specs.Usual.{usualSize, UsualAt}
@@ -27,15 +27,20 @@ pub size-two : (b : ℕ) → 128 ≤ b → b < 160 → 2 ≡ usualSize b
 unfolding usualSize
 size-two b l h = rw (le-ltb b 128 l, lt-ltb b 160 h)
 
-pub size-three : (b : ℕ) → 160 ≤ b → 3 ≡ usualSize b
+pub size-three : (b : ℕ) → 160 ≤ b → b < 192 → 3 ≡ usualSize b
 unfolding usualSize
-size-three b h = rw (le-ltb b 128 (omega arith), le-ltb b 160 h)
+size-three b l h = rw (le-ltb b 128 (omega arith), le-ltb b 160 l, lt-ltb b 192 h)
 
-pub size-most : (b n : ℕ) → n ≡ usualSize b → n ≤ 3
+pub size-four : (b : ℕ) → 192 ≤ b → 4 ≡ usualSize b
+unfolding usualSize
+size-four b h = rw (le-ltb b 128 (omega arith), le-ltb b 160 (omega arith), le-ltb b 192 h)
+
+pub size-most : (b n : ℕ) → n ≡ usualSize b → n ≤ 4
 unfolding usualSize
 size-most b n e =
-    rw e (pick-holds (λ (k : ℕ). k ≤ 3) (ltb b 128) (λ _. omega arith) (λ _.
-    pick-holds (λ (k : ℕ). k ≤ 3) (ltb b 160) (λ _. omega arith) (λ _. omega arith)))
+    rw e (pick-holds (λ (k : ℕ). k ≤ 4) (ltb b 128) (λ _. omega arith) (λ _.
+    pick-holds (λ (k : ℕ). k ≤ 4) (ltb b 160) (λ _. omega arith) (λ _.
+    pick-holds (λ (k : ℕ). k ≤ 4) (ltb b 192) (λ _. omega arith) (λ _. omega arith))))
 
 pub other : (s : List ℕ) (place : ℕ) → UsualAt s place 0
 other s place = record { stands = λ n. absurd (n refl) }
@@ -79,6 +84,21 @@ module _ (s : List ℕ) (place : ℕ) where
       let k : place + 2 ≡ suc (suc place) = omega arith in
       rw (drop-cons s (suc place) 0 (omega arith), drop-cons s (suc (suc place)) 0 (omega arith), add-one place, k)
 
+  three-more : (high : ℕ) → place + 4 ≤ length s
+      → fixedFrom 3 high (drop (suc place) s) ≡ ((high * 256 + getD s (place + 1) 0) * 256 + getD s (place + 2) 0) * 256 + getD s (place + 3) 0
+  unfolding fixedFrom
+  three-more high w =
+      let k : place + 2 ≡ suc (suc place) = omega arith in
+      let q : place + 3 ≡ suc (suc (suc place)) = omega arith in
+      rw (
+        drop-cons s (suc place) 0 (omega arith),
+        drop-cons s (suc (suc place)) 0 (omega arith),
+        drop-cons s (suc (suc (suc place))) 0 (omega arith),
+        add-one place,
+        k,
+        q,
+      )
+
   module _ (v : ℕ) where
     pub minutes-are : place + 2 ≤ length s → 128 ≤ getD s place 0 → getD s place 0 < 160 → v ≡ getD s place 0 % 32 * 256 + getD s (place + 1) 0
         → v ≤ 2879 → (v % 30 ≡ 0 → ⊥) → UsualAt s place (v * 60000)
@@ -95,4 +115,13 @@ module _ (s : List ℕ) (place : ℕ) where
         let r : fixedFrom 2 (getD s place 0 % 32) (drop (suc place) s) ≡ v = two-more (getD s place 0 % 32) w ∙ sym e in
         let f : Fine 60000 (v * 1000) =
         record { least = omega arith; most = omega arith; fine = λ z. fine (multiple v 60 (v * 1000 / 60000) (omega arith)) } in
-        usual-at (v * 1000) 3 (size-three (getD s place 0) lo) (rw r at (level-at seconds (omega arith) lo hi (rw r f))) w
+        usual-at (v * 1000) 3 (size-three (getD s place 0) lo hi) (rw r at (level-at seconds (omega arith) lo hi (rw r f))) w
+
+    pub milliseconds-are : place + 4 ≤ length s → 192 ≤ getD s place 0 → getD s place 0 < 224
+        → v ≡ ((getD s place 0 % 32 * 256 + getD s (place + 1) 0) * 256 + getD s (place + 2) 0) * 256 + getD s (place + 3) 0
+        → v ≤ 172799999 → (v % 1000 ≡ 0 → ⊥) → UsualAt s place v
+    milliseconds-are w lo hi e most fine =
+        let r : fixedFrom 3 (getD s place 0 % 32) (drop (suc place) s) ≡ v = three-more (getD s place 0 % 32) w ∙ sym e in
+        let one : v * 1 ≡ v = omega arith in
+        let f : Fine 1000 (v * 1) = rw one (record { least = omega arith; most = most; fine = fine }) in
+        usual-at v 4 (size-four (getD s place 0) lo) (rw (r, one) at (level-at milliseconds (omega arith) lo hi (rw r f))) w

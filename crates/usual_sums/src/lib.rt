@@ -1,4 +1,4 @@
-// An offset of half hours, minutes or seconds, the usual ones, at a place of a field's data.
+// An offset at a place of a field's data, without a call.
 ghost use mathlib.Core.Path.{_≡_};
 ghost use Prim.Native.Nat.{_+_, _≤_, _<_};
 ghost use lib.ListN.{length, getD};
@@ -34,7 +34,23 @@ fn seconds_at(s: &[u8], at: usize) -> u64
     v * 1000
 }
 
-// The sum of such an offset; 0, which is no offset's sum, where another code stands there.
+// 110 and 29 bits of milliseconds.
+fn milliseconds_at(s: &[u8], at: usize) -> u64
+    requires { ⌜ (at + 4 ≤ length (now s)) × (192 ≤ getD (now s) at 0) × (getD (now s) at 0 < 224) ⌝ }
+    ensures { λ r. ⌜ UsualAt (now (s .entry)) at r ⌝ }
+{
+    let v = ((s[at] as u64 % 32 * 256 + s[at + 1] as u64) * 256 + s[at + 2] as u64) * 256
+        + s[at + 3] as u64;
+    if 172799999 < v {
+        return 0;
+    }
+    if v % 1000 == 0 {
+        return 0;
+    }
+    v
+}
+
+// The sum of the offset at a place; 0, which is no offset's sum, where none stands there or it ends early.
 pub fn usual_sum(s: &[u8], at: usize) -> u64
     requires { ⌜ at + 3 ≤ length (now s) ⌝ }
     ensures { λ r. ⌜ UsualAt (now (s .entry)) at r ⌝ }
@@ -51,7 +67,13 @@ pub fn usual_sum(s: &[u8], at: usize) -> u64
     if s[at] < 192 {
         return seconds_at(s, at);
     }
-    0
+    if 223 < s[at] {
+        return 0;
+    }
+    if s.len() - at < 4 {
+        return 0;
+    }
+    milliseconds_at(s, at)
 }
 
 // How many bytes it takes, by its first one.
@@ -64,5 +86,8 @@ pub fn usual_size(b: u8) -> usize
     if b < 160 {
         return 2;
     }
-    3
+    if b < 192 {
+        return 3;
+    }
+    4
 }

@@ -103,29 +103,29 @@ module _ (s : List ℕ) (at : ℕ) where
   -- what is left of it from a place on
   pub record FrontFrom : Type 0 where
     pub inside : at ≤ length s
-    pub rest : asciiFront s ≡ at + asciiBlocks ((length s - at) / 512) (drop at s)
+    pub rest : asciiFront s ≡ at + asciiBlocks ((length s - at) / 128) (drop at s)
 
   module _ (f : FrontFrom) (t : Bool) where
-    module _ (l : 512 ≤ length s - at) (e : t ≡ ascii (take (at + 512 - at) (drop at s))) where
-      block : asciiFront s ≡ at + pick t (512 + asciiBlocks ((length s - (at + 512)) / 512) (drop (at + 512) s)) 0
+    module _ (l : 128 ≤ length s - at) (e : t ≡ ascii (take (at + 128 - at) (drop at s))) where
+      block : asciiFront s ≡ at + pick t (128 + asciiBlocks ((length s - (at + 128)) / 128) (drop (at + 128) s)) 0
       unfolding asciiBlocks
       block =
-          let n : (length s - at) / 512 ≡ suc ((length s - (at + 512)) / 512) = omega arith in
-          let w : at + 512 - at ≡ 512 = omega arith in
-          let g : ascii (take 512 (drop at s)) ≡ t = sym (rw w at e) in
-          f .rest ∙ rw (n, g, drop-drop 512 at s)
+          let n : (length s - at) / 128 ≡ suc ((length s - (at + 128)) / 128) = omega arith in
+          let w : at + 128 - at ≡ 128 = omega arith in
+          let g : ascii (take 128 (drop at s)) ≡ t = sym (rw w at e) in
+          f .rest ∙ rw (n, g, drop-drop 128 at s)
 
       pub front-stop : t ≡ false → at ≡ asciiFront s
       front-stop q = let b : asciiFront s ≡ at + 0 = rw q at block in omega arith
 
-      front-more : t ≡ true → asciiFront s ≡ at + (512 + asciiBlocks ((length s - (at + 512)) / 512) (drop (at + 512) s))
+      front-more : t ≡ true → asciiFront s ≡ at + (128 + asciiBlocks ((length s - (at + 128)) / 128) (drop (at + 128) s))
       front-more q = rw q at block
 
-    module _ (l : length s - at < 512) (e : t ≡ ascii (take (length s - at) (drop at s))) where
+    module _ (l : length s - at < 128) (e : t ≡ ascii (take (length s - at) (drop at s))) where
       ending : asciiFront s ≡ at + pick t (length s - at) 0
       unfolding asciiBlocks
       ending =
-          let n : (length s - at) / 512 ≡ 0 = omega arith in
+          let n : (length s - at) / 128 ≡ 0 = omega arith in
           let g : ascii (drop at s) ≡ t = sym (rw (part-from at s) at e) in
           f .rest ∙ rw (n, g, length-drop at s)
 
@@ -138,11 +138,11 @@ module _ (s : List ℕ) (at : ℕ) where
 pub front-start : (s : List ℕ) → FrontFrom s 0
 front-start s = let z : length s - 0 ≡ length s = omega arith in record { inside = omega arith; rest = rw z (omega arith) }
 
-pub front-next : (s : List ℕ) (at : ℕ) → FrontFrom s at → (t : Bool) → 512 ≤ length s - at → t ≡ ascii (take (at + 512 - at) (drop at s)) → t ≡ true
-    → FrontFrom s (at + 512)
+pub front-next : (s : List ℕ) (at : ℕ) → FrontFrom s at → (t : Bool) → 128 ≤ length s - at → t ≡ ascii (take (at + 128 - at) (drop at s)) → t ≡ true
+    → FrontFrom s (at + 128)
 front-next s at f t l e q = record { inside = omega arith; rest = omega (arith, front-more s at f t l e q) }
 
-blocks-ascii : (n : ℕ) (s : List ℕ) → n * 512 ≤ length s → (asciiBlocks n s ≤ length s) × (ascii (take (asciiBlocks n s) s) ≡ true)
+blocks-ascii : (n : ℕ) (s : List ℕ) → n * 128 ≤ length s → (asciiBlocks n s ≤ length s) × (ascii (take (asciiBlocks n s) s) ≡ true)
 unfolding asciiBlocks ascii
 blocks-ascii zero s h = go (ascii s) refl
   where
@@ -150,14 +150,14 @@ blocks-ascii zero s h = go (ascii s) refl
     go true e = (omega arith, rw (take-all (length s) s (omega arith)) e)
     go false e = (omega arith, refl)
 blocks-ascii (suc n) s h =
-    let d : length (drop 512 s) ≡ length s - 512 = length-drop 512 s in
-    go (asciiBlocks n (drop 512 s)) (blocks-ascii n (drop 512 s) (omega arith)) (ascii (take 512 s)) refl
+    let d : length (drop 128 s) ≡ length s - 128 = length-drop 128 s in
+    go (asciiBlocks n (drop 128 s)) (blocks-ascii n (drop 128 s) (omega arith)) (ascii (take 128 s)) refl
   where
-    go : (k : ℕ) → (k ≤ length (drop 512 s)) × (ascii (take k (drop 512 s)) ≡ true) → (t : Bool) → ascii (take 512 s) ≡ t
-        → (pick t (512 + k) 0 ≤ length s) × (ascii (take (pick t (512 + k) 0) s) ≡ true)
-    go k b true e = (omega (arith, length-drop 512 s, b .0), ascii-more 512 k s e (b .1))
+    go : (k : ℕ) → (k ≤ length (drop 128 s)) × (ascii (take k (drop 128 s)) ≡ true) → (t : Bool) → ascii (take 128 s) ≡ t
+        → (pick t (128 + k) 0 ≤ length s) × (ascii (take (pick t (128 + k) 0) s) ≡ true)
+    go k b true e = (omega (arith, length-drop 128 s, b .0), ascii-more 128 k s e (b .1))
     go k b false e = (omega arith, refl)
 
 -- it lies in s, and is ASCII
 pub front-ascii : (s : List ℕ) (n : ℕ) → n ≡ asciiFront s → (n ≤ length s) × (ascii (take n s) ≡ true)
-front-ascii s n e = rw e (blocks-ascii (length s / 512) s (omega arith))
+front-ascii s n e = rw e (blocks-ascii (length s / 128) s (omega arith))

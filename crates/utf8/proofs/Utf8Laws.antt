@@ -1,5 +1,5 @@
 -- How a reading of UTF-8 goes on. Assumes nothing.
-use mathlib.Core.Path.{_≡_, refl, sym, _∙_}
+use mathlib.Core.Path.{_≡_, refl, sym, _∙_, ap}
 use mathlib.Core.Bool.{Bool, true, false}
 use mathlib.Core.List.{List, [], _∷_}
 use Prim.Native.Nat.{ℕ, zero, suc, _+_, _-_, _≤_, _<_}
@@ -8,7 +8,7 @@ use native.Mathlib.Numerals.{add-one}
 use lib.ListN.{length, getD, take, drop, length-drop, drop-of-length-le}
 use lib.Seq.{drop-cons, drop-drop, take-all}
 use lib.Dec.{ltb, leb}
-use borrow.Author.Tests.{lt-ltb, ne-eqb}
+use borrow.Author.Tests.{lt-ltb, le-ltb, ne-eqb, le-leb}
 use Rattle.base.specs.Pick.{pick, both}
 use Rattle.base.proofs.Tests.{never, by-order}
 use Rattle.utf8.specs.declared.Due.{Due}
@@ -138,3 +138,33 @@ module _ (s : List ℕ) (at : ℕ) (h : at < length s) where
         omega (arith, z, front-fits r x),
         rw (← drop-drop n at s, drop-cons s at 0 h) (rw z at (front-size (getD s at 0) r x)),
       )
+
+-- a character of three bytes whose first asks for two of the usual range
+module _ (s : List ℕ) (at : ℕ) (h : at + 3 ≤ length s) where
+  abbrev a : ℕ
+  a = getD s at 0
+
+  abbrev b : ℕ
+  b = getD s (at + 1) 0
+
+  abbrev c : ℕ
+  c = getD s (at + 2) 0
+
+  pub three-passed : (0xe1 ≤ a) × (a ≤ 0xef) × (a ≡ 0xed → ⊥) × (0x80 ≤ b) × (b ≤ 0xbf) × (0x80 ≤ c) × (c ≤ 0xbf)
+      → utf8 (drop (at + 3) s) ≡ utf8 (drop at s)
+  unfolding chars
+  three-passed (al, ah, ad, bl, bh, cl, ch) =
+      sym (size-means s at (omega arith) 3 (size-ends s at (omega arith) 2 0x80 0xbf true first rest) .1)
+    where
+      first : Follow 2 0x80 0xbf ≡ lead a
+      first =
+          rw (le-ltb a 0x80 (omega arith), le-ltb a 0xc2 (omega arith), le-ltb a 0xe0 (omega arith), ne-eqb a 0xe0 (λ e. omega arith), ne-eqb a 0xed ad, lt-ltb a 0xf0 (omega arith))
+
+      pair : take 2 (drop (at + 1) s) ≡ b ∷ c ∷ []
+      pair =
+          let z : suc (at + 1) ≡ at + 2 = omega arith in
+          ap (take 2)
+          (drop-cons s (at + 1) 0 (omega arith) ∙ ap (λ (n : ℕ). b ∷ drop n s) z ∙ ap (λ (r : List ℕ). b ∷ r) (drop-cons s (at + 2) 0 (omega arith)))
+
+      rest : true ≡ chars 2 0x80 0xbf (take 2 (drop (at + 1) s))
+      rest = rw (pair, le-leb 0x80 b bl, le-leb b 0xbf bh, le-leb 0x80 c cl, le-leb c 0xbf ch)

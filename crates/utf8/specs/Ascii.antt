@@ -10,10 +10,10 @@ unfoldable pub ascii : List ℕ → Bool
 ascii [] = true
 ascii (b ∷ s) = pick (ltb b 0x80) (ascii s) false
 
--- how many bytes at the front of s are ASCII, by blocks: n of 512 bytes and what is left, up to the first that is not all ASCII
+-- how many bytes at the front of s are ASCII, by blocks: n of 128 bytes and what is left, up to the first that is not all ASCII
 unfoldable pub asciiBlocks : ℕ → List ℕ → ℕ
 asciiBlocks zero s = pick (ascii s) (length s) 0
-asciiBlocks (suc n) s = pick (ascii (take 512 s)) (512 + asciiBlocks n (drop 512 s)) 0
+asciiBlocks (suc n) s = pick (ascii (take 128 s)) (128 + asciiBlocks n (drop 128 s)) 0
 
 abbrev pub asciiFront : List ℕ → ℕ
-asciiFront s = asciiBlocks (length s / 512) s
+asciiFront s = asciiBlocks (length s / 128) s

@@ -1,5 +1,6 @@
 // UTF-8, and its part that is ASCII.
 ghost use mathlib.Core.Path.{_≡_};
+ghost use mathlib.Core.Bool.{true};
 ghost use Prim.Native.Nat.{max, _+_, _≤_, _<_};
 ghost use lib.ListN.{length, take, drop};
 ghost use lib.Dec.{leb};
@@ -97,7 +98,50 @@ fn size_at(s: &[u8], at: usize) -> usize
     }
 }
 
-// Whether s is UTF-8, character by character.
+// Whether a, b and c are a character of three bytes, for all first bytes but E0 and ED, behind which not every byte may follow.
+fn is_three(a: u8, b: u8, c: u8) -> bool
+    ensures { λ r. ⌜ (r ≡ true → (0xe1 ≤ a) × (a ≤ 0xef) × (a ≡ 0xed → ⊥) × (0x80 ≤ b) × (b ≤ 0xbf) × (0x80 ≤ c) × (c ≤ 0xbf)) ⌝ }
+{
+    if a == 0xed {
+        return false;
+    }
+    if a < 0xe1 {
+        return false;
+    }
+    if 0xef < a {
+        return false;
+    }
+    if b < 0x80 {
+        return false;
+    }
+    if 0xbf < b {
+        return false;
+    }
+    if c < 0x80 {
+        return false;
+    }
+    if 0xbf < c {
+        return false;
+    }
+    true
+}
+
+// The place behind such characters in a row from a place on.
+fn past_threes(s: &[u8], from: usize) -> usize
+    requires { ⌜ from ≤ length (now s) ⌝ }
+    ensures { λ r. ⌜ (from ≤ r) × (r ≤ length (now (s .entry))) × (utf8 (drop r (now (s .entry))) ≡ utf8 (drop from (now (s .entry)))) ⌝ }
+{
+    let mut i = from;
+    while 3 <= s.len() - i {
+        if !is_three(s[i], s[i + 1], s[i + 2]) {
+            return i;
+        }
+        i += 3;
+    }
+    i
+}
+
+// Whether s is UTF-8, character by character; characters of three bytes mostly stand beside others.
 fn scan(s: &[u8]) -> bool
     ensures { λ r. ⌜ r ≡ utf8 (now (s .entry)) ⌝ }
 {
@@ -108,6 +152,9 @@ fn scan(s: &[u8]) -> bool
             return false;
         }
         i += n;
+        if n == 3 {
+            i = past_threes(s, i);
+        }
     }
     true
 }
@@ -131,13 +178,13 @@ fn all_ascii(s: &[u8]) -> bool
     m < 0x80
 }
 
-// How many bytes at the front of s are ASCII, by blocks of 512: there may be more in the block at which it ends.
+// How many bytes at the front of s are ASCII, by blocks of 128: there may be more in the block at which it ends.
 pub fn ascii_front(s: &[u8]) -> usize
     ensures { λ r. ⌜ r ≡ asciiFront (now (s .entry)) ⌝ }
 {
     let mut at: usize = 0;
-    while 512 <= s.len() - at {
-        let e = at + 512;
+    while 128 <= s.len() - at {
+        let e = at + 128;
         if all_ascii(&s[at..e]) {
             at = e;
         } else {

@@ -23,6 +23,9 @@ fn check_listed(s: &[u8], at: usize, pool: u64, id: u64, n: u64, asked: bool) ->
         ScanRead::Refused(k) => ZoneForm::Refused(k),
         ScanRead::Got(c, e, before) => {
             let form = pieces::code_preferred(s, e, c.last, before);
+            if zone_ends::is_untailed(s, e) {
+                return ZoneForm::Good(id, form);
+            }
             match zone_ends::read_end(s, e, pool, c.last) {
                 ZoneEnd::Refused(k) => ZoneForm::Refused(k),
                 ZoneEnd::Untailed => ZoneForm::Good(id, form),
@@ -32,12 +35,11 @@ fn check_listed(s: &[u8], at: usize, pool: u64, id: u64, n: u64, asked: bool) ->
     }
 }
 
-// The check of a zone, which learns from the same walk whether the data are in their preferred form, where that is asked. The data are passed on as a
-// part of themselves: place and length of a slice that was made just before are then copied one by one, and both at once would wait for both.
+// The check of a zone, which learns from the same walk whether the data are in their preferred form, where that is asked.
 pub fn check_form(s: &[u8], pool: u64, asked: bool) -> ZoneForm
     ensures { λ r. ⌜ r ≡ formOf (both asked (dataPreferred (now (s .entry)))) (parseZone pool (now (s .entry))) ⌝ }
 {
-    match zone_fronts::read_front(&s[0..], pool) {
+    match zone_fronts::read_usual_front(s, pool) {
         ZoneFront::Refused(k) => ZoneForm::Refused(k),
         ZoneFront::Fixed(id, _, _) => ZoneForm::Good(id, asked),
         ZoneFront::Listed(id, n, a) => check_listed(s, a, pool, id, n, asked),

@@ -7,6 +7,7 @@ ghost use Prim.Native.Nat.{_≤_};
 ghost use lib.ListN.{length, drop};
 ghost use Rattle.zones.specs.Parse.{parseTailed, afterTailByte, afterIntervals};
 ghost use Rattle.zones.specs.View.{EndOf};
+ghost use Rattle.zone_ends.specs.Untailed.{UntailedAt};
 
 // What stands behind the end transition of a zone with a tail.
 fn read_tailed(s: &[u8], at: usize, pool: u64, last: u64, end: u64) -> ZoneEnd
@@ -61,4 +62,21 @@ pub fn read_end(s: &[u8], at: usize, pool: u64, last: u64) -> ZoneEnd
             Read::Value(b, e) => read_ending(s, e, pool, last, end, b),
         },
     }
+}
+
+// Whether end of time and no tail stand at a place, a byte each, and nothing behind them, as is usual. Checks and questions take no call for these.
+pub fn is_untailed(s: &[u8], at: usize) -> bool
+    requires { ⌜ at ≤ length (now s) ⌝ }
+    ensures { λ r. ⌜ UntailedAt (now (s .entry)) at r ⌝ }
+{
+    if s.len() - at != 2 {
+        return false;
+    }
+    if s[at] != 1 {
+        return false;
+    }
+    if s[at + 1] != 0 {
+        return false;
+    }
+    true
 }

@@ -198,7 +198,7 @@ fn moment_at(s: &[u8], at: usize, prev: u64) -> Read
         return places::moment_at(s, at, prev);
     }
     if s[at] == 2 {
-        let raw = counts::fixed_from(&s[at + 1..], 8, 0);
+        let raw = count_readers::fixed_from(&s[at + 1..], 8, 0);
         let t = signed::from_raw(raw);
         if t != 0 {
             return Read::Value(t, at + 9);

@@ -21,6 +21,9 @@ fn read_listed(s: &[u8], at: usize, pool: u64, id: u64, n: u64, t: u64, preferre
         ScanRead::Refused(k) => ZoneRead::Refused(k),
         ScanRead::Got(c, e, before) => {
             let form = pieces::code_preferred(s, e, c.last, before);
+            if zone_ends::is_untailed(s, e) {
+                return ZoneRead::Listed(id, c, form);
+            }
             match zone_ends::read_end(s, e, pool, c.last) {
                 ZoneEnd::Refused(k) => ZoneRead::Refused(k),
                 ZoneEnd::Untailed => ZoneRead::Listed(id, c, form),
@@ -34,7 +37,7 @@ fn read_listed(s: &[u8], at: usize, pool: u64, id: u64, n: u64, t: u64, preferre
 pub fn read_zone(s: &[u8], pool: u64, t: u64, preferred: bool) -> ZoneRead
     ensures { λ r. ⌜ r ≡ readOf t (both preferred (dataPreferred (now (s .entry)))) (parseZone pool (now (s .entry))) ⌝ }
 {
-    match zone_fronts::read_front(s, pool) {
+    match zone_fronts::read_usual_front(s, pool) {
         ZoneFront::Refused(k) => ZoneRead::Refused(k),
         ZoneFront::Fixed(id, offset, n) => ZoneRead::Fixed(id, offset, n, preferred),
         ZoneFront::Listed(id, n, a) => read_listed(s, a, pool, id, n, t, preferred),

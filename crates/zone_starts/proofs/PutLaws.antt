@@ -14,6 +14,8 @@ use Rattle.places.specs.Placed.{at, no, Stands}
 use Rattle.signed.specs.Instant.{ticksOf}
 use Rattle.intervals.specs.declared.Interval.{Interval}
 use Rattle.intervals.specs.Interval.{parseInterval, startOf}
+use Rattle.intervals.specs.Short.{shortInterval}
+use Rattle.next_intervals.specs.Next.{NextAt}
 use Rattle.zone_starts.specs.Starts.{listStarts}
 use Rattle.zone_starts.specs.View.{intervalsAt, startsIn, listOf, over, CheckedAt}
 
@@ -96,6 +98,11 @@ module _ (pool : ℕ) (s : List ℕ) (n from : ℕ) (d : List ℤ) where
                 ∙ over-next (listStarts (g .pre)) d (ticksOf (x .start)) few
                 ∙ ap (λ (xs : List ℤ). over xs d) (sym (starts-snoc (g .pre) x));
           }
+
+      -- an interval of five bytes
+      pub putting-usual : (m : ℕ) → NextAt s pool place last m → (m ≡ 0 → ⊥) → (z : ℤ) → z ≡ ticksOf m
+          → Putting (left - 1) (i + 1) (place + 5) m (set out i z)
+      putting-usual m b y z f = putting-next (shortInterval s (place + 2) m) (place + 5) (b .stands y) z f
 
     pub putting-length : n ≤ length d → length out ≡ length d
     putting-length l =

@@ -27,6 +27,15 @@ fn put_starts(s: &[u8], at: usize, pool: u64, n: u64, out: &mut [i64])
     let mut place = at;
     let mut last = END;
     while 0 < left {
+        let m = usual_starts::usual_start(s, place, pool, last);
+        if m != 0 {
+            out[i] = signed::ticks(m);
+            left -= 1;
+            i += 1;
+            place += 5;
+            last = m;
+            continue;
+        }
         let item = next_intervals::read_interval(s, place, pool, last);
         match item {
             IntervalRead::Refused(_) => {

@@ -218,6 +218,11 @@ fn one_list(count: usize) -> Grown {
     grown.more = vec![
         ("difference, every other interval changed", Work::Tool(difference)),
         ("interval starts", Work::Tool(Tool::Starts { id: grown.last.clone() })),
+        ("table of all answers", Work::ListAnswers { id: grown.last.clone(), rows: count }),
+        (
+            "10,000 questions over that table",
+            Work::AskListed { id: grown.last.clone(), rows: count, instants: instants.clone() },
+        ),
         ("10,000 searches in the starts", Work::Tool(Tool::Search { table, instants })),
     ];
     grown

@@ -19,6 +19,8 @@ const WANTED_RATIO: f64 = 1.0;
 const YEAR_9998: [i64; 2] = [253_339_228_800 * 10_000_000, 253_370_764_800 * 10_000_000];
 /// 1900-01-01T00:00Z and 2100-01-01T00:00Z.
 const TWO_CENTURIES: [i64; 2] = [-2_208_988_800 * 10_000_000, 4_102_444_800 * 10_000_000];
+/// How many answers a table has, at most: of a zone with a tail those up to the year 2400 or so.
+const ROWS: usize = 1000;
 /// How many records a trace has.
 const RECORDS: usize = 10_000;
 
@@ -80,7 +82,8 @@ fn questions(content: &FileContent) -> Vec<(String, Work)> {
     let zones: Vec<&Zone> = content.zones.iter().collect();
     let has_tail = |zone: &&Zone| matches!(&zone.rest, Rest::Listed { tail: Some(_), .. });
     let with_tail: Vec<&Zone> = zones.iter().copied().filter(has_tail).collect();
-    let (mut questions, mut found, mut listed, mut locals) = (Vec::new(), Vec::new(), Vec::new(), Vec::new());
+    let (mut questions, mut found, mut listed) = (Vec::new(), Vec::new(), Vec::new());
+    let (mut locals, mut found_locals) = (Vec::new(), Vec::new());
     for (kind, zones, ticks) in [("listed", &zones, LISTED), ("in the tail", &with_tail, IN_TAIL)] {
         let last = zones.len() - 1;
         for (place, number) in [("first", 0), ("middle", last / 2), ("last", last)] {
@@ -89,7 +92,10 @@ fn questions(content: &FileContent) -> Vec<(String, Work)> {
             questions.push((format!("question, {which}"), Work::Ask { id: id.clone(), ticks, edition: Two }));
             if place != "middle" {
                 found.push((format!("question of a found zone, {which}"), Work::AskZone { id: id.clone(), ticks }));
-                listed.push((format!("question over a table, {which}"), Work::AskListed { id: id.clone(), ticks }));
+                let work = Work::AskListed { id: id.clone(), rows: ROWS, instants: vec![ticks] };
+                listed.push((format!("question over a table, {which}"), work));
+                let work = Work::MapZoneLocal { id: id.clone(), local: ticks };
+                found_locals.push((format!("local time of a found zone, {which}"), work));
             }
             locals.push((format!("local time, {which}"), Work::MapLocal { id, local: ticks }));
         }
@@ -98,8 +104,12 @@ fn questions(content: &FileContent) -> Vec<(String, Work)> {
     questions.extend(listed);
     if let Some(zone) = with_tail.last() {
         let id = content.id(zone).to_vec();
-        let what = format!("table of 1,000 answers, last zone with a tail (`{}`)", String::from_utf8_lossy(&id));
-        questions.push((what, Work::ListAnswers { id }));
+        let shown = String::from_utf8_lossy(&id).into_owned();
+        let instants = instants(&starts_of(zone));
+        let what = format!("10,000 questions over a table, instants in no order (`{shown}`)");
+        questions.push((what, Work::AskListed { id: id.clone(), rows: ROWS, instants }));
+        let what = format!("table of 1,000 answers, last zone with a tail (`{shown}`)");
+        questions.push((what, Work::ListAnswers { id, rows: ROWS }));
     }
     let absent = Work::Ask { id: b"No/Such_Zone".to_vec(), ticks: LISTED, edition: Two };
     questions.push(("question, absent zone".to_string(), absent));
@@ -147,6 +157,7 @@ fn questions(content: &FileContent) -> Vec<(String, Work)> {
     let what = format!("named question over an older dictionary (`{}`)", String::from_utf8_lossy(&name));
     questions.push((what, Work::AskNamedOld { older, name, ticks: LISTED }));
     questions.extend(locals);
+    questions.extend(found_locals);
     questions
 }
 

@@ -27,14 +27,21 @@ pub enum Work {
         id: Vec<u8>,
         ticks: i64,
     },
-    /// A question over a table of a found zone's answers that was made before.
+    /// Questions over a table of at most so many of a found zone's answers, which was made before.
     AskListed {
         id: Vec<u8>,
-        ticks: i64,
+        rows: usize,
+        instants: Vec<i64>,
     },
-    /// A table of a found zone's answers.
+    /// A table of at most so many of a found zone's answers.
     ListAnswers {
         id: Vec<u8>,
+        rows: usize,
+    },
+    /// A local time of a zone that was found before.
+    MapZoneLocal {
+        id: Vec<u8>,
+        local: i64,
     },
     /// All intervals of a zone from year 1 on, each asked for at the end of the one before.
     Intervals {
@@ -93,6 +100,20 @@ fn peer_said(answer: Result<peer::Answer<'_>, peer::Refusal>) -> Said<'_> {
         .map_err(peer_pair)
 }
 
+/// What a local time gives: number and place of a refusal, or how many instants read as it, the earliest and the latest.
+type Mapped = Result<(usize, i64, i64), (u8, usize)>;
+
+fn mapped(found: nzd::LocalInstants) -> Mapped {
+    match (found.earliest(), found.latest()) {
+        (Some(earliest), Some(latest)) => Ok((found.count(), earliest, latest)),
+        _ => Err((17, 0)),
+    }
+}
+
+fn peer_mapped(found: Result<peer::LocalInstants, peer::Refusal>) -> Mapped {
+    found.map(|found| (found.count as usize, found.earliest, found.latest)).map_err(peer_pair)
+}
+
 fn ticks_of(bound: Bound) -> i64 {
     match bound {
         Bound::StartOfTime => i64::MIN,
@@ -117,11 +138,15 @@ impl Work {
                 let ours = said(nzd::Zone::find(file, id).and_then(|zone| zone.ask(*ticks, Edition::Two)));
                 ours == peer_said(peer::Zone::find(file, id).and_then(|zone| zone.ask(*ticks, false)))
             }
-            Work::AskListed { id, ticks } => match (table(file, id, room()), PeerTable::find(file, id)) {
-                (Ok(ours), Ok(theirs)) => said(ours.ask(*ticks)) == peer_said(theirs.ask(*ticks)),
-                _ => false,
-            },
-            Work::ListAnswers { id } => match (table(file, id, room()), PeerTable::find(file, id)) {
+            Work::AskListed { id, rows, instants } => {
+                match (table(file, id, room(*rows)), PeerTable::find(file, id, *rows)) {
+                    (Ok(ours), Ok(theirs)) => {
+                        instants.iter().all(|&ticks| said(ours.ask(ticks)) == peer_said(theirs.ask(ticks)))
+                    }
+                    _ => false,
+                }
+            }
+            Work::ListAnswers { id, rows } => match (table(file, id, room(*rows)), PeerTable::find(file, id, *rows)) {
                 (Ok(ours), Ok(theirs)) => {
                     let same = |row: &peer::Answer| said(ours.ask(row.end - 1)) == peer_said(Ok(*row));
                     ours.count() == theirs.rows.len() && theirs.rows.iter().filter(|row| row.end < i64::MAX).all(same)
@@ -139,15 +164,12 @@ impl Work {
                 ours.map_err(|error| error.number.value()) == theirs
             }
             Work::MapLocal { id, local } => {
-                let numbers = |found: nzd::LocalInstants| match (found.earliest(), found.latest()) {
-                    (Some(earliest), Some(latest)) => Ok((found.count(), earliest, latest)),
-                    _ => Err((17, 0)),
-                };
-                let ours = nzd::map_local(file, id, *local).map_err(pair).and_then(numbers);
-                let theirs = peer::map_local(file, id, *local)
-                    .map(|found| (found.count as usize, found.earliest, found.latest))
-                    .map_err(peer_pair);
-                ours == theirs
+                let ours = nzd::map_local(file, id, *local).map_err(pair).and_then(mapped);
+                ours == peer_mapped(peer::map_local(file, id, *local))
+            }
+            Work::MapZoneLocal { id, local } => {
+                let ours = nzd::Zone::find(file, id).map_err(pair).and_then(|zone| mapped(zone.map_local(*local)));
+                ours == peer_mapped(peer::Zone::find(file, id).and_then(|zone| zone.map_local(*local)))
             }
             Work::Location { field, number } => ours_at(file, *field, *number) == theirs_at(file, *field, *number),
             Work::Countries { field } => countries(file, *field) == peer_countries(file, *field),
@@ -191,19 +213,28 @@ impl Work {
                     }),
                 ]
             }
-            Work::AskListed { id, ticks } => {
-                let (ours, theirs) = (table(file, id, room()).ok(), PeerTable::find(file, id).ok());
+            Work::AskListed { id, rows, instants } => {
+                let (ours, theirs) = (table(file, id, room(*rows)).ok(), PeerTable::find(file, id, *rows).ok());
                 [
-                    piece(move || black_box(&ours).map(|table| table.ask(black_box(*ticks)))),
                     piece(move || {
-                        let table = black_box(&theirs).as_ref();
-                        black_box(table.map(|table| table.ask(black_box(*ticks))));
+                        if let Some(table) = black_box(&ours) {
+                            for &ticks in black_box(instants) {
+                                let _ = black_box(table.ask(ticks));
+                            }
+                        }
+                    }),
+                    piece(move || {
+                        if let Some(table) = black_box(&theirs) {
+                            for &ticks in black_box(instants) {
+                                let _ = black_box(table.ask(ticks));
+                            }
+                        }
                     }),
                 ]
             }
-            Work::ListAnswers { id } => {
-                let (zone, mut theirs) = (nzd::Zone::find(file, id).ok(), PeerTable::find(file, id).ok());
-                let room = room();
+            Work::ListAnswers { id, rows } => {
+                let (zone, mut theirs) = (nzd::Zone::find(file, id).ok(), PeerTable::find(file, id, *rows).ok());
+                let room = room(*rows);
                 [
                     piece(move || {
                         let zone = black_box(&zone).as_ref();
@@ -230,6 +261,16 @@ impl Work {
                 piece(move || nzd::map_local(black_box(file), black_box(id), *local)),
                 piece(move || peer::map_local(black_box(file), black_box(id), *local)),
             ],
+            Work::MapZoneLocal { id, local } => {
+                let (ours, theirs) = (nzd::Zone::find(file, id).ok(), peer::Zone::find(file, id).ok());
+                [
+                    piece(move || black_box(&ours).map(|zone| zone.map_local(black_box(*local)))),
+                    piece(move || {
+                        let zone = black_box(&theirs).as_ref();
+                        black_box(zone.map(|zone| zone.map_local(black_box(*local))));
+                    }),
+                ]
+            }
             Work::Location { field, number } => [
                 piece(move || nzd::location(black_box(file), field_of(*field), *number)),
                 piece(move || peer::location(black_box(file), *field, *number)),
@@ -271,12 +312,9 @@ fn output(file: &[u8], room: bool) -> Vec<u8> {
     vec![0; if room { file.len() } else { 0 }]
 }
 
-/// How many answers a table has, at most: of a zone with a tail those up to the year 2400 or so.
-const ROWS: usize = 1000;
-
 /// Room for a table, which lasts as long as the program.
-fn room() -> &'static mut [i64] {
-    vec![0; ROWS * nzd::ROW_NUMBERS].leak()
+fn room(rows: usize) -> &'static mut [i64] {
+    vec![0; rows * nzd::ROW_NUMBERS].leak()
 }
 
 /// A table of a zone's answers from year 1 on.
@@ -287,18 +325,19 @@ fn table<'a, 'r>(file: &'a [u8], id: &[u8], room: &'r mut [i64]) -> Result<nzd::
 /// The peer's, which has it in a list of its own.
 struct PeerTable<'a> {
     zone: peer::Zone<'a>,
+    most: usize,
     rows: Vec<peer::Answer<'a>>,
 }
 
 impl<'a> PeerTable<'a> {
-    fn find(file: &'a [u8], id: &[u8]) -> Result<Self, peer::Refusal> {
-        let mut found = PeerTable { zone: peer::Zone::find(file, id)?, rows: Vec::with_capacity(ROWS) };
+    fn find(file: &'a [u8], id: &[u8], most: usize) -> Result<Self, peer::Refusal> {
+        let mut found = PeerTable { zone: peer::Zone::find(file, id)?, most, rows: Vec::with_capacity(most) };
         found.list()?;
         Ok(found)
     }
 
     fn list(&mut self) -> Result<(), peer::Refusal> {
-        self.zone.list(nzd::FIRST_INSTANT, false, ROWS, &mut self.rows)
+        self.zone.list(nzd::FIRST_INSTANT, false, self.most, &mut self.rows)
     }
 
     fn ask(&self, ticks: i64) -> Result<peer::Answer<'a>, peer::Refusal> {

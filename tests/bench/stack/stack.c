@@ -17,7 +17,7 @@ struct bytes {
     size_t n;
 };
 
-static struct bytes realistic, largest, fixed, older, trace, out;
+static struct bytes realistic, largest, fixed, older, unordered, trace, out;
 static int64_t numbers[80000];
 static uint8_t stack[STACK] __attribute__((aligned(4096)));
 /* Where the stack of the call begins. */
@@ -83,10 +83,11 @@ static void put_record(int64_t instant, uint32_t shown) {
     put_four(&trace, shown);
 }
 
-/* A file with the one zone Europe/Oslo, always as in winter; an older dictionary; a trace of a listed instant and of one in the tail. */
+/* A file with the one zone Europe/Oslo, always as in winter; an older dictionary, and one whose keys are in no order; a trace of a listed instant and of one in the tail. */
 static void make_others(void) {
     put(&fixed, "\0\0\0\0\0\x11\2\x0b" "Europe/Oslo\3" "CET\1\4\0\1\x32\1", 29);
     put(&older, "\xf2\xf1" "A\xfb" "Europe/Oslo\xf1" "B\xf1" "A", 19);
+    put(&unordered, "\xf2\xf1" "B\xf1" "A\xf1" "A\xf1" "B", 9);
     put_four(&trace, 2);
     put_four(&trace, 16);
     put_four(&trace, 11);
@@ -119,6 +120,14 @@ static void ask_named(void) {
 }
 static void ask_named_old(void) {
     nzd_ask_named_old(file->at, file->n, older.at, older.n, ID("B"), LATE, false, &answer);
+}
+static void old_read_dictionary(void) {
+    struct nzd_value found;
+    nzd_old_read_dictionary(unordered.at, unordered.n, &found);
+}
+static void old_write_dictionary(void) {
+    uint64_t length;
+    nzd_old_write_dictionary(2, unordered.at + 1, unordered.n - 1, out.at, MOST, &length);
 }
 static void map_local(void) {
     struct nzd_local local;
@@ -182,6 +191,8 @@ static const struct {
     {"nzd_ask_plain", ask_plain},
     {"nzd_ask_named", ask_named},
     {"nzd_ask_named_old", ask_named_old},
+    {"nzd_old_read_dictionary", old_read_dictionary},
+    {"nzd_old_write_dictionary", old_write_dictionary},
     {"nzd_map_local", map_local},
     {"nzd_find_zone", find_zone},
     {"nzd_ask_zone", ask_zone},

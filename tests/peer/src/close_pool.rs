@@ -23,6 +23,10 @@ pub fn close_pool(file: &[u8], out: &mut [u8]) -> Result<usize, Refusal> {
     if let Some(place) = found.unread {
         return Err(Refusal { number: UNREAD_FIELD, place });
     }
+    if found.is_closed(pool.count()) && plain_length(file)? == file.len() {
+        out.get_mut(..file.len()).ok_or(TOO_SHORT)?.copy_from_slice(file);
+        return Ok(file.len());
+    }
     // Uses and number in one key: the most used first, ties by number.
     let mut keys = [0; MOST_STRINGS];
     let mut count = 0;
@@ -53,6 +57,16 @@ pub fn close_pool(file: &[u8], out: &mut [u8]) -> Result<usize, Refusal> {
         closed.write(id, field.data, same, &mut write).map_err(|number| field.refuse(number))?;
     }
     Ok(total)
+}
+
+/// The length of a file with the same data, and sizes in the shortest form.
+fn plain_length(file: &[u8]) -> Result<usize, Refusal> {
+    let mut length = 4;
+    for field in Fields::new(file, CUT_SHORT)?.all() {
+        let (_, field) = field?;
+        length += 1 + count_length(field.data.len() as u32) + field.data.len();
+    }
+    Ok(length)
 }
 
 /// A pool before and after.
@@ -145,6 +159,14 @@ fn mentions(id: u8, data: &[u8], pool_count: u32, visit: &mut impl Visit) -> Res
 struct Mentions {
     uses: [u32; MOST_STRINGS],
     unread: Option<usize>,
+}
+
+impl Mentions {
+    /// Whether all of so many strings are used, and in the order of their uses.
+    fn is_closed(&self, strings: u32) -> bool {
+        let used = self.uses.iter().filter(|&&uses| uses > 0).count();
+        used == strings as usize && self.uses.windows(2).fold(true, |falls, pair| falls & (pair[0] >= pair[1]))
+    }
 }
 
 impl Visit for Mentions {

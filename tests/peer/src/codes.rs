@@ -233,7 +233,7 @@ impl<'a> Cursor<'a> {
             return Err(TOO_LARGE);
         }
         let text = self.take(length as usize)?;
-        if before - self.left() <= plain || std::str::from_utf8(text).is_ok() {
+        if before - self.left() <= plain || is_utf8(text) {
             Ok(text)
         } else {
             Err(BAD_TEXT)
@@ -305,4 +305,11 @@ pub fn count_length(count: u32) -> usize {
         0x20_0000..0x1000_0000 => 4,
         _ => 5,
     }
+}
+
+/// Whether a text is UTF-8. Characters of three bytes at its front are taken in a short loop, but those that start with E0 or ED.
+pub fn is_utf8(text: &[u8]) -> bool {
+    let usual = |bytes: &&[u8]| matches!(**bytes, [0xe1..=0xec | 0xee..=0xef, 0x80..=0xbf, 0x80..=0xbf]);
+    let threes = text.chunks_exact(3).take_while(usual).count();
+    std::str::from_utf8(&text[3 * threes..]).is_ok()
 }

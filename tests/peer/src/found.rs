@@ -1,11 +1,12 @@
 //! A zone found once. What its check learns is kept, so that a question reads no more of the zone than it needs.
 
 use crate::codes::Cursor;
-use crate::number::INSTANT_RANGE;
+use crate::local::{Count, LocalInstants};
+use crate::number::{INSTANT_RANGE, NO_INSTANT};
 use crate::pool::Pool;
 use crate::runs::read_run;
 use crate::tail::Tail;
-use crate::zone::{read_interval, Interval, Visit};
+use crate::zone::{read_interval, read_intervals, Interval, Visit};
 use crate::{find_zone, Answer, Refusal, END_OF_TIME, FIRST, LAST, START_OF_TIME};
 
 /// A zone of a file that is all there.
@@ -87,6 +88,18 @@ impl<'a> Zone<'a> {
         };
         let name = if first_edition && held.start == START_OF_TIME { self.first_name } else { held.name };
         Ok(Interval { name, ..held }.answer(end, &self.pool))
+    }
+
+    /// The instants that read as the local time `local`, as [`map_local`](crate::map_local) gives them.
+    pub fn map_local(&self, local: i64) -> Result<LocalInstants, Refusal> {
+        let mut found = Count::new(local);
+        found.interval(self.first);
+        let mut listed = self.listed;
+        // The zone was read to its end before.
+        let read = read_intervals(&mut listed, 1..self.count, self.pool.count(), &mut found);
+        debug_assert!(read.is_ok());
+        found.end(self.listed_end, self.tail.as_ref());
+        found.instants().ok_or(Refusal { number: NO_INSTANT, place: 0 })
     }
 
     /// A walk over the intervals that begins at an instant.

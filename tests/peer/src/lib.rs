@@ -2,9 +2,9 @@
 //!
 //! It makes the same checks in the same order, over slices and in one pass, and has every shortcut that the proved
 //! reader has. Beyond those, a found zone keeps the pool's index and its tail and is not checked again, so that a question reads
-//! no more of it than it needs; a local time passes over the intervals that are more than a day away; four bytes of an interval
-//! are tested at once, where the proved reader compares three with those two before; a difference keeps the first stretches while it counts
-//! them; and closing up a pool counts its strings' uses in the check.
+//! no more of it than it needs; a local time reads the intervals within a day of it in the walk that passes over the others; four bytes
+//! of an interval are tested at once, where the proved reader compares three with those two before; a difference keeps the first
+//! stretches while it counts them; and closing up a pool counts its strings' uses in the check.
 //!
 //! It allocates the index of the pool's strings, for a whole-file check and for a replay the table of zone
 //! IDs, and for normalizing the list of the fields that change.

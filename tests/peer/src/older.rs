@@ -1,5 +1,6 @@
 //! A dictionary of the older edition, and the question by name over one in the place of field 3.
 
+use crate::codes::is_utf8;
 use crate::number::{BAD_CODE, BAD_DATA, BAD_TEXT, INSTANT_RANGE, NOT_FOUND, SECOND_ALIAS, TOO_LARGE, TOO_MANY_STEPS};
 use crate::whole::check;
 use crate::{ask, Answer, Refusal, FIRST, LAST};
@@ -62,7 +63,9 @@ fn string<'a>(rest: &mut &'a [u8]) -> Result<&'a [u8], u8> {
         return Err(TOO_LARGE);
     }
     let text = take(rest, length)?;
-    std::str::from_utf8(text).map_err(|_| BAD_TEXT)?;
+    if !is_utf8(text) {
+        return Err(BAD_TEXT);
+    }
     Ok(text)
 }
 

@@ -23,7 +23,19 @@ impl<'a> Pool<'a> {
         // Most pools are ASCII: one look tells for all strings up to this place.
         let mut plain = at + ascii_front(&data[at..]);
         let mut starts = Vec::with_capacity(count as usize);
-        for _ in 0..count {
+        let count = count as usize;
+        while starts.len() < count {
+            // Four strings take at most 512 bytes where these are ASCII, so they need no tests.
+            while starts.len() + 4 <= count && at + 512 <= plain {
+                let second = at + 1 + usize::from(data[at]);
+                let third = second + 1 + usize::from(data[second]);
+                let fourth = third + 1 + usize::from(data[third]);
+                starts.extend_from_slice(&[at as u32, second as u32, third as u32, fourth as u32]);
+                at = fourth + 1 + usize::from(data[fourth]);
+            }
+            if starts.len() == count {
+                break;
+            }
             starts.push(at as u32);
             at += match data.get(at) {
                 // An ASCII byte is a whole count.
@@ -67,7 +79,7 @@ impl<'a> Pool<'a> {
     }
 }
 
-const BLOCK: usize = 256;
+const BLOCK: usize = 128;
 
 /// How many bytes at the front are ASCII, found block by block: there may be more.
 fn ascii_front(bytes: &[u8]) -> usize {

@@ -76,15 +76,18 @@ pub fn find_start(table: &[i64], instant: i64) -> Result<Found, Refusal> {
     if table.is_empty() {
         return Err(Refusal { number: NOT_FOUND, place: 0 });
     }
-    let mut left = table.len();
-    let mut found = Found { position: 0, looks: 0 };
-    while left > 1 {
-        let half = left / 2;
-        let kept = table[found.position + half] <= instant;
-        // Without a branch, which would be guessed wrong every other time.
-        found.position += select_unpredictable(kept, half, 0);
-        left = select_unpredictable(kept, left - half, half);
-        found.looks += 1;
+    let (mut low, mut high) = (0, table.len());
+    // The length tells how many looks there are, but for the last: a branch on how many entries are left would be guessed wrong every
+    // other time, and so would one on an entry.
+    let looks = table.len().ilog2();
+    for _ in 0..looks {
+        let middle = (low + high) / 2;
+        let kept = table[middle] <= instant;
+        low = select_unpredictable(kept, middle, low);
+        high = select_unpredictable(kept, high, middle);
     }
-    Ok(found)
+    // Two entries are left, or one.
+    let middle = (low + high) / 2;
+    let looks = looks as usize + (middle - low);
+    Ok(Found { position: select_unpredictable(table[middle] <= instant, middle, low), looks })
 }

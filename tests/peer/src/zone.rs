@@ -6,6 +6,7 @@ use crate::pool::Pool;
 use crate::runs::read_run;
 use crate::tail::Tail;
 use crate::{Answer, END_OF_TIME, LAST, START_OF_TIME};
+use std::ops::Range;
 
 const MOST_INTERVALS: u32 = 4096;
 
@@ -92,8 +93,30 @@ fn read_listed(cursor: &mut Cursor, pool_count: u32, visit: &mut impl Visit) -> 
     if count > MOST_INTERVALS {
         return Err(TOO_LARGE);
     }
+    let previous = read_intervals(cursor, 0..count, pool_count, visit)?;
+    let end = read_transition(cursor, previous, visit)?;
+    match cursor.byte()? {
+        0 if end == END_OF_TIME => visit.end(end, None),
+        1 if end > previous && end != END_OF_TIME => {
+            let tail = Tail::read(cursor, pool_count, visit)?;
+            visit.end(end, Some(&tail));
+        }
+        0 | 1 => return Err(BAD_INTERVAL),
+        _ => return Err(BAD_DATA),
+    }
+    Ok(())
+}
+
+/// The listed intervals of these numbers, the first of them the first of all or the second; gives the last one's start.
+#[inline]
+pub fn read_intervals(
+    cursor: &mut Cursor,
+    numbers: Range<u32>,
+    pool_count: u32,
+    visit: &mut impl Visit,
+) -> Result<i64, u8> {
+    let Range { start: mut number, end: count } = numbers;
     let mut previous = START_OF_TIME;
-    let mut number = 0;
     while number < count {
         // Behind the second one stands an instant, and most are short.
         if number > 1 {
@@ -107,17 +130,7 @@ fn read_listed(cursor: &mut Cursor, pool_count: u32, visit: &mut impl Visit) -> 
         visit.interval(interval);
         (number, previous) = (number + 1, interval.start);
     }
-    let end = read_transition(cursor, previous, visit)?;
-    match cursor.byte()? {
-        0 if end == END_OF_TIME => visit.end(end, None),
-        1 if end > previous && end != END_OF_TIME => {
-            let tail = Tail::read(cursor, pool_count, visit)?;
-            visit.end(end, Some(&tail));
-        }
-        0 | 1 => return Err(BAD_INTERVAL),
-        _ => return Err(BAD_DATA),
-    }
-    Ok(())
+    Ok(previous)
 }
 
 /// The listed interval with a number, from 0, behind one that starts at `previous`.

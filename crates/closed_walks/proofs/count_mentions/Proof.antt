@@ -1,7 +1,7 @@
 use Prim.Native.Nat.{_-_}
 use native.Mathlib.Omega.{arith}
 use lib.ListN.{length}
-use Rattle.closed_walks.proofs.CountLaws.{Counting, counting-start, turn, field-fits, counting-next, counting-end}
+use Rattle.closed_walks.proofs.CountLaws.{Counting, counting-start, turn, zone-here, field-fits, counting-next, counting-end}
 use Rattle.closed_walks.proofs.count_mentions.Statement.{statement}
 use Rattle.closed_walks.proofs.count_mentions.Tie as tie
 
@@ -17,23 +17,23 @@ loop-holds c = counting-start _ _ (c .before .before .pre .0) (c .before .before
 read-field-requires : tie.Need-read-field-requires Inv-loop μ-loop
 read-field-requires c κs = c .loop-test .taken
 
-sub-count : tie.Need-sub-count Inv-loop μ-loop
-sub-count c = (turn _ _ _ _ (c .before .before .loop .inv) _ (c .before .loop-test .taken) (c .read-field .ensures)) .ordered
+sub-count-field : tie.Need-sub-count-field Inv-loop μ-loop
+sub-count-field c = (turn _ _ _ _ (c .before .before .loop .inv) _ (c .before .loop-test .taken) (c .read-field .ensures)) .ordered
 
-part-count-start : tie.Need-part-count-start Inv-loop μ-loop
-part-count-start c = (turn _ _ _ _ (c .before .before .loop .inv) _ (c .before .loop-test .taken) (c .read-field .ensures)) .ordered
+part-count-field-start : tie.Need-part-count-field-start Inv-loop μ-loop
+part-count-field-start c = (turn _ _ _ _ (c .before .before .loop .inv) _ (c .before .loop-test .taken) (c .read-field .ensures)) .ordered
 
-part-count-end : tie.Need-part-count-end Inv-loop μ-loop
-part-count-end c = (turn _ _ _ _ (c .before .before .loop .inv) _ (c .before .loop-test .taken) (c .read-field .ensures)) .within
+part-count-field-end : tie.Need-part-count-field-end Inv-loop μ-loop
+part-count-field-end c = (turn _ _ _ _ (c .before .before .loop .inv) _ (c .before .loop-test .taken) (c .read-field .ensures)) .within
 
-count-requires : tie.Need-count-requires Inv-loop μ-loop
-count-requires c κs = field-fits _ _ _ _ (c .before .before .before .before .loop .inv) _ (c .before .before .before .loop-test .taken) (c .before .before .read-field .ensures)
+count-field-requires : tie.Need-count-field-requires Inv-loop μ-loop
+count-field-requires c κs = (zone-here _ _ _ _ (c .before .before .before .before .loop .inv) _ (c .before .before .before .loop-test .taken) (c .before .before .read-field .ensures), field-fits _ _ _ _ (c .before .before .before .before .loop .inv) _ (c .before .before .before .loop-test .taken) (c .before .before .read-field .ensures))
 
 loop-less : tie.Need-loop-less Inv-loop μ-loop
 loop-less c = let u = turn _ _ _ _ (c .before .before .before .before .before .before .before .loop .inv) _ (c .before .before .before .before .before .before .loop-test .taken) (c .before .before .before .before .before .read-field .ensures) in omega (arith, u .farther, u .ordered, u .within)
 
 loop-again : tie.Need-loop-again Inv-loop μ-loop
-loop-again c = counting-next _ _ _ _ (c .before .before .before .before .before .before .before .loop .inv) _ (c .before .before .before .before .before .before .loop-test .taken) (c .before .before .before .before .before .read-field .ensures) _ (c .before .before .count .ensures)
+loop-again c = counting-next _ _ _ _ (c .before .before .before .before .before .before .before .loop .inv) _ (c .before .before .before .before .before .before .loop-test .taken) (c .before .before .before .before .before .read-field .ensures) _ (c .before .before .count-field .ensures)
 
 same-length : tie.Need-same-length Inv-loop μ-loop
 same-length c = c .before .loop .inv .all
@@ -49,10 +49,10 @@ count-mentions-spec =
     μ-loop
     loop-holds
     read-field-requires
-    sub-count
-    part-count-start
-    part-count-end
-    count-requires
+    sub-count-field
+    part-count-field-start
+    part-count-field-end
+    count-field-requires
     loop-less
     loop-again
     same-length

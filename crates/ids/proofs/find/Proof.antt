@@ -2,6 +2,7 @@ use mathlib.Core.Path.{_∙_, ap}
 use Prim.Native.Nat.{_<_, _-_}
 use native.Mathlib.Omega.{arith}
 use denote.Ref.{now}
+use Rattle.base.proofs.Parts.{part-from}
 use borrow.Author.Needs.{needs}
 use Rattle.pool.specs.Pool.{stringsOf}
 use Rattle.pool.proofs.StringLaws.{below}
@@ -42,31 +43,31 @@ text-by-requires : tie.Need-text-by-requires Inv-loop μ-loop
 text-by-requires c κs = (c .before .before .before .before .before .before .pre .0, c .before .before .before .before .before .before .pre .1 .known _ (mid (c .before) .from) (mid (c .before) .inside))
 
 returns : tie.Need-returns Inv-loop μ-loop
-returns c = halving-seen _ _ _ _ _ _ _ _ (c .before .before .before .before .before .before .loop .inv) (c .before .before .before .before .before .loop-test .taken) _ (c .before .before .compare .ensures ∙ ap (λ t. ordering t (now (c .before .before .before .before .before .before .before .before .before .before .args .id))) (c .before .before .before .text-by .ensures)) (c .enum-told .given .1)
+returns c = halving-seen _ _ _ _ _ _ _ _ (c .before .before .before .before .before .before .before .loop .inv) (c .before .before .before .before .before .before .loop-test .taken) _ (rw (part-from 0 (now (c .before .before .before .before .before .before .before .before .before .before .before .args .id))) at (c .before .before .compare .ensures) ∙ ap (λ t. ordering t (now (c .before .before .before .before .before .before .before .before .before .before .before .args .id))) (c .before .before .before .before .text-by .ensures)) (c .enum-told .given .1)
 
 add-lo : tie.Need-add-lo Inv-loop μ-loop
-add-lo c = omega (arith, mid-room (c .before .before .before .before .before))
+add-lo c = omega (arith, mid-room (c .before .before .before .before .before .before))
 
 sub-back : tie.Need-sub-back Inv-loop μ-loop
-sub-back c = omega (arith, mid (c .before .before .before .before .before) .to-high)
+sub-back c = omega (arith, mid (c .before .before .before .before .before .before) .to-high)
 
 loop-less : tie.Need-loop-less Inv-loop μ-loop
-loop-less c = omega (arith, mid (c .before .before .before .before .before) .from-low, mid (c .before .before .before .before .before) .to-high)
+loop-less c = omega (arith, mid (c .before .before .before .before .before .before) .from-low, mid (c .before .before .before .before .before .before) .to-high)
 
 loop-again : tie.Need-loop-again Inv-loop μ-loop
-loop-again c = halving-up _ _ _ _ _ _ _ _ (c .before .before .before .before .before .before .loop .inv) (c .before .before .before .before .before .loop-test .taken) _ (c .before .before .compare .ensures ∙ ap (λ t. ordering t (now (c .before .before .before .before .before .before .before .before .before .before .args .id))) (c .before .before .before .text-by .ensures)) (c .before .before .before .before .before .before .before .before .before .before .pre .1) (c .enum-told2 .given .1)
+loop-again c = halving-up _ _ _ _ _ _ _ _ (c .before .before .before .before .before .before .before .loop .inv) (c .before .before .before .before .before .before .loop-test .taken) _ (rw (part-from 0 (now (c .before .before .before .before .before .before .before .before .before .before .before .args .id))) at (c .before .before .compare .ensures) ∙ ap (λ t. ordering t (now (c .before .before .before .before .before .before .before .before .before .before .before .args .id))) (c .before .before .before .before .text-by .ensures)) (c .before .before .before .before .before .before .before .before .before .before .before .pre .1) (c .enum-told2 .given .1)
 
 sub-back-2 : tie.Need-sub-back-2 Inv-loop μ-loop
-sub-back-2 c = mid (c .before .before .before .before .before) .from-low
+sub-back-2 c = mid (c .before .before .before .before .before .before) .from-low
 
 add-back-2 : tie.Need-add-back-2 Inv-loop μ-loop
-add-back-2 c = omega (arith, mid-room (c .before .before .before .before .before))
+add-back-2 c = omega (arith, mid-room (c .before .before .before .before .before .before))
 
 loop-less-2 : tie.Need-loop-less-2 Inv-loop μ-loop
-loop-less-2 c = omega (arith, mid (c .before .before .before .before .before) .from-low, mid (c .before .before .before .before .before) .to-high)
+loop-less-2 c = omega (arith, mid (c .before .before .before .before .before .before) .from-low, mid (c .before .before .before .before .before .before) .to-high)
 
 loop-again-2 : tie.Need-loop-again-2 Inv-loop μ-loop
-loop-again-2 c = halving-down _ _ _ _ _ _ _ _ (c .before .before .before .before .before .before .loop .inv) (c .before .before .before .before .before .loop-test .taken) _ (c .before .before .compare .ensures ∙ ap (λ t. ordering t (now (c .before .before .before .before .before .before .before .before .before .before .args .id))) (c .before .before .before .text-by .ensures)) (c .before .before .before .before .before .before .before .before .before .before .pre .1) (c .enum-told3 .given .1)
+loop-again-2 c = halving-down _ _ _ _ _ _ _ _ (c .before .before .before .before .before .before .before .loop .inv) (c .before .before .before .before .before .before .loop-test .taken) _ (rw (part-from 0 (now (c .before .before .before .before .before .before .before .before .before .before .before .args .id))) at (c .before .before .compare .ensures) ∙ ap (λ t. ordering t (now (c .before .before .before .before .before .before .before .before .before .before .before .args .id))) (c .before .before .before .before .text-by .ensures)) (c .before .before .before .before .before .before .before .before .before .before .before .pre .1) (c .enum-told3 .given .1)
 
 returns-2 : tie.Need-returns-2 Inv-loop μ-loop
 returns-2 c = halving-done _ _ _ _ _ _ _ _ (c .before .loop .inv) (c .loop-test .left)
@@ -83,6 +84,9 @@ find-spec =
     element-copy-out-j
     cast-j
     text-by-requires
+    (λ c. search needs)
+    (λ c. search needs)
+    (λ c. search needs)
     (λ c κs. search needs)
     (λ c. search needs)
     returns

@@ -1,3 +1,4 @@
+use mathlib.Core.Bool.{true}
 use mathlib.Core.Logic.{⊎-elim}
 use Rattle.interval_runs.proofs.StepLaws.{stopped-whole}
 use native.Mathlib.Omega.{arith}
@@ -13,20 +14,20 @@ Inv-loop s pool stop n rest left₀ place₀ last₀ left place last = More s po
 abbrev μ-loop : tie.MeasureT-loop
 μ-loop s pool stop n rest left₀ place₀ last₀ left place last = left
 
-sub-fives : tie.Need-sub-fives Inv-loop μ-loop
-sub-fives c = c .before .before .pre .0
+sub-fitting : tie.Need-sub-fitting Inv-loop μ-loop
+sub-fitting c = c .before .before .pre .0
 
-fives-requires : tie.Need-fives-requires Inv-loop μ-loop
-fives-requires c κs = tt
+fitting-requires : tie.Need-fitting-requires Inv-loop μ-loop
+fitting-requires c κs = omega arith
 
 sub-rest : tie.Need-sub-rest Inv-loop μ-loop
-sub-rest c = c .before .fives .ensures .most
+sub-rest c = c .before .fitting .ensures .most
 
 loop-holds : tie.Need-loop-holds Inv-loop μ-loop
-loop-holds c = more-start _ _ _ _ _ _ _ (c .before .before .before .before .pre .0) (c .before .before .before .before .pre .2) (c .before .before .before .before .pre .3) (c .before .fives .ensures)
+loop-holds c = more-start _ _ _ _ _ _ _ (c .before .before .before .before .pre .0) (c .before .before .before .before .pre .2) (c .before .before .before .before .pre .3) (c .before .fitting .ensures)
 
 next-step-requires : tie.Need-next-step-requires Inv-loop μ-loop
-next-step-requires c κs = (omega (arith, more-room _ _ _ _ _ _ _ _ (c .before .loop .inv) (c .loop-test .taken)), c .before .loop .inv .passed .instant .high, c .before .loop .inv .two)
+next-step-requires c κs = (omega (arith, more-room _ _ _ _ _ _ _ _ (c .before .loop .inv) (c .loop-test .taken)), c .before .loop .inv .passed true .instant .high, c .before .loop .inv .two)
 
 sub-left : tie.Need-sub-left Inv-loop μ-loop
 sub-left c = omega arith
@@ -41,10 +42,10 @@ loop-again : tie.Need-loop-again Inv-loop μ-loop
 loop-again c = more-next _ _ _ _ _ _ _ _ (c .before .before .before .before .loop .inv) (c .before .before .before .loop-test .taken) _ (c .before .before .next-step .ensures) (c .before .if1 .left) (c .if2 .left) (c .before .before .before .before .before .before .before .before .before .pre .1)
 
 add-t14 : tie.Need-add-t14 Inv-loop μ-loop
-add-t14 c = omega (arith, c .before .loop .inv .passed .fewer, c .before .before .before .fives .ensures .most, c .before .before .before .before .struct-known .given .0)
+add-t14 c = omega (arith, c .before .loop .inv .passed true .fewer, c .before .before .before .fitting .ensures .most, c .before .before .before .before .struct-known .given .0)
 
 returns : tie.Need-returns Inv-loop μ-loop
-returns c = stopped-whole _ _ _ _ _ _ _ _ (c .before .before .before .fives .ensures .most)
+returns c = stopped-whole _ _ _ _ _ _ _ _ (c .before .before .before .fitting .ensures .most)
     (⊎-elim (λ w. more-done _ _ _ _ _ _ _ _ (c .before .loop .inv) (omega (arith, w .left)))
     (λ v. ⊎-elim (λ w. more-other _ _ _ _ _ _ _ _ (c .before .loop .inv) (w .0 .taken) _ (w .1 .ensures) (w .2 .taken))
     (λ w. more-late _ _ _ _ _ _ _ _ (c .before .loop .inv) (w .0 .taken) _ (w .1 .ensures) (w .2 .left) (w .3 .taken)) v)
@@ -56,8 +57,8 @@ read-more-spec =
     (tie.spec
     Inv-loop
     μ-loop
-    sub-fives
-    fives-requires
+    sub-fitting
+    fitting-requires
     sub-rest
     loop-holds
     next-step-requires

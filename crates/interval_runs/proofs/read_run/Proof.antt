@@ -1,7 +1,11 @@
 use native.Mathlib.Omega.{arith}
 use denote.Ref.{now}
+use mathlib.Core.Bool.{true}
+use Prim.Native.Nat.{_+_, _-_, _<_}
+use borrow.Author.Tests.{not-true}
+use Rattle.interval_runs.specs.Run.{runAt}
 use Rattle.long_starts.proofs.LongLaws.{size-most}
-use Rattle.interval_runs.proofs.StepLaws.{Going, none-early, none-late, going-start, going-passed, ends-done, ends-cut, ends-two, ends-short, ends-other, ends-late, going-next}
+use Rattle.interval_runs.proofs.StepLaws.{Going, none-early, none-late, going-start, going-passed, ends-done, ends-cut, ends-two, ends-short, ends-other, ends-late, judged, going-unasked, going-next}
 use Rattle.interval_runs.proofs.read_run.Statement.{statement}
 use Rattle.interval_runs.proofs.read_run.Tie as tie
 
@@ -14,7 +18,7 @@ abbrev μ-loop : tie.MeasureT-loop
 -- where the intervals of five bytes end
 going : (c : tie.After-read-fives Inv-loop μ-loop)
     → Going (now (c .before .before .before .before .before .before .before .args .s)) (c .before .before .before .before .before .before .before .args .pool) (c .before .before .before .before .before .before .before .args .form) (c .before .before .before .before .before .before .before .args .stop) (c .before .before .before .before .before .before .before .args .n) (c .before .before .before .before .before .before .before .args .at) (c .before .before .before .before .before .before .before .args .prev) (c .read-fives .result)
-going c = going-passed _ _ _ _ _ _ _ _ _ (c .before .before .before .loop .inv) (c .read-fives .ensures)
+going c = going-passed _ _ _ _ _ _ _ _ _ (c .before .before .before .loop .inv) (c .read-fives .ensures .passed _)
 
 returns : tie.Need-returns Inv-loop μ-loop
 returns c = none-early _ _ _ _ _ _ _ (c .if1 .taken)
@@ -67,11 +71,35 @@ add-t14 c = omega (arith, size-most _ _ _ (c .before .before .before .before .be
 add-t16 : tie.Need-add-t16 Inv-loop μ-loop
 add-t16 c = omega (arith, c .before .before .before .before .before .if7 .left, going (c .before .before .before .before .before .before .before .before .before .before .before .before) .inside)
 
+-- where a longer start is taken
+gone : (c : tie.After-struct-known5 Inv-loop μ-loop)
+    → Going (now (c .before .before .before .before .before .before .before .before .before .before .before .before .before .before .before .before .before .before .before .args .s)) (c .before .before .before .before .before .before .before .before .before .before .before .before .before .before .before .before .before .before .before .args .pool) (c .before .before .before .before .before .before .before .before .before .before .before .before .before .before .before .before .before .before .before .args .form) (c .before .before .before .before .before .before .before .before .before .before .before .before .before .before .before .before .before .before .before .args .stop) (c .before .before .before .before .before .before .before .before .before .before .before .before .before .before .before .before .before .before .before .args .n) (c .before .before .before .before .before .before .before .before .before .before .before .before .before .before .before .before .before .before .before .args .at) (c .before .before .before .before .before .before .before .before .before .before .before .before .before .before .before .before .before .before .before .args .prev)
+    (runAt (c .before .before .before .before .before .before .before .before .before .before .before .before .read-fives .result .left - 1) (c .before .before .before .before .before .before .before .before .before .before .before .before .read-fives .result .place + (c .before .before .before .before .before .before .before .start-size .result + 3)) (c .before .before .before .before .long-step .result))
+gone c = going-next _ _ _ _ _ _ _ _ (going (c .before .before .before .before .before .before .before .before .before .before .before .before)) _ (c .before .before .before .before .before .before .before .start-size .ensures) (c .before .before .before .before .before .if7 .left) (c .before .before .before .before .before .before .if6 .left) _ (c .before .before .before .before .long-step .ensures) (c .before .before .before .if8 .left) (omega (arith, c .before .before .before .before .before .before .before .before .before .before .if4 .left)) (c .before .before .if9 .left)
+
+less : (c : tie.After-struct-known5 Inv-loop μ-loop) → c .before .before .before .before .before .before .before .before .before .before .before .before .read-fives .result .left - 1 < c .before .before .before .before .before .before .before .before .before .before .before .before .before .before .before .loop .r .left
+less c = omega (arith, c .before .before .before .before .before .before .before .before .before .before .if4 .left, c .before .before .before .before .before .before .before .before .before .before .before .before .read-fives .ensures .passed true .fewer)
+
+read-ticks-requires : tie.Need-read-ticks-requires Inv-loop μ-loop
+read-ticks-requires c κs = (gone (c .before .before) .inside, c .before .before .before .before .before .before .before .before .before .before .before .before .before .before .before .before .before .before .before .before .before .pre .1, gone (c .before .before) .instant, omega arith, judged _ _ _ _ _ _ _ _ (going (c .before .before .before .before .before .before .before .before .before .before .before .before .before .before)) _ (c .before .before .before .before .before .before .before .before .before .start-size .ensures) (c .before .before .before .before .before .before .before .if7 .left) (c .before .before .before .before .before .before .before .before .if6 .left) _ (c .before .before .before .before .before .before .long-step .ensures) (c .before .before .before .before .before .if8 .left))
+
 loop-less : tie.Need-loop-less Inv-loop μ-loop
-loop-less c = omega (arith, c .before .before .before .before .before .before .before .before .before .before .if4 .left, c .before .before .before .before .before .before .before .before .before .before .before .before .read-fives .ensures .passed .fewer)
+loop-less c = omega (arith, c .read-ticks .ensures .fewer, less (c .before .before .before))
 
 loop-again : tie.Need-loop-again Inv-loop μ-loop
-loop-again c = going-next _ _ _ _ _ _ _ _ (going (c .before .before .before .before .before .before .before .before .before .before .before .before)) _ (c .before .before .before .before .before .before .before .start-size .ensures) (c .before .before .before .before .before .if7 .left) (c .before .before .before .before .before .before .if6 .left) _ (c .before .before .before .before .long-step .ensures) (c .before .before .before .if8 .left) (omega (arith, c .before .before .before .before .before .before .before .before .before .before .if4 .left)) (c .before .before .if9 .left)
+loop-again c = going-unasked _ _ _ _ _ _ _ _ _ (gone (c .before .before .before)) (not-true _ (c .before .if11 .taken)) (c .read-ticks .ensures)
+
+loop-less-2 : tie.Need-loop-less-2 Inv-loop μ-loop
+loop-less-2 c = less (c .before .before)
+
+loop-again-2 : tie.Need-loop-again-2 Inv-loop μ-loop
+loop-again-2 c = gone (c .before .before)
+
+loop-less-3 : tie.Need-loop-less-3 Inv-loop μ-loop
+loop-less-3 c = less (c .before)
+
+loop-again-3 : tie.Need-loop-again-3 Inv-loop μ-loop
+loop-again-3 c = gone (c .before)
 
 returns-9 : tie.Need-returns-9 Inv-loop μ-loop
 returns-9 c = ends-done _ _ _ _ _ _ _ _ (c .before .before .loop .inv) (omega arith)
@@ -99,6 +127,11 @@ read-run-spec =
     sub-t15
     add-t14
     add-t16
+    read-ticks-requires
     loop-less
     loop-again
+    loop-less-2
+    loop-again-2
+    loop-less-3
+    loop-again-3
     returns-9)

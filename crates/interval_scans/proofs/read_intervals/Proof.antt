@@ -10,6 +10,7 @@ use Rattle.intervals.specs.Scan.{ofInterval}
 use Rattle.intervals.proofs.ScanLaws.{Scanning, scanning-start, scanning-in, scanning-bad, scanning-next, scanning-done}
 use Rattle.intervals.proofs.FormLaws.{Forming, forming-start, forming-next, forming-done}
 use Rattle.interval_runs.proofs.RunLaws.{Ran, run-ran, stop-high, stop-open}
+use Rattle.interval_scans.proofs.StartFormLaws.{start-stands}
 use Rattle.interval_scans.proofs.read_intervals.Statement.{statement}
 use Rattle.interval_scans.proofs.read_intervals.Tie as tie
 
@@ -65,15 +66,17 @@ returns c = (
   record { means = tt },
 )
 
-code-preferred-requires : tie.Need-code-preferred-requires Inv-loop μ-loop
-code-preferred-requires c κs = scanning-in _ _ _ _ _ _ _ _ (c .before .before .before .before .before .before .before .before .loop .inv .0)
+start-preferred-requires : tie.Need-start-preferred-requires Inv-loop μ-loop
+start-preferred-requires c κs =
+    start-stands _ _ _ _ _ _ (scanning-in _ _ _ _ _ _ _ _ (c .before .before .before .before .before .before .before .before .loop .inv .0))
+    (stands-is (c .before .before .before .read-usual-interval .ensures) (ap ofInterval (c .before .item2 .given .1)))
 
 loop-again-2 : tie.Need-loop-again-2 Inv-loop μ-loop
 loop-again-2 c =
     let i = stands-is (c .before .before .before .before .before .read-usual-interval .ensures) (ap ofInterval (c .before .before .before .item2 .given .1)) in
     rw (c .advance2 .ensures) (
       scanning-next _ _ _ _ _ _ _ _ (c .before .before .before .before .before .before .before .before .before .before .loop .inv .0) (omega arith) _ _ i,
-      forming-next _ _ _ _ _ _ _ _ _ _ (c .before .before .before .before .before .before .before .before .before .before .loop .inv .1) _ _ _ (omega arith) i (c .before .code-preferred .ensures),
+      forming-next _ _ _ _ _ _ _ _ _ _ (c .before .before .before .before .before .before .before .before .before .before .loop .inv .1) _ _ _ (omega arith) i (c .before .start-preferred .ensures),
     )
 
 returns-2 : tie.Need-returns-2 Inv-loop μ-loop
@@ -97,7 +100,7 @@ read-intervals-spec =
     (λ c. search needs)
     returns
     (λ c. search needs)
-    code-preferred-requires
+    start-preferred-requires
     (λ c. omega arith)
     (λ c κs. search needs)
     (λ c. omega arith)

@@ -11,7 +11,7 @@ returns-2 : tie.Need-returns-2
 returns-2 c = rw (← c .before .before .before .before .before .text-by .ensures) (byte-differs _ _ _ (c .if3 .taken))
 
 returns-3 : tie.Need-returns-3
-returns-3 c = rw (← c .before .before .before .text-by .ensures) (c .same .ensures)
+returns-3 c = rw (← c .before .before .before .text-by .ensures) (c .same-by-blocks .ensures)
 
 pub has-id-spec : {M : Type 1} → statement M
 has-id-spec =

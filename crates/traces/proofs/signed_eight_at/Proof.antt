@@ -2,7 +2,7 @@ use mathlib.Core.Path.{ap, _∙_}
 use mir.Syntax.{w64}
 use mir.Val.{toZ}
 use mir.Facts.{toZ-ofZ}
-use Rattle.traces.proofs.NumberLaws.{eight-is}
+use Rattle.counts.proofs.FixedLaws.{eight-is}
 use borrow.Author.Needs.{needs}
 use Rattle.traces.proofs.signed_eight_at.Statement.{statement}
 use Rattle.traces.proofs.signed_eight_at.Tie as tie

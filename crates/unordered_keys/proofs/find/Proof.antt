@@ -46,10 +46,10 @@ element-copy-out-j : tie.Need-element-copy-out-j Inv-loop μ-loop
 element-copy-out-j c = omega (arith, mid-room c)
 
 cast-j : tie.Need-cast-j Inv-loop μ-loop
-cast-j c = omega (arith, number (c .before), c .before .before .before .before .before .before .before .pre .0 .few)
+cast-j c = omega (arith, number (c .before), c .before .before .before .before .before .before .before .pre .0 .few, c .before .before .before .before .before .before .before .pre .0 .room)
 
 key-by-requires : tie.Need-key-by-requires Inv-loop μ-loop
-key-by-requires c κs = (omega (arith, number (c .before), c .before .before .before .before .before .before .before .pre .0 .few, c .before .before .before .before .before .before .before .pre .0 .starts), omega (arith, number (c .before), c .before .before .before .before .before .before .before .pre .0 .few, c .before .before .before .before .before .before .before .pre .0 .ends), c .before .before .before .before .before .before .before .pre .0 .order _ (number (c .before)), c .before .before .before .before .before .before .before .pre .0 .inside _ (number (c .before)))
+key-by-requires c κs = (omega (arith, number (c .before), c .before .before .before .before .before .before .before .pre .0 .few), omega (arith, number (c .before), c .before .before .before .before .before .before .before .pre .0 .few, c .before .before .before .before .before .before .before .pre .0 .ends), c .before .before .before .before .before .before .before .pre .0 .order _ (number (c .before)), c .before .before .before .before .before .before .before .pre .0 .inside _ (number (c .before)))
 
 returns : tie.Need-returns Inv-loop μ-loop
 returns c = halving-seen _ _ _ _ _ _ _ _ (c .before .before .before .before .before .before .loop .inv) (c .before .before .before .before .before .loop-test .taken) _ (c .before .before .compare .ensures ∙ ap (λ t. ordering t (now (c .before .before .before .before .before .before .before .before .before .before .before .args .x))) (c .before .before .before .key-by .ensures ∙ sym (key-is (c .before .before .before .before .before)))) (c .enum-told .given .1)

@@ -1,17 +1,18 @@
 use native.Mathlib.Omega.{arith}
 use Rattle.ids.proofs.GapLaws.{low-few, high-few, main-run}
 use borrow.Author.Needs.{needs}
+use Rattle.unordered_keys.proofs.KeyLaws.{keys-few}
 use Rattle.unordered_keys.proofs.find_between.Statement.{statement}
 use Rattle.unordered_keys.proofs.find_between.Tie as tie
 
 low-requires : tie.Need-low-requires
-low-requires c κs = (c .before .before .before .before .before .pre .0 .sorted .roomy .room, omega (arith, c .before .before .before .before .before .pre .0 .sorted .roomy .free), low-few _ _ _ (c .before .before .before .before .before .pre .0 .sorted) (c .before .before .before .before .before .pre .0 .inside .few) _ (c .before .before .before .before .before .pre .1))
+low-requires c κs = (c .before .before .before .before .before .pre .0 .sorted .roomy .room, omega (arith, c .before .before .before .before .before .pre .0 .sorted .roomy .free), low-few _ _ _ (c .before .before .before .before .before .pre .0 .sorted) (keys-few (c .before .before .before .before .before .pre .0 .inside)) _ (c .before .before .before .before .before .pre .1))
 
 high-requires : tie.Need-high-requires
-high-requires c κs = (c .before .before .before .before .before .before .pre .0 .sorted .roomy .room, c .before .before .before .before .before .before .pre .1, omega (arith, c .before .before .before .before .before .before .pre .0 .sorted .roomy .free), high-few _ _ _ (c .before .before .before .before .before .before .pre .0 .sorted) (c .before .before .before .before .before .before .pre .0 .inside .few) _ (c .before .before .before .before .before .before .pre .1))
+high-requires c κs = (c .before .before .before .before .before .before .pre .0 .sorted .roomy .room, c .before .before .before .before .before .before .pre .1, omega (arith, c .before .before .before .before .before .before .pre .0 .sorted .roomy .free), high-few _ _ _ (c .before .before .before .before .before .before .pre .0 .sorted) (keys-few (c .before .before .before .before .before .before .pre .0 .inside)) _ (c .before .before .before .before .before .before .pre .1))
 
 find-requires : tie.Need-find-requires
-find-requires c κs = (c .before .before .before .before .before .before .before .pre .0 .inside, rw (c .before .low .ensures, c .high .ensures) (main-run _ _ _ (c .before .before .before .before .before .before .before .pre .0 .sorted) (c .before .before .before .before .before .before .before .pre .0 .inside .few) _ (c .before .before .before .before .before .before .before .pre .1)))
+find-requires c κs = (c .before .before .before .before .before .before .before .pre .0 .inside, rw (c .before .low .ensures, c .high .ensures) (main-run _ _ _ (c .before .before .before .before .before .before .before .pre .0 .sorted) (keys-few (c .before .before .before .before .before .before .before .pre .0 .inside)) _ (c .before .before .before .before .before .before .before .pre .1)))
 
 returns : tie.Need-returns
 returns c = rw (c .before .before .low .ensures, c .before .high .ensures) at (c .find .ensures)

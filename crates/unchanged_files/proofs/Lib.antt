@@ -1,0 +1,3 @@
+pub mod UseLaws
+pub mod PlainLaws
+pub mod SameLaws

@@ -120,6 +120,7 @@ impl fmt::Display for Error {
 impl core::error::Error for Error {}
 
 /// Takes a result of a C function apart: on 0 the length that it carries, else the error.
+#[inline]
 pub(crate) fn decode(result: u64) -> Result<usize, Error> {
     if result % 256 == 0 {
         Ok((result / 256) as usize)

@@ -305,6 +305,7 @@ pub fn find_zone(file: &[u8], id: &[u8], out: &mut [u64; 5]) -> u64 {
 }
 
 /// `nzd_ask_zone`.
+#[inline]
 pub fn ask_zone(file: &[u8], zone: &[u64; 5], ticks: i64, first_edition: bool, out: &mut [i64; 7]) -> u64 {
     unsafe { c::nzd_ask_zone(file.as_ptr(), file.len(), zone, ticks, first_edition, out) }
 }
@@ -324,6 +325,7 @@ pub fn list_answers(
 }
 
 /// `nzd_ask_listed`.
+#[inline]
 pub fn ask_listed(
     file: &[u8],
     zone: &[u64; 5],
@@ -341,6 +343,7 @@ pub fn map_local(file: &[u8], id: &[u8], local: i64, out: &mut [i64; 3]) -> u64 
 }
 
 /// `nzd_map_zone_local`.
+#[inline]
 pub fn map_zone_local(file: &[u8], zone: &[u64; 5], local: i64, out: &mut [i64; 3]) -> u64 {
     unsafe { c::nzd_map_zone_local(file.as_ptr(), file.len(), zone, local, out) }
 }
@@ -410,6 +413,7 @@ pub fn interval_starts(file: &[u8], id: &[u8], out: &mut [i64], count: &mut [i64
 }
 
 /// `nzd_find_start`.
+#[inline]
 pub fn find_start(table: &[i64], instant: i64, out: &mut [i64; 2]) -> u64 {
     unsafe { c::nzd_find_start(table.as_ptr(), table.len(), instant, out) }
 }
@@ -420,6 +424,7 @@ pub fn receiver_reset(r: &mut Receiver) {
 }
 
 /// `nzd_receiver_add`.
+#[inline]
 pub fn receiver_add(r: &mut Receiver, buffer: &mut [u8], piece: &[u8]) -> u64 {
     unsafe { c::nzd_receiver_add(r, buffer.as_mut_ptr(), buffer.len(), piece.as_ptr(), piece.len()) }
 }

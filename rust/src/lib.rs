@@ -247,6 +247,7 @@ pub fn ask_named_old<'a>(
 }
 
 /// The numbers of an answered question, with the name as a part of the file.
+#[inline]
 fn answer(
     file: &[u8],
     [wall_offset_ms, savings_ms, standard_offset_ms, place, length, start, end]: [i64; 7],
@@ -256,14 +257,25 @@ fn answer(
 }
 
 /// The marks are the numbers that no instant has.
+#[inline]
 fn bound(ticks: i64) -> Bound {
-    match ticks {
-        i64::MIN => Bound::StartOfTime,
-        i64::MAX => Bound::EndOfTime,
-        _ => Bound::At(ticks),
+    if ticks == i64::MIN || ticks == i64::MAX {
+        return mark(ticks);
+    }
+    Bound::At(ticks)
+}
+
+/// Apart, so that an instant is given without a choice between three.
+#[cold]
+fn mark(ticks: i64) -> Bound {
+    if ticks < 0 {
+        Bound::StartOfTime
+    } else {
+        Bound::EndOfTime
     }
 }
 
+#[inline]
 fn part(bytes: &[u8], place: i64, length: i64) -> &[u8] {
     let (place, length) = (place as usize, length as usize);
     &bytes[place..][..length]

@@ -90,6 +90,7 @@ pub fn map_local(file: &[u8], id: impl AsRef<[u8]>, local: i64) -> Result<LocalI
 }
 
 /// A result, and the numbers of an answer.
+#[inline]
 pub(crate) fn instants(result: u64, out: [i64; 3]) -> Result<LocalInstants, Error> {
     match decode(result) {
         Ok(_) => Ok(match out {

@@ -48,6 +48,7 @@ impl<'buf> Receiver<'buf> {
     ///
     /// [`Number::OutputTooShort`](crate::Number::OutputTooShort) if held and new bytes are more than the buffer has;
     /// nothing of the piece is kept then.
+    #[inline]
     pub fn add(&mut self, piece: &[u8]) -> Result<(), Error> {
         decode(ffi::receiver_add(&mut self.state, self.buffer, piece)).map(|_| ())
     }

@@ -64,6 +64,7 @@ pub struct Search {
 /// assert_eq!(nzd::find_start(&[1, 2, 3], 0), Ok(Search { entry: 0, looks: 1 }));
 /// assert_eq!(nzd::find_start(&[], 0).unwrap_err().number, Number::NotFound);
 /// ```
+#[inline]
 pub fn find_start(table: &[i64], instant: i64) -> Result<Search, Error> {
     let mut out = [0; 2];
     decode(ffi::find_start(table, instant, &mut out))?;

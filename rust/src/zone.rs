@@ -47,6 +47,7 @@ impl<'a> Zone<'a> {
     /// # Errors
     ///
     /// [`Number::InstantOutOfRange`](crate::Number::InstantOutOfRange) only.
+    #[inline]
     pub fn ask(&self, ticks: i64, edition: Edition) -> Result<Answer<'a>, Error> {
         let mut out = [0; 7];
         decode(ffi::ask_zone(self.file, &self.places, ticks, edition == Edition::One, &mut out))?;
@@ -63,6 +64,7 @@ impl<'a> Zone<'a> {
     }
 
     /// Asks which instants read as the local time `local`: what [`map_local`](crate::map_local) gives.
+    #[inline]
     pub fn map_local(&self, local: i64) -> LocalInstants {
         let mut out = [0; 3];
         let result = ffi::map_zone_local(self.file, &self.places, local, &mut out);
@@ -131,10 +133,11 @@ impl<'a> ZoneTable<'a, '_> {
     /// # Errors
     ///
     /// [`Number::InstantOutOfRange`](crate::Number::InstantOutOfRange) only.
+    #[inline]
     pub fn ask(&self, ticks: i64) -> Result<Answer<'a>, Error> {
-        let Zone { file, places } = self.zone;
+        let Zone { file, places } = &self.zone;
         let mut out = [0; ROW_NUMBERS];
-        decode(ffi::ask_listed(file, &places, self.rows, ticks, self.edition == Edition::One, &mut out))?;
+        decode(ffi::ask_listed(file, places, self.rows, ticks, self.edition == Edition::One, &mut out))?;
         Ok(answer(file, out))
     }
 

@@ -1,5 +1,5 @@
 #!/usr/bin/env python3
-"""Writes the input and the expected output of check_cases in the program question_cases: run it in any folder.
+"""Writes the input and the expected output of check_cases: run it in any folder.
 
 The second reader (tests/second_reader) checks each file, reads its version text and answers the question under both editions; only the place of a version text, which
 it doesn't give, is found here, by the field sizes, and the bytes there must be those that it gives.

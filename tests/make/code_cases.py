@@ -1,5 +1,5 @@
 #!/usr/bin/env python3
-"""Writes the input and the expected output of the program code_cases, from the papers: run it in any folder.
+"""Writes the input and the expected output of code_cases, from the papers: run it in any folder.
 
 The codes are worked out here from the words of the papers, apart from the code that the cases are run on.
 
@@ -237,7 +237,7 @@ def main():
             read(kind, "FF" * i)
             read(kind, "FF" * i + "00")
             read(kind, "80" * i + "0055")
-    for v in 0, 1, 127, 128, 0x16A, 16383, 16384, 2097151, 2097152, 268435455, 268435456, 2147483647, 2147483648, 4294967295, 4294967296, 9999999999999999999:
+    for v in 0, 1, 127, 128, 0x16A, 16383, 16384, 2097151, 2097152, 268435455, 268435456, 2147483647, 2147483648, 4294967295, 4294967296, MAX, -1, MIN:
         rooms("count", v)
     for v in 0, -1, 1, -2, 63, -64, 64, -65, 8191, -8192, 8192, 1048575, -1048576, 1048576, 134217727, -134217728, 134217728, 2147483647, -2147483648, 2147483648, -2147483649, MAX, MIN:
         rooms("signed", v)

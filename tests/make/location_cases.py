@@ -1,5 +1,5 @@
 #!/usr/bin/env python3
-"""Writes the input and the expected output of location_cases in the program question_cases: run it in any folder.
+"""Writes the input and the expected output of location_cases: run it in any folder.
 
 The second reader (tests/second_reader) asks for each location. Where a case below has numbers with places beside it, the readings of
 02-change-requests.md in docs/DECISIONS.md give them, and the second reader must give the same.

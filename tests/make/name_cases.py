@@ -1,5 +1,5 @@
 #!/usr/bin/env python3
-"""Writes the input and the expected output of name_cases in the program question_cases: run it in any folder.
+"""Writes the input and the expected output of name_cases: run it in any folder.
 
 The second reader (tests/second_reader) answers each named question, with more to come and as all there is, the latter under both editions, and checks the file. Where a case below
 has results beside it, 02-change-requests.md or a reading of it in docs/DECISIONS.md gives them, and the second reader must give the same.

@@ -1,5 +1,5 @@
 #!/usr/bin/env python3
-"""Writes the input and the expected output of the program old_cases, from document 002: run it in any folder.
+"""Writes the input and the expected output of old_cases, from document 002: run it in any folder.
 
 The codes are worked out here from the words of document 002 and of document 02, apart from the code that the cases are run on.
 

@@ -1,7 +1,7 @@
 #!/usr/bin/env python3
 """Stored cases of pins: seconds to degrees, by whole numbers alone.
 
-Written into crates/pin_cases. A line is
+Written into crates/part_cases. A line is
 
     pin NORTH EAST          the bit patterns of latitude and longitude
     sixteenths SECONDS      sixteen times the degrees, or - where the seconds are no multiple of 225

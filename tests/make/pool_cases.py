@@ -1,5 +1,5 @@
 #!/usr/bin/env python3
-"""Writes the input and the expected output of the program pool_cases, from the papers: run it in any folder.
+"""Writes the input and the expected output of pool_cases in the program part_cases, from the papers: run it in any folder.
 
 01-scope.md: "Field 0 is a count and that many length-and-bytes strings", 8,192 strings, 1,024 bytes a string, and the order of the numbers. Each
 refusal stands in the table below with its number written by hand; reading the pool anew, with Python's own UTF-8 codec, must give the same.

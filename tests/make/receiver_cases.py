@@ -1,5 +1,5 @@
 #!/usr/bin/env python3
-"""Writes the input and the expected output of the program receiver_cases: run it in any folder.
+"""Writes the input and the expected output of receiver_cases: run it in any folder.
 
 The second reader (tests/second_reader) takes the pieces; it walks all that is held anew for each. Where a case below has a result beside it,
 02-change-requests.md gives it, and the second reader must give the same.

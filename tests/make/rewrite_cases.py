@@ -1,5 +1,5 @@
 #!/usr/bin/env python3
-"""Writes the input and the expected output of rewrite_cases in the program tool_cases: run it in any folder.
+"""Writes the input and the expected output of rewrite_cases: run it in any folder.
 
 The second reader (tests/second_reader) normalizes each file, with room for all of it and with none. For a well-formed file the preferred one is made here too, from the same list of
 fields and transitions as the source, by the words of 01-scope.md, and both must be the same; for a damaged one the number and the place stand

@@ -1,5 +1,5 @@
 #!/usr/bin/env python3
-"""Writes the input and the expected output of starts_cases in the program tool_cases: run it in any folder.
+"""Writes the input and the expected output of starts_cases: run it in any folder.
 
 The second reader (tests/second_reader) fills each table, and halves it. Where a case below has a result beside it, 02-change-requests.md or a
 reading of it in docs/DECISIONS.md gives that, and the second reader must give the same. The room and the entries behind those put are this script's own.

@@ -1,4 +1,4 @@
-"""What the scripts that make stored cases share: writing a program's cases, counts, texts and fields as bytes, and asking the second reader."""
+"""What the scripts that make stored cases share: writing cases, counts, texts and fields as bytes, and asking the second reader."""
 import os
 import subprocess
 import sys
@@ -7,45 +7,44 @@ import tempfile
 TOP = os.path.dirname(os.path.dirname(os.path.dirname(os.path.abspath(__file__))))
 
 
-# Programs that run the cases of several scripts, each line behind a word that says which.
-PROGRAMS = {
-    "question_cases": ("check", "location", "name", "old_name", "table", "wall"),
-    "tool_cases": ("closing", "difference", "replay", "rewrite", "starts"),
-}
+# The cases that the program part_cases runs, each line behind a word that says which. All others have a folder of their own.
+PARTS = ("pin", "pool", "tail", "text", "zone")
+PROGRAM = os.path.join(TOP, "crates", "part_cases")
+# The program has so much room for its input.
+ROOM = 262144
 
 
-def write_cases(name, cases, room=65536):
-    """Writes the input lines and the expected output of a program, or the part of these that a script makes: pairs of a line and the one line that is
-    written for it. The program has so much room for its input."""
+def write_cases(name, cases):
+    """Writes the cases of a script: pairs of a line and the one line that is written for it."""
     cases = list(cases)
     word = name[:-len("_cases")]
-    program = next((program for program, words in PROGRAMS.items() if word in words), None)
-    if program is None:
-        write_program(name, cases, room)
-    else:
+    if word in PARTS:
         own = [(word + " " + line, said) for line, said in cases]
-        others = [case for case in stored_cases(program) if case[0].split(" ", 1)[0] != word]
+        others = [case for case in stored_cases() if case[0].split(" ", 1)[0] != word]
         # In the order of the scripts; each script's own order stays.
-        write_program(program, sorted(own + others, key=lambda case: PROGRAMS[program].index(case[0].split(" ", 1)[0])), 393216)
+        all_ = sorted(own + others, key=lambda case: PARTS.index(case[0].split(" ", 1)[0]))
+        length = sum(len(line) + 1 for line, _ in all_)
+        assert length <= ROOM, "the program's input has %d bytes" % length
+        write_files(PROGRAM, all_)
+    else:
+        write_files(os.path.join(TOP, "tests", "cases", name), cases)
     print("%d cases" % len(cases))
 
 
-def stored_cases(program):
-    """The cases that a program has."""
-    names = [os.path.join(TOP, "crates", program, name) for name in ("stdin", "stdout")]
+def stored_cases():
+    """The cases that the program has."""
+    names = [os.path.join(PROGRAM, name) for name in ("stdin", "stdout")]
     if not all(map(os.path.exists, names)):
         return []
     lines, said = (open(name).read().splitlines() for name in names)
-    assert len(lines) == len(said), program
+    assert len(lines) == len(said)
     return list(zip(lines, said))
 
 
-def write_program(program, cases, room):
-    lines = "".join(line + "\n" for line, _ in cases)
-    assert len(lines) <= room, "the program's input has %d bytes" % len(lines)
-    for name, text_ in ("stdin", lines), ("stdout", "".join(said + "\n" for _, said in cases)):
-        with open(os.path.join(TOP, "crates", program, name), "w") as f:
-            f.write(text_)
+def write_files(folder, cases):
+    for name, k in ("stdin", 0), ("stdout", 1):
+        with open(os.path.join(folder, name), "w") as f:
+            f.write("".join(case[k] + "\n" for case in cases))
 
 
 def count(n):

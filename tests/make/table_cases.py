@@ -1,5 +1,5 @@
 #!/usr/bin/env python3
-"""Writes the input and the expected output of table_cases in the program question_cases: run it in any folder.
+"""Writes the input and the expected output of table_cases: run it in any folder.
 
 A zone found once gives what a question as all there is gives, and the rows of a table are such questions, each at the end of the one before
 (docs/STATEMENTS.md, "A zone found once" and "A table of answers"): so each is asked of the second reader (tests/second_reader). Where its name lies is

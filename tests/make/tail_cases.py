@@ -1,5 +1,5 @@
 #!/usr/bin/env python3
-"""Writes the input and the expected output of the program tail_cases, from the papers: run it in any folder.
+"""Writes the input and the expected output of tail_cases in the program part_cases, from the papers: run it in any folder.
 
 The expected output is found by counting: the days of each year and month are counted up from 1970-01-01, a weekday is found by walking
 day by day, and the occurrences are those of every year in a window around the instant. Instants are signed ticks since 1970 and offsets

@@ -1,5 +1,5 @@
 #!/usr/bin/env python3
-"""Writes the input and the expected output of the program text_cases, from the papers: run it in any folder.
+"""Writes the input and the expected output of text_cases in the program part_cases, from the papers: run it in any folder.
 
 01-scope.md, "Small codes" and "Order", gives the lengths and the order of the numbers; Python's own UTF-8 codec, which is RFC 3629's, judges the bytes.
 """

@@ -1,5 +1,5 @@
 #!/usr/bin/env python3
-"""Writes the input and the expected output of wall_cases in the program question_cases: run it in any folder.
+"""Writes the input and the expected output of wall_cases: run it in any folder.
 
 The second reader (tests/second_reader) maps each local time; it tries every offset that the zone has. Where a case below has a result beside it,
 02-change-requests.md or a sum done by hand gives it, and the second reader must give the same.

@@ -1,5 +1,5 @@
 #!/usr/bin/env python3
-"""Writes the input and the expected output of the program zone_cases: run it in any folder.
+"""Writes the input and the expected output of zone_cases in the program part_cases: run it in any folder.
 
 Each zone's data is wrapped into a whole file, whose pool holds the strings "0", "1", .. , and the second reader (tests/second_reader) checks that file
 and answers for the instants. Each refusal stands below with the number that 01-scope.md gives, and the second reader must give the same.

@@ -70,10 +70,10 @@ pub record Going (ts : List (List ℕ)) (d : List ℕ) (whole : Parsed Dictionar
   pub rest : whole ≡ bind (parseEntries ts left pre (drop place d)) ended
 
 module _ (ts : List (List ℕ)) (d : List ℕ) where
-  pub going-start : (n place : ℕ) → place ≤ length d
+  pub going-start : (n place : ℕ) → length ts ≤ 8192 → place ≤ length d
       → Going ts d (allEntries ts n (drop place d)) n place (replicate 8449 0) 0
   unfolding allEntries keys
-  going-start n place h = record { inside = h; pre = []; keeps = keeps-start ts; rest = refl }
+  going-start n place few h = record { inside = h; pre = []; keeps = keeps-start ts 8449 (omega arith); rest = refl }
 
   module _ (whole : Parsed Dictionary) (left place : ℕ) (od : List ℕ) (many : ℕ) (g : Going ts d whole left place od many) where
     module _ (od′ : List ℕ) (some : 0 < left) (r : Turn) (t : Turned ts d place od many od′ r) where

@@ -29,7 +29,7 @@ fn take_entry(
     count: usize,
     d: &[u8],
     at: usize,
-    order: &mut [u16; 8449],
+    order: &mut [u16],
     n: usize,
 ) -> Turn
     requires { ⌜ Ready (now pool) (now starts) × (count ≡ length (stringsOf (now pool))) × (at ≤ length (now d)) × Sorted (stringsOf (now pool)) (now order) n ⌝ }

@@ -79,10 +79,10 @@ fn usual_details(s: &[u8], at: usize, pool: u64, m: u64) -> IntervalRead
         Read::Refused(k) => IntervalRead::Refused(k),
         Read::Value(n, a) => {
             if 6 < s.len() - a {
-                let w = usual_sums::usual_sum(s, a);
+                let w = places::usual_sum(s, a);
                 if w != 0 {
-                    let b = a + usual_sums::usual_size(s[a]);
-                    let v = usual_sums::usual_sum(s, b);
+                    let b = a + places::usual_size(s[a]);
+                    let v = places::usual_sum(s, b);
                     if v != 0 {
                         if standard_ok(w, v) {
                             return IntervalRead::Got(
@@ -92,7 +92,7 @@ fn usual_details(s: &[u8], at: usize, pool: u64, m: u64) -> IntervalRead
                                     wall: w,
                                     savings: v,
                                 },
-                                b + usual_sums::usual_size(s[b]),
+                                b + places::usual_size(s[b]),
                             );
                         }
                         return IntervalRead::Refused(10);
@@ -126,29 +126,40 @@ fn hours_start(s: &[u8], at: usize, prev: u64) -> u64
     m
 }
 
-// An interval's start. The mark and ticks, with which a list begins, and hours in two bytes take no call.
+// A transition at a place, as places::moment_at has it. One in ticks takes no call.
+pub fn moment_at(s: &[u8], at: usize, prev: u64) -> Read
+    requires { ⌜ at ≤ length (now s) ⌝ }
+    ensures { λ r. ⌜ Stands (now (s .entry)) (parse (readMoment prev) (drop at (now (s .entry)))) (ofRead r) ⌝ }
+{
+    if 9 <= s.len() - at {
+        if s[at] == 2 {
+            let t = interval_runs::ticks_at(s, at + 1);
+            if FIRST <= t {
+                if t <= LAST {
+                    return Read::Value(t, at + 9);
+                }
+            }
+        }
+    }
+    places::moment_at(s, at, prev)
+}
+
+// An interval's start. The mark, with which a list begins, ticks and hours in two bytes take no call.
 fn start_at(s: &[u8], at: usize, prev: u64) -> Read
     requires { ⌜ at ≤ length (now s) ⌝ }
     ensures { λ r. ⌜ Stands (now (s .entry)) (parse (readMoment prev) (drop at (now (s .entry)))) (ofRead r) ⌝ }
 {
-    if s.len() - at < 9 {
+    if s.len() - at < 2 {
         return places::moment_at(s, at, prev);
     }
     if s[at] == 0 {
         return Read::Value(0, at + 1);
     }
-    if s[at] == 2 {
-        let raw = count_readers::fixed_from(&s[at + 1..], 8, 0);
-        let t = signed::from_raw(raw);
-        if t != 0 {
-            return Read::Value(t, at + 9);
-        }
-    }
     let m = hours_start(s, at, prev);
     if m != 0 {
         return Read::Value(m, at + 2);
     }
-    places::moment_at(s, at, prev)
+    moment_at(s, at, prev)
 }
 
 // An interval after the start prev, code by code.
@@ -156,7 +167,7 @@ pub fn read_any_interval(s: &[u8], at: usize, pool: u64, prev: u64) -> IntervalR
     requires { ⌜ at ≤ length (now s) ⌝ }
     ensures { λ r. ⌜ Stands (now (s .entry)) (parseInterval pool prev (drop at (now (s .entry)))) (ofInterval r) ⌝ }
 {
-    match places::moment_at(s, at, prev) {
+    match moment_at(s, at, prev) {
         Read::Refused(k) => IntervalRead::Refused(k),
         Read::Value(m, e) => {
             if rises(prev, m) {

@@ -31,7 +31,7 @@ pub fn judge(pool: &[u8], starts: &[u32], count: usize, d: &[u8], id: &[u8]) -> 
             if strings::has_id(pool, starts, k, id) {
                 return Judged::Here;
             }
-            match zone_checks::check(d, count as u64) {
+            match zone_reads::check(d, count as u64) {
                 ZoneVerdict::Refused(n) => Judged::Fault(n),
                 ZoneVerdict::Good(_) => Judged::Keep,
             }
@@ -55,7 +55,7 @@ fn judge_by(pool: &[u8], starts: &[u32], count: usize, d: &[u8], id: &[u8], know
             if known {
                 return Judged::Keep;
             }
-            match zone_checks::check(d, count as u64) {
+            match zone_reads::check(d, count as u64) {
                 ZoneVerdict::Refused(n) => Judged::Fault(n),
                 ZoneVerdict::Good(_) => Judged::Keep,
             }

@@ -312,7 +312,7 @@ pub extern "C" fn nzd_receiver_reset(r: &mut Receiver)
 pub extern "C" fn nzd_receiver_add(r: &mut Receiver, buffer: &mut [u8], piece: &[u8]) -> u64
     ensures { λ n. ⌜ Adds (now (r .entry)) (now (buffer .entry)) (now (piece .entry)) (record { receiver = now (r .exit); number = n }) (now (buffer .exit)) ⌝ }
 {
-    let o = receivers::added(*r, buffer, piece);
+    let o = receiver_steps::added(*r, buffer, piece);
     *r = o.receiver;
     o.number
 }

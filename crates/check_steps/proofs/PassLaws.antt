@@ -83,7 +83,7 @@ module _ (s : List ℕ) (k : Kept) where
           walks = λ ix od y hd.
               let t = field-other s k i (x .at + u) (x .at + (u + n)) ix od (λ z. omega arith) (λ z. omega arith) (hd .indexed) (λ z. omega arith) (λ z. omega arith)
               (λ z. omega arith) (λ z. omega arith) in
-              let w = step-keep s (cursorAt k x) ix od _ refl i u n h ix od (Keep k) t k refl .means y hd in
+              let w = step-keep s (cursorAt k x) ix od _ refl i u n h ix od (Keep k) t (λ z. absurd (omega arith)) k refl .means y hd in
               record { memory = w .memory; holds = w .holds; farther = omega arith; same = w .same };
           flags = λ fl q.
               flags-field s (cursorAt k x) fl _ refl i u n k fl (Keep k) h (flags-other s i (x .at + u) (x .at + (u + n)) fl (Keep k) (λ z. omega arith)) refl .means q;

@@ -1,25 +1,28 @@
 -- One frame of the walk, a law for each way out of the code, and the walk from step to step. Assumes nothing.
 use mathlib.Core.Path.{_≡_, refl, sym, _∙_, ap}
 use mathlib.Core.Bool.{Bool, true, false}
-use mathlib.Core.List.{List}
+use mathlib.Core.List.{List, [], _∷_}
 use Prim.Native.Nat.{ℕ, _+_, _-_, _≤_, _<_}
 use native.Mathlib.Omega.{arith}
-use lib.ListN.{length, take, drop, replicate, length-drop}
+use lib.ListN.{length, take, drop, replicate, length-drop, length-replicate, getD-replicate}
 use lib.Seq.{drop-drop}
 use native.Mathlib.Nat.{pos-of-ne-zero}
 use borrow.Author.Tests.{eq-eqb, ne-eqb, lt-ltb, le-ltb, ltb-false}
 use Rattle.base.proofs.Parts.{part-from}
 use Rattle.counts.specs.Groups.{readGroups}
-use Rattle.pool.specs.Index.{startsIn}
-use Rattle.ids.proofs.MemoryLaws.{keeps-start}
-use Rattle.frames.specs.Frame.{order, frame}
+use Rattle.pool.specs.Index.{startsIn, roomOf}
+use Rattle.pool.proofs.PoolLaws.{room-most}
+use Rattle.ids.proofs.PutLaws.{roomy-none}
+use Rattle.ids.proofs.MemoryLaws.{keeps-none}
+use Rattle.frames.specs.Frame.{order, field, frame}
 use Rattle.frames.specs.Machine.{Content, bad, answer, keep, stateAt, fieldAt, from, walk}
 use Rattle.frames.specs.declared.Frame.{Frame}
 use Rattle.frames.specs.declared.Frame.the-variants.{End, Cut, Refused as Unframed, Version, Whole}
 use Rattle.frames.proofs.HeadLaws.{Headed, whole-headed, order-follows}
 use Rattle.frames.proofs.StepLaws.{Room, whole-room, version-room, from-end, from-cut, from-refused, from-version, from-bad, from-keep}
 use Rattle.field_checks.specs.Check.{TextPlace, Memory, start, judged, job, concluded, concludes, conclusion}
-use Rattle.field_readers.specs.Remembered.{part, textOf, Indexed, Stands, Says, TookField}
+use Rattle.field_readers.specs.Remembered.{part, textOf, Wide, Indexed, Stands, Says, TookField}
+use Rattle.check_steps.specs.Room.{roomAt, roomFor, Started}
 use Rattle.check_steps.specs.Cursor.{seenAt, stateOf, Represents, Onward, Stepped}
 use Rattle.field_checks.specs.declared.Conclusion.{Conclusion}
 use Rattle.field_checks.specs.declared.Conclusion.the-variants.{Refused as Ill, Bare, WithText}
@@ -42,6 +45,12 @@ module _ (s ix od : List ℕ) where
   says-keep (bad n) k h = absurd h
   says-keep (answer v) k h = absurd v
   says-keep (keep y) k h = (y, refl, h .0, h .1)
+
+-- the ID before the first field says nothing of it
+first-frame : (last at prev : ℕ) (r : List ℕ) → frame last at false prev r ≡ frame last at false 0 r
+unfolding frame field order
+first-frame last at prev [] = refl
+first-frame last at prev (i ∷ r) = refl
 
 -- the field 0 comes first
 zero-first : (seen : Bool) (prev i : ℕ) → order seen prev i ≡ 0 → i ≡ 0 → seen ≡ false
@@ -131,13 +140,22 @@ module _ (s : List ℕ) (c : Cursor) (ix od : List ℕ) (f : Frame)
         → job .content y (fieldAt (c .at) rest i n m) ≡ x
     content-is y x e = ap (judged y i (c .at + n)) body-part ∙ e
 
+    -- field 0 needs as much room as was counted for it
+    pub first-room : (0 < c .at → 4 ≤ c .at) → i ≡ 0 → roomOf (part s (c .at + n) (c .at + (n + m))) ≡ roomFor s
+    first-room p z =
+        let l : c .at ≡ 4 = omega (arith, p (pos-of-ne-zero (headed .place)), first-zero z) in
+        go (c .at) (c .prev) l (here (Whole i n m) q)
+      where
+        go : (at prev : ℕ) → at ≡ 4 → Whole i n m ≡ frame 255 at (seenAt at) prev (drop at s) → roomOf (part s (at + n) (at + (n + m))) ≡ roomFor s
+        go at prev l h = rw l (ap (roomAt s) (rw l at h ∙ first-frame 255 4 prev (drop 4 s)))
+
     module _ (ix′ od′ : List ℕ) (r : Taken)
-        (t : TookField s (c .kept) i (c .at + n) (c .at + (n + m)) ix od ix′ od′ r) where
+        (t : TookField s (c .kept) i (c .at + n) (c .at + (n + m)) ix od ix′ od′ r) (wide : i ≡ 0 → Wide ix od) where
       pub step-bad : (k : ℕ) → r ≡ Refused k → Stepped s c ix od ix′ od′ (Done (Ill k (c .at)))
       step-bad k e =
           record {
             means = λ y hd.
-                let w = says-bad s ix′ od′ _ k (rw e at (t .means y (hd .stands) (λ z. hd .fresh (first-zero z)))) in
+                let w = says-bad s ix′ od′ _ k (rw e at (t .means y (hd .stands) (λ z. (hd .fresh (first-zero z), wide z)))) in
                 rw (from-bad job (c .at) rest seen (c .prev) y i n m (here (Whole i n m) q) k (content-is y (bad k) w)) refl;
           }
 
@@ -146,7 +164,7 @@ module _ (s : List ℕ) (c : Cursor) (ix od : List ℕ) (f : Frame)
       step-keep k e =
           record {
             means = λ y hd.
-                let w = says-keep s ix′ od′ _ k (rw e at (t .means y (hd .stands) (λ z. hd .fresh (first-zero z)))) in
+                let w = says-keep s ix′ od′ _ k (rw e at (t .means y (hd .stands) (λ z. (hd .fresh (first-zero z), wide z)))) in
                 let l = field-fits (hd .inside) in
                 let p = ends-past (hd .place) in
                 record {
@@ -166,6 +184,41 @@ module _ (s : List ℕ) (c : Cursor) (ix od : List ℕ) (f : Frame)
                 };
           }
 
+-- the places that the code counts, by what stands behind the version
+pub room-short : (s : List ℕ) → length s < 4 → 0 ≡ roomFor s
+unfolding frame field
+room-short s l = rw (drop-long s l)
+  where
+    drop-long : (s : List ℕ) → length s < 4 → drop 4 s ≡ []
+    drop-long [] l = refl
+    drop-long (a ∷ []) l = refl
+    drop-long (a ∷ b ∷ []) l = refl
+    drop-long (a ∷ b ∷ c ∷ []) l = refl
+    drop-long (a ∷ b ∷ c ∷ d ∷ r) l = absurd (omega arith)
+
+pub room-by : (s : List ℕ) (f : Frame) → f ≡ frame 255 4 false 0 (take (length s - 4) (drop 4 s)) → (x : Frame) → f ≡ x → roomAt s x ≡ roomFor s
+room-by s f h x q = ap (roomAt s) (sym q ∙ h ∙ ap (frame 255 4 false 0) (part-from 4 s))
+
+-- 8,192 places are enough for every file
+pub room-all : (s : List ℕ) → roomFor s ≤ 8192
+room-all s = go (frame 255 4 false 0 (drop 4 s))
+  where
+    go : (f : Frame) → roomAt s f ≤ 8192
+    go End = omega arith
+    go Cut = omega arith
+    go (Unframed n) = omega arith
+    go Version = omega arith
+    go (Whole i n m) = room-most (part s (4 + n) (4 + (n + m)))
+
+-- arrays of zeros
+pub started : (s : List ℕ) (m k : ℕ) → roomFor s ≤ m → m + 257 ≤ k → Started s (replicate m 0) (replicate k 0)
+started s m k r w =
+    record {
+      room = omega (arith, length-replicate {A = ℕ} m 0);
+      wide = omega (arith, length-replicate {A = ℕ} m 0, length-replicate {A = ℕ} k 0);
+      empty = getD-replicate {A = ℕ} k 256 0 0 (omega arith);
+    }
+
 -- the walk has come to a cursor
 pub record Walking (s : List ℕ) (c : Cursor) (ix od : List ℕ) : Type 0 where
   pub memory : Memory
@@ -175,10 +228,9 @@ pub record Walking (s : List ℕ) (c : Cursor) (ix od : List ℕ) : Type 0 where
 abbrev pub nothing : Kept
 nothing = record { start = 0; end = 0; count = 0; zones = 0; text = 0; len = 0 }
 
-pub walking-start : (s : List ℕ)
-    → Walking s (record { at = 0; prev = 0; kept = nothing }) (replicate 8192 0) (replicate 8449 0)
+pub walking-start : (s ix od : List ℕ) → Started s ix od → Walking s (record { at = 0; prev = 0; kept = nothing }) ix od
 unfolding conclusion walk startsIn readGroups
-walking-start s =
+walking-start s ix od a =
     record {
       memory = start;
       holds =
@@ -186,7 +238,7 @@ walking-start s =
             inside = omega arith;
             indexed =
                 record { first = omega arith; last = omega arith; ready = record { begins = refl }; count = refl };
-            stands = record { strings = refl; ids = keeps-start _; text = refl };
+            stands = record { strings = refl; ids = keeps-none _ od (omega (arith, a .wide)) (roomy-none od 0 (a .empty)); text = refl };
             place = λ z. absurd (omega arith);
             fresh = λ z. refl;
           };

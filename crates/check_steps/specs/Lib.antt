@@ -1,3 +1,4 @@
 pub mod Cursor
 pub mod Flags
 pub mod Passed
+pub mod Room

@@ -7,14 +7,15 @@ use field_checks::VersionText;
 use field_readers::Kept;
 ghost use mathlib.Core.Path.{_≡_};
 ghost use Rattle.field_checks.specs.Check.{conclusion, checkOf, versionOf};
+ghost use Prim.Native.Nat.{_≤_};
+ghost use Rattle.check_steps.specs.Room.{roomFor, Started};
 ghost use Rattle.check_steps.specs.Flags.{FlagsWalked, FlagsChecked};
 
-// The walk over a whole file, which leaves the flags of its zones.
-fn walk(s: &[u8], flags: &mut [u8]) -> Conclusion
+// The walk over a whole file, which leaves the flags of its zones, with arrays that have room for the strings of its pool.
+fn walk_with(s: &[u8], flags: &mut [u8], index: &mut [u32], order: &mut [u16]) -> Conclusion
+    requires { ⌜ Started (now s) (now index) (now order) ⌝ }
     ensures { λ r. ⌜ (r ≡ conclusion (now (s .entry))) × FlagsWalked (now (s .entry)) (now (flags .exit)) r ⌝ }
 {
-    let mut index = [0u32; 8192];
-    let mut order = [0u16; 8449];
     let mut c = Cursor {
         at: 0,
         prev: 0,
@@ -28,7 +29,7 @@ fn walk(s: &[u8], flags: &mut [u8]) -> Conclusion
         },
     };
     loop {
-        let t = check_steps::step(s, c, &mut index, &mut order, &mut *flags);
+        let t = check_steps::step(s, c, &mut *index, &mut *order, &mut *flags);
         match t {
             Turn::Done(x) => {
                 return x;
@@ -38,6 +39,35 @@ fn walk(s: &[u8], flags: &mut [u8]) -> Conclusion
             }
         }
     }
+}
+
+// The same with arrays of its own, for a pool of at most 256 strings. They are cleared at each check, so they are no longer than need be.
+fn walk_short(s: &[u8], flags: &mut [u8]) -> Conclusion
+    requires { ⌜ roomFor (now s) ≤ 256 ⌝ }
+    ensures { λ r. ⌜ (r ≡ conclusion (now (s .entry))) × FlagsWalked (now (s .entry)) (now (flags .exit)) r ⌝ }
+{
+    let mut index = [0u32; 256];
+    let mut order = [0u16; 513];
+    walk_with(s, flags, &mut index, &mut order)
+}
+
+// The same for every pool.
+fn walk_long(s: &[u8], flags: &mut [u8]) -> Conclusion
+    ensures { λ r. ⌜ (r ≡ conclusion (now (s .entry))) × FlagsWalked (now (s .entry)) (now (flags .exit)) r ⌝ }
+{
+    let mut index = [0u32; 8192];
+    let mut order = [0u16; 8449];
+    walk_with(s, flags, &mut index, &mut order)
+}
+
+// The same with the shorter arrays where they have room.
+fn walk(s: &[u8], flags: &mut [u8]) -> Conclusion
+    ensures { λ r. ⌜ (r ≡ conclusion (now (s .entry))) × FlagsWalked (now (s .entry)) (now (flags .exit)) r ⌝ }
+{
+    if check_steps::room(s) <= 256 {
+        return walk_short(s, flags);
+    }
+    walk_long(s, flags)
 }
 
 // The check of a whole file, which leaves the flags of its zones, by the numbers of their IDs in the pool.

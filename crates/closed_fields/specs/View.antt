@@ -6,7 +6,7 @@ use mathlib.Core.List.{List}
 use lib.ListN.{length}
 use Rattle.base.specs.All.{All}
 use Rattle.use_order.specs.Order.{newNumber}
-use Rattle.renumbered_runs.specs.Run.{Small}
+use Rattle.renumbering.specs.Run.{Small}
 use Rattle.closed_pools.specs.View.{GoodPool}
 
 -- an order of pool numbers and a table of new ones, for a field's data

@@ -6,7 +6,7 @@ ghost use lib.ListN.{length};
 ghost use Rattle.counts.specs.Count.{writeCount};
 ghost use Rattle.pieces.specs.View.{Put};
 ghost use Rattle.mentions.specs.Content.{numbersOf};
-ghost use Rattle.renumbered_runs.specs.Run.{Small};
+ghost use Rattle.renumbering.specs.Run.{Small};
 ghost use Rattle.closed_files.specs.File.{writeField, closedData};
 ghost use Rattle.closed_fields.specs.View.{Sized, NumbersKept, PoolChecked};
 
@@ -52,7 +52,7 @@ fn write_head(i: u8, n: usize, out: &mut [u8]) -> usize
     ensures { λ r. ⌜ Put (i ∷ writeCount n) (now (out .entry)) r (now (out .exit)) ⌝ }
 {
     out[0] = i;
-    1 + renumbered_runs::write_number(n as u64, &mut out[1..])
+    1 + renumbering::write_number(n as u64, &mut out[1..])
 }
 
 // Writes a closed field, whose data have the length n.

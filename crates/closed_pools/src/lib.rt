@@ -105,7 +105,7 @@ fn write_text(t: &[u8], out: &mut [u8]) -> usize
     requires { ⌜ (length (now t) ≤ 1024) × (length (writeText (now t)) ≤ length (now out)) ⌝ }
     ensures { λ r. ⌜ Put (writeText (now (t .entry))) (now (out .entry)) r (now (out .exit)) ⌝ }
 {
-    let w = renumbered_runs::write_number(t.len() as u64, out);
+    let w = renumbering::write_number(t.len() as u64, out);
     w + bytes::copy(t, &mut out[w..])
 }
 
@@ -115,7 +115,7 @@ fn write_string(d: &[u8], starts: &[u32], n: usize, k: usize, out: &mut [u8]) ->
     ensures { λ r. ⌜ Put (writeText (getD (stringsOf (now (d .entry))) k [])) (now (out .entry)) r (now (out .exit)) ⌝ }
 {
     if n <= k {
-        return renumbered_runs::write_number(0, out);
+        return renumbering::write_number(0, out);
     }
     let t = strings::text_by(d, starts, k);
     write_text(t, out)
@@ -142,6 +142,6 @@ pub fn write_pool(d: &[u8], order: &[u64], out: &mut [u8]) -> usize
 {
     let mut starts = [0u32; 8192];
     let n = index_pool(d, &mut starts);
-    let w = renumbered_runs::write_number(order.len() as u64, out);
+    let w = renumbering::write_number(order.len() as u64, out);
     w + write_texts(d, &starts, n, order, &mut out[w..])
 }

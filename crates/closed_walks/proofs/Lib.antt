@@ -1,4 +1,3 @@
 pub mod CountLaws
-pub mod UnreadLaws
 pub mod WriteLaws
 pub mod PlaceLaws

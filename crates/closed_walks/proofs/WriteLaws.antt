@@ -16,9 +16,9 @@ use Rattle.frames.specs.Fields.{fields}
 use Rattle.frames.specs.Covers.{Covers}
 use Rattle.pieces.specs.View.{Put}
 use Rattle.pieces.proofs.PutLaws.{InTwo, put-none}
-use Rattle.whole_fields.specs.View.{IsField, partOf}
-use Rattle.whole_fields.specs.declared.Extent.{Extent}
-use Rattle.whole_fields.proofs.FieldLaws.{Turned, turned, none-left}
+use Rattle.sizes.specs.View.{IsField, partOf}
+use Rattle.sizes.specs.declared.Extent.{Extent}
+use Rattle.sizes.proofs.FieldLaws.{Turned, turned, none-left}
 use Rattle.use_order.specs.Order.{newNumber}
 use Rattle.mentions.specs.Content.{numbersOf}
 use Rattle.closed_files.specs.File.{mentionsIn, writeField, closedData, closedFields}

@@ -4,8 +4,7 @@ use mathlib.Core.Path.{_≡_}
 use mathlib.Core.Bool.{Bool, true}
 use mathlib.Core.List.{List, [], _∷_}
 use lib.ListN.{length, take, getD}
-use Rattle.renumbered_runs.specs.Run.{Small}
-use mathlib.Core.Option.{Option, none, some}
+use Rattle.renumbering.specs.Run.{Small}
 use Rattle.base.specs.All.{All}
 use Rattle.frames.specs.Fields.{fields}
 use Rattle.frames.specs.Covers.{Covers}
@@ -14,8 +13,6 @@ use Rattle.mentions.specs.Content.{numbersOf}
 use Rattle.counted_zones.specs.Steps.{zoneNames, zoneEnd}
 use Rattle.closed_files.specs.File.{mentionsIn, closedData, closedFields}
 use Rattle.closed_fields.specs.View.{NumbersKept, PoolChecked}
-use Rattle.closed_walks.specs.declared.Unread.{Unread}
-use Rattle.closed_walks.specs.declared.Unread.the-variants.{At, Nothing}
 
 -- the data d of a field with the ID i, where that is a zone's, are a zone whose names stand where its codes' first bytes say
 pub record ZoneStepped (i : ℕ) (d : List ℕ) : Type 0 where
@@ -55,8 +52,3 @@ pub record HasSizes (sizes ns : List ℕ) : Type 0 where
 -- the list sizes has n at the place j, as far as it goes
 pub record SizeAt (sizes : List ℕ) (j n : ℕ) : Type 0 where
   pub same : j < length sizes → getD sizes j 0 ≡ n
-
--- the place of the first field that isn't read, as the code has it
-abbrev pub unreadOf : Option ℕ → Unread
-unreadOf none = Nothing
-unreadOf (some p) = At p

@@ -1,5 +1,5 @@
-// The walks over the fields of a whole file whose pool is closed up: the first field that isn't read, the mentions, and the closed file, its length
-// and the writing of it.
+// The walks over the fields of a whole file whose pool is closed up: the closed file, its length and the writing of it; and what a walk over its
+// mentions does with a field.
 ghost use mathlib.Core.Path.{_≡_};
 ghost use mathlib.Core.List.{_∷_};
 ghost use Prim.Native.Nat.{_+_, _≤_};
@@ -8,13 +8,13 @@ ghost use Rattle.frames.specs.Fields.{fields};
 ghost use Rattle.use_order.specs.Order.{mentionAll};
 ghost use Rattle.pieces.specs.View.{Put};
 ghost use Rattle.renumbering.specs.Table.{Fits};
-ghost use Rattle.closed_files.specs.File.{mentionsIn, closedData, closedFields, unreadId, firstUnread};
+ghost use Rattle.closed_files.specs.File.{mentionsIn, closedData, closedFields, unreadId};
 ghost use Rattle.mentions.specs.Content.{numbersOf};
 ghost use Rattle.closed_fields.specs.View.{NumbersKept, PoolChecked};
-ghost use Rattle.closed_walks.specs.View.{ZoneStepped, Walkable, InPlace, Closable, sizesOf, HasSizes, SizeAt, unreadOf};
+ghost use Rattle.closed_walks.specs.View.{ZoneStepped, Walkable, InPlace, Closable, sizesOf, HasSizes, SizeAt};
 
 // Whether a field with the ID i is one that isn't read.
-fn is_unread(i: u8) -> bool
+pub fn is_unread(i: u8) -> bool
     ensures { λ r. ⌜ r ≡ unreadId i ⌝ }
 {
     if i == 4 {
@@ -26,30 +26,8 @@ fn is_unread(i: u8) -> bool
     7 < i
 }
 
-// The place of a field that isn't read; or that there is none.
-pub enum Unread {
-    At(usize),
-    Nothing,
-}
-
-// The place of the first field that isn't read.
-pub fn first_unread(s: &[u8]) -> Unread
-    requires { ⌜ Walkable (now s) ⌝ }
-    ensures { λ r. ⌜ r ≡ unreadOf (firstUnread (fields (now (s .entry)))) ⌝ }
-{
-    let mut at: usize = 4;
-    while at < s.len() {
-        let f = whole_fields::read_field(s, at);
-        if is_unread(f.id) {
-            return Unread::At(at);
-        }
-        at = f.end;
-    }
-    Unread::Nothing
-}
-
 // Counts the mentions in the data of a field with the ID i. A zone's, nearly all, are counted by the first bytes of its codes.
-fn count_field(i: u8, d: &[u8], uses: &mut [u32])
+pub fn count_field(i: u8, d: &[u8], uses: &mut [u32])
     requires { ⌜ ZoneStepped i (now d) × Fits (now uses) (length (now d)) ⌝ }
     ensures { λ _. ⌜ now (uses .exit) ≡ mentionAll (numbersOf i (now (d .entry))) (now (uses .entry)) ⌝ }
 {
@@ -58,21 +36,6 @@ fn count_field(i: u8, d: &[u8], uses: &mut [u32])
         return;
     }
     renumbering::count(i, d, uses);
-}
-
-// Counts the mentions of all fields.
-pub fn count_mentions(s: &[u8], uses: &mut [u32])
-    requires { ⌜ Walkable (now s) × Fits (now uses) (length (now s)) ⌝ }
-    ensures { λ _. ⌜ now (uses .exit) ≡ mentionAll (mentionsIn (fields (now (s .entry)))) (now (uses .entry)) ⌝ }
-{
-    let mut at: usize = 4;
-    while at < s.len() {
-        let f = whole_fields::read_field(s, at);
-        let a = f.start;
-        let e = f.end;
-        count_field(f.id, &s[a..e], uses);
-        at = e;
-    }
 }
 
 // Whether each number of an order stands at its own place.
@@ -98,11 +61,11 @@ pub fn total(s: &[u8], order: &[u64], table: &[u32], kept: bool, sizes: &mut [u3
     let mut at: usize = 4;
     let mut i: usize = 0;
     while at < s.len() {
-        let f = whole_fields::read_field(s, at);
+        let f = sizes::read_field(s, at);
         let a = f.start;
         let e = f.end;
         let k = closed_fields::data_size(f.id, &s[a..e], order, table, kept);
-        use_order::store(sizes, i, k as u32);
+        ordered_uses::store(sizes, i, k as u32);
         n += closed_fields::field_size(k);
         at = e;
         i += 1;
@@ -145,7 +108,7 @@ fn write_fields(
     let mut at: usize = 4;
     let mut i: usize = 0;
     while at < s.len() {
-        let f = whole_fields::read_field(s, at);
+        let f = sizes::read_field(s, at);
         let a = f.start;
         let e = f.end;
         let n = size_at(sizes, i, f.id, &s[a..e], order, table, kept);

@@ -1,8 +1,8 @@
 -- What the check of a file has shown, and the ways out of closing up a pool. Assumes nothing.
 use mathlib.Core.Path.{_≡_, refl, sym, ap, _∙_, subst, subst⁻¹}
 use mathlib.Core.Bool.{Bool, true, false}
-use mathlib.Core.List.{List, [], _∷_, _++_}
-use mathlib.Core.Option.{Option, none, some}
+use mathlib.Core.List.{List, [], _∷_}
+use mathlib.Core.Option.{none, some}
 use Prim.Native.Nat.{ℕ, _+_, _≤_, _<_}
 use native.Mathlib.Omega.{arith}
 use lib.ListN.{length, take, drop, getD, replicate, length-replicate, getD-replicate, List·getD-eq-default, length-take, length-append}
@@ -13,7 +13,6 @@ use Rattle.base.specs.All.{All, all-also}
 use Rattle.base.specs.Parsed.{got}
 use Rattle.base.specs.Bytes.{Bytes}
 use Rattle.base.proofs.AllLaws.{all-map}
-use Rattle.base.proofs.Tests.{clash}
 use Rattle.frames.specs.Frame.{Field}
 use Rattle.pool.specs.Pool.{stringsIn}
 use Rattle.pool.proofs.PoolLaws.{few as few-strings}
@@ -32,20 +31,20 @@ use Rattle.use_order.specs.Order.{mentionAll, orderOf, numberedFrom, newNumber}
 use Rattle.use_order.specs.Fill.{Ordered}
 use Rattle.use_order.proofs.NumberLaws.{numbered-most}
 use Rattle.mentions.specs.Content.{numbersOf}
-use Rattle.renumbered_runs.specs.Run.{Small}
+use Rattle.renumbering.specs.Run.{Small}
 use Rattle.counted_zones.specs.Steps.{zoneNames}
 use Rattle.stepped_zones.proofs.ZoneLaws.{zone-stepped}
 use Rattle.renumbering.specs.Table.{Fits}
-use Rattle.closed_files.specs.File.{mentionsIn, usesOf, newOrder, newTable, closedFields, closedFile, closed, firstUnread, givenSized, leftSized, closeOf, outputOf}
+use Rattle.closed_files.specs.File.{mentionsIn, usesOf, newOrder, newTable, closedFields, closedFile, closed, firstUnread, givenSized, leftSized, givenRead, leftRead, closeOf, outputOf}
 use Rattle.closed_files.specs.declared.Closed.{Closed}
 use Rattle.closed_files.specs.declared.Closed.the-variants.{Length, Refused}
 use Rattle.closed_files.proofs.PlaceLaws.{Placed, length-uses-of, mentioned-placed}
 use Rattle.mentioned_numbers.proofs.MentionedLaws.{file-below}
 use Rattle.closed_fields.specs.View.{NumbersKept, PoolChecked}
-use Rattle.closed_walks.specs.View.{ZoneStepped, Walkable, InPlace, unreadOf}
-use Rattle.unchanged_files.specs.View.{SameWhere}
-use Rattle.closed_walks.specs.declared.Unread.{Unread}
-use Rattle.closed_walks.specs.declared.Unread.the-variants.{At, Nothing}
+use Rattle.closed_walks.specs.View.{ZoneStepped, Walkable, InPlace}
+use Rattle.unchanged_files.specs.View.{PlainWhere, WalksTo, Walks}
+use Rattle.unchanged_files.specs.declared.Walked.{Walked}
+use Rattle.unchanged_files.specs.declared.Walked.the-variants.{Unread, Counted}
 
 covers-limit : (f : List ℕ) (at : ℕ) (gs : List Field) → at ≤ 4194304 → Covers f at gs → length f ≤ 4194304
 covers-limit f at [] h c = let e : at ≡ length f = c in omega arith
@@ -90,28 +89,33 @@ walkable f e b =
 pub below : (f : List ℕ) → checkOf f ≡ Good → Bytes f → All (λ k. k < 8192) (mentionsIn (fields f))
 below f e b = file-below f (good-well-formed f e) b
 
-unread-some : (o : Option ℕ) (p : ℕ) → unreadOf o ≡ At p → o ≡ some p
-unread-some none p e = clash cc
-unread-some (some q) p e = let z : q ≡ p = cc in ap some z
-
-unread-none : (o : Option ℕ) → unreadOf o ≡ Nothing → o ≡ none
-unread-none none e = refl
-unread-none (some q) e = clash cc
-
 -- the ways out: the check's refusal, 22, and what follows
 module _ (f d : List ℕ) (v : Verdict) (e : v ≡ checkOf f) where
   pub close-refused : (n p : ℕ) → v ≡ Ill n p → (Refused n p ≡ closeOf f d) × (d ≡ outputOf f d)
   unfolding closeOf outputOf
   close-refused n p h = (rw (sym e ∙ h), rw (sym e ∙ h))
 
-  module _ (g : v ≡ Good) (u : Unread) (q : u ≡ unreadOf (firstUnread (fields f))) where
-    pub close-unread : (p : ℕ) → u ≡ At p → (Refused 22 p ≡ closeOf f d) × (d ≡ outputOf f d)
-    unfolding closeOf outputOf
-    close-unread p h = let s : firstUnread (fields f) ≡ some p = unread-some (firstUnread (fields f)) p (sym q ∙ h) in (rw (sym e ∙ g, s), rw (sym e ∙ g, s))
+  pub close-good : (g : v ≡ Good) (r : Closed) (o : List ℕ) → (r ≡ givenRead (firstUnread (fields f)) (closed f) d) × (o ≡ leftRead (firstUnread (fields f)) (closed f) d)
+      → (r ≡ closeOf f d) × (o ≡ outputOf f d)
+  unfolding closeOf outputOf
+  close-good g r o k = (rw (sym e ∙ g) (k .0), rw (sym e ∙ g) (k .1))
 
-    pub close-read : (r : Closed) (o : List ℕ) → u ≡ Nothing → (r ≡ givenSized (closed f) d) × (o ≡ leftSized (closed f) d) → (r ≡ closeOf f d) × (o ≡ outputOf f d)
-    unfolding closeOf outputOf
-    close-read r o h k = let s : firstUnread (fields f) ≡ none = unread-none (firstUnread (fields f)) (sym q ∙ h) in (rw (sym e ∙ g, s) (k .0), rw (sym e ∙ g, s) (k .1))
+-- what the walk over the fields told
+module _ (f : List ℕ) (n : ℕ) (u w : List ℕ) (r : Walked) (k : Walks f n u w r) where
+  pub walked-unread : (p : ℕ) → r ≡ Unread p → firstUnread (fields f) ≡ some p
+  walked-unread p e = subst (WalksTo f n u w) e (k .means)
+
+  pub walked-counted : (plain : Bool) → r ≡ Counted plain → (firstUnread (fields f) ≡ none) × (w ≡ mentionAll (mentionsIn (fields f)) u) × PlainWhere plain f n
+  walked-counted plain e = subst (WalksTo f n u w) e (k .means)
+
+module _ (f d : List ℕ) where
+  pub close-unread : (p : ℕ) → firstUnread (fields f) ≡ some p
+      → (Refused 22 p ≡ givenRead (firstUnread (fields f)) (closed f) d) × (d ≡ leftRead (firstUnread (fields f)) (closed f) d)
+  close-unread p h = (rw h refl, rw h refl)
+
+  pub close-read : (r : Closed) (o : List ℕ) → firstUnread (fields f) ≡ none → (r ≡ givenSized (closed f) d) × (o ≡ leftSized (closed f) d)
+      → (r ≡ givenRead (firstUnread (fields f)) (closed f) d) × (o ≡ leftRead (firstUnread (fields f)) (closed f) d)
+  close-read r o h k = (rw h (k .0), rw h (k .1))
 
 -- 4, 15, or the file
 module _ (xs d : List ℕ) where
@@ -185,10 +189,10 @@ pub uses-few : (gs : List Field) (uses : List ℕ) → uses ≡ usesOf gs → le
 uses-few gs uses e = omega (arith, (ap length e ∙ length-uses-of gs))
 
 -- a file that is its own closed file
-module _ (f d : List ℕ) (w : Walkable f) (r : Bool) (s : SameWhere r f) (t : r ≡ true) where
+module _ (f d : List ℕ) (w : Walkable f) (s : closedFile (fields f) ≡ f) where
   pub same-no-room : length d < length f → (Refused 15 0 ≡ givenSized (closedFile (fields f)) d) × (d ≡ leftSized (closedFile (fields f)) d)
-  same-no-room h = rw (s .same t) (no-room f d (w .limit) h)
+  same-no-room h = rw s (no-room f d (w .limit) h)
 
   pub same-written : (n : ℕ) (o : List ℕ) → length f ≤ length d → Put f d n o
       → (Length n ≡ givenSized (closedFile (fields f)) d) × (o ≡ leftSized (closedFile (fields f)) d)
-  same-written n o h p = rw (s .same t) (written f d (w .limit) n o h p)
+  same-written n o h p = rw s (written f d (w .limit) n o h p)

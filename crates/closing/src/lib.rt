@@ -1,13 +1,13 @@
 // Closing up the pool of a whole file: the file is checked, its mentions are counted and ordered, then its fields are written one behind the
 // other.
 use closed_files::Closed;
-use closed_walks::Unread;
 use field_checks::Verdict;
+use unchanged_files::Walked;
 ghost use mathlib.Core.Path.{_≡_};
 ghost use Prim.Native.Nat.{_<_};
 ghost use Rattle.base.specs.All.{All};
 ghost use Rattle.frames.specs.Fields.{fields};
-ghost use Rattle.closed_files.specs.File.{mentionsIn, usesOf, closedFile, givenSized, leftSized, closeOf, outputOf};
+ghost use Rattle.closed_files.specs.File.{mentionsIn, usesOf, closedFile, firstUnread, givenSized, leftSized, givenRead, leftRead, closeOf, outputOf};
 ghost use Rattle.closed_walks.specs.View.{Walkable};
 
 // Closes up the pool of a file whose uses are counted. Where its order is the pool's own, no mention is written anew.
@@ -19,8 +19,8 @@ fn close_counted(s: &[u8], uses: &[u32], out: &mut [u8]) -> Closed
     let mut room = [0u64; 8192];
     let mut table = [0u32; 8192];
     let mut sizes = [0u32; 8192];
-    let n = use_order::ordered(uses, &mut order, &mut room);
-    use_order::number(&order[..n], &mut table);
+    let n = ordered_uses::ordered(uses, &mut order, &mut room);
+    ordered_uses::number(&order[..n], &mut table);
     let kept = closed_walks::in_place(&order[..n]);
     let size = closed_walks::total(s, &order[..n], &table, kept, &mut sizes);
     if 4194304 < size {
@@ -32,20 +32,25 @@ fn close_counted(s: &[u8], uses: &[u32], out: &mut [u8]) -> Closed
     Closed::Length(closed_walks::write_file(s, &order[..n], &table, kept, &sizes, out))
 }
 
-// Closes up the pool of a file that is good and has no field that isn't read. A file that is closed up already is copied.
-fn close_read(s: &[u8], out: &mut [u8]) -> Closed
+// Closes up the pool of a file that is good. One that is closed up already is copied.
+fn close_good(s: &[u8], out: &mut [u8]) -> Closed
     requires { ⌜ Walkable (now s) × All (λ k. k < 8192) (mentionsIn (fields (now s))) ⌝ }
-    ensures { λ r. ⌜ (r ≡ givenSized (closedFile (fields (now (s .entry)))) (now (out .entry))) × (now (out .exit) ≡ leftSized (closedFile (fields (now (s .entry)))) (now (out .entry))) ⌝ }
+    ensures { λ r. ⌜ (r ≡ givenRead (firstUnread (fields (now (s .entry)))) (closedFile (fields (now (s .entry)))) (now (out .entry))) × (now (out .exit) ≡ leftRead (firstUnread (fields (now (s .entry)))) (closedFile (fields (now (s .entry)))) (now (out .entry))) ⌝ }
 {
     let mut uses = [0u32; 8192];
-    closed_walks::count_mentions(s, &mut uses);
-    if unchanged_files::is_closed(s, &uses) {
-        if out.len() < s.len() {
-            return Closed::Refused(15, 0);
+    let strings = unchanged_files::first_strings(s);
+    match unchanged_files::count_mentions(s, strings, &mut uses) {
+        Walked::Unread(p) => Closed::Refused(22, p),
+        Walked::Counted(plain) => {
+            if unchanged_files::is_closed(plain, &uses, strings) {
+                if out.len() < s.len() {
+                    return Closed::Refused(15, 0);
+                }
+                return Closed::Length(copies::copy(s, out));
+            }
+            close_counted(s, &uses, out)
         }
-        return Closed::Length(bytes::copy(s, out));
     }
-    close_counted(s, &uses, out)
 }
 
 // Closes up the pool of a whole file into the front of the output, all checked first.
@@ -54,9 +59,6 @@ pub fn close_pool(s: &[u8], out: &mut [u8]) -> Closed
 {
     match checks::check(s) {
         Verdict::Refused(n, p) => Closed::Refused(n, p),
-        Verdict::Good => match closed_walks::first_unread(s) {
-            Unread::At(p) => Closed::Refused(22, p),
-            Unread::Nothing => close_read(s, out),
-        },
+        Verdict::Good => close_good(s, out),
     }
 }

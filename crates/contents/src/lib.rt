@@ -5,7 +5,7 @@ use base::Read;
 use base::Wrote;
 ghost use mathlib.Core.Path.{_≡_};
 ghost use mathlib.Core.List.{_++_};
-ghost use Prim.Native.Nat.{_≤_};
+ghost use Prim.Native.Nat.{_≤_, _<_};
 ghost use lib.ListN.{length};
 ghost use Rattle.base.specs.Moment.{endOfTime};
 ghost use Rattle.base.proofs.MomentLaws.{Moment};
@@ -25,7 +25,7 @@ fn pieces_size(s: &[u8], at: usize, n: u64) -> usize
     let mut size = 0;
     while 0 < left {
         left -= 1;
-        let item = places::moment_at(s, place, prev);
+        let item = any_intervals::moment_at(s, place, prev);
         match item {
             Read::Refused(_) => {
                 return 0;
@@ -41,11 +41,34 @@ fn pieces_size(s: &[u8], at: usize, n: u64) -> usize
     size
 }
 
-// Writes a transition and the bytes that follow it.
+// Writes hours of two bytes and the three bytes that follow them.
+fn write_five(v: u64, s: &[u8], out: &mut [u8]) -> usize
+    requires { ⌜ (128 ≤ v) × (v < 16384) × (length (now s) ≡ 3) × (5 ≤ length (now out)) ⌝ }
+    ensures { λ r. ⌜ Put (writeCount v ++ now (s .entry)) (now (out .entry)) r (now (out .exit)) ⌝ }
+{
+    out[0] = (128 + v % 128) as u8;
+    out[1] = (v / 128) as u8;
+    out[2] = s[0];
+    out[3] = s[1];
+    out[4] = s[2];
+    5
+}
+
+// Writes a transition and the bytes that follow it. Five bytes in all, the usual ones, take no call.
 fn write_piece(prev: u64, m: u64, s: &[u8], out: &mut [u8]) -> usize
     requires { ⌜ Moment m × (length (writeMoment prev m ++ now s) ≤ length (now out)) ⌝ }
     ensures { λ r. ⌜ Put (writeMoment prev m ++ now (s .entry)) (now (out .entry)) r (now (out .exit)) ⌝ }
 {
+    if s.len() == 3 {
+        if m < END {
+            let v = transition_writers::hours_to(prev, m);
+            if 0 < v {
+                if v < 16384 {
+                    return write_five(v, s, out);
+                }
+            }
+        }
+    }
     match transition_writers::write_moment(prev, m, out) {
         Wrote::Refused(_) => 0,
         Wrote::Length(n) => n + bytes::copy(s, &mut out[n..]),
@@ -63,7 +86,7 @@ fn write_pieces(s: &[u8], at: usize, n: u64, out: &mut [u8]) -> usize
     let mut w = 0;
     while 0 < left {
         left -= 1;
-        let item = places::moment_at(s, place, prev);
+        let item = any_intervals::moment_at(s, place, prev);
         match item {
             Read::Refused(_) => {
                 return w;

@@ -1,19 +1,19 @@
 -- Names counted along the codes of a zone. Assumes nothing.
 use mathlib.Core.Path.{_≡_, refl, sym, ap, _∙_, subst}
 use mathlib.Core.Bool.{Bool, true, false}
-use mathlib.Core.List.{List, [], _∷_, _++_}
-use Prim.Native.Nat.{ℕ, zero, suc, _+_, _-_, _*_, _≤_, _<_}
+use mathlib.Core.List.{List}
+use Prim.Native.Nat.{ℕ, zero, suc, _+_, _-_, _≤_, _<_}
 use native.Mathlib.Omega.{arith}
-use lib.Dec.{ltb, eqb}
+use lib.Dec.{ltb}
 use lib.ListN.{length, getD}
-use borrow.Author.Tests.{lt-ltb, le-ltb, ne-eqb, eq-eqb}
-use Rattle.base.specs.Pick.{pick}
+use borrow.Author.Tests.{ltb-true}
+use Rattle.base.proofs.Tests.{clash}
 use Rattle.use_order.specs.Order.{mention, mentionAll}
 use Rattle.use_order.proofs.NumberLaws.{length-mention, mention-most}
 use Rattle.mention_runs.specs.Run.{Room}
-use Rattle.counted_zones.specs.Steps.{countEnd, momentEnd, sumEnd, numberAt, numberEnd, intervalEnd, listNames, listEnd, ruleEnd, daylightAt, tailNames, tailEnd, tailAt, bodyNames, bodyEnd, zoneNames, zoneEnd}
-use Rattle.counted_zones.specs.Going.{Going, FiveAt, NameCounted}
-use Rattle.counted_zones.proofs.StepLaws.{moment-rises, sum-rises, number-rises, count-rises}
+use Rattle.counted_zones.specs.Steps.{momentEnd, sumEnd, numberAt, numberEnd, intervalEnd, listNames, listEnd}
+use Rattle.counted_zones.specs.Going.{Going, IsFive, IsTick, NameCounted}
+use Rattle.counted_zones.proofs.StepLaws.{moment-rises, sum-rises, number-rises, number-one, tick-ends}
 
 -- one use more leaves room for one less
 pub room-one : (u : List ℕ) (n k : ℕ) → Room u n → 0 < n → getD u k 0 < 4294967295
@@ -61,6 +61,21 @@ pub names-one : (s : List ℕ) (p : ℕ) (u : List ℕ) → mention (numberAt s 
 unfolding listNames mentionAll
 names-one s p u = refl
 
+-- an interval in ticks
+module _ (s : List ℕ) (p : ℕ) where
+  pub no-tick : IsTick s p false
+  no-tick = record { name = λ t. clash cc; ends = λ t. clash cc }
+
+  pub some-tick : getD s p 0 ≡ 2 → getD s (p + 9) 0 ≤ 127 → getD s (p + 10) 0 ≤ 127 → IsTick s p (ltb (getD s (p + 11) 0) 128)
+  some-tick a c d =
+      record {
+        name = λ t. ap (numberAt s) (ends t .0) ∙ sym (number-one s (p + 9) (omega arith));
+        ends = λ t. ends t .1;
+      }
+    where
+      ends : ltb (getD s (p + 11) 0) 128 ≡ true → (momentEnd s p ≡ p + 9) × (intervalEnd s p ≡ p + 12)
+      ends t = tick-ends s p a (omega arith) (omega arith) (ltb-true (getD s (p + 11) 0) 128 t)
+
 -- n intervals, one by one
 module _ (s : List ℕ) (at left : ℕ) (u : List ℕ) where
   pub going-start : Room u (length s - at) → Going s (mentionAll (listNames s at left) u) (listEnd s at left) (length u) at left u
@@ -91,8 +106,11 @@ module _ (s whole : List ℕ) (end size p n : ℕ) (w : List ℕ) (g : Going s w
               room = room-next w (length s - p) (length s - intervalEnd s p) (numberAt s (momentEnd s p)) (g .room) (omega arith);
             })
 
-    pub going-five : (k m : ℕ) (x : List ℕ) → FiveAt s p k → (k ≡ 255 → ⊥) → m ≡ n - 1 → x ≡ mention k w → Going s whole end size (p + 5) m x
-    going-five k m x f z em ex = going-next (p + 5) m x (sym (f .ends z)) em (ex ∙ ap (λ (j : ℕ). mention j w) (sym (f .name z)))
+    pub going-five : (k m : ℕ) (x : List ℕ) (r : Bool) → IsFive s p k r → r ≡ true → m ≡ n - 1 → x ≡ mention k w → Going s whole end size (p + 5) m x
+    going-five k m x r f t em ex = going-next (p + 5) m x (sym (f .ends t)) em (ex ∙ ap (λ (j : ℕ). mention j w) (sym (f .name t)))
+
+    pub going-tick : (m : ℕ) (x : List ℕ) (r : Bool) → IsTick s p r → r ≡ true → m ≡ n - 1 → x ≡ mention (getD s (p + 9) 0) w → Going s whole end size (p + 12) m x
+    going-tick m x r f t em ex = going-next (p + 12) m x (sym (f .ends t)) em (ex ∙ ap (λ (j : ℕ). mention j w) (sym (f .name t)))
 
     pub going-one : (e m : ℕ) (x : List ℕ) → (e ≡ listEnd s p 1) × (x ≡ mentionAll (listNames s p 1) w) → m ≡ n - 1 → Going s whole end size e m x
     going-one e m x d em = going-next e m x (d .0 ∙ list-one s p) em (d .1 ∙ sym (names-one s p w))

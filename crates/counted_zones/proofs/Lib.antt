@@ -1,3 +1,4 @@
 pub mod StepLaws
 pub mod CountLaws
 pub mod BodyLaws
+pub mod PairLaws

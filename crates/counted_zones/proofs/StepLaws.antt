@@ -1,15 +1,14 @@
 -- Where codes end, by their first bytes. Assumes nothing.
-use mathlib.Core.Path.{_≡_, refl, sym, ap, _∙_}
+use mathlib.Core.Path.{_≡_, refl, sym, _∙_}
 use mathlib.Core.Bool.{Bool, true, false}
 use mathlib.Core.List.{List}
-use Prim.Native.Nat.{ℕ, _+_, _*_, _/_, _%_, _≤_, _<_}
+use Prim.Native.Nat.{ℕ, _+_, _*_, _%_, _≤_, _<_}
 use native.Mathlib.Omega.{arith}
 use lib.Dec.{ltb, eqb}
 use lib.ListN.{getD}
-use borrow.Author.Tests.{lt-ltb, le-ltb, ne-eqb, eq-eqb}
+use borrow.Author.Tests.{lt-ltb, le-ltb, ne-eqb}
 use Rattle.base.specs.Pick.{pick}
 use Rattle.counted_zones.specs.Steps.{countEnd, momentEnd, sumEnd, numberAt, numberEnd, intervalEnd}
-use Rattle.counted_zones.specs.Going.{FiveAt}
 
 -- a choice of places is no less than the least
 module _ (p : ℕ) where
@@ -142,24 +141,8 @@ module _ (s : List ℕ) (p : ℕ) where
     number-end-two = rw (le-ltb (getD s p 0) 128 h)
 
 -- an interval of five bytes
-module _ (a b c d : ℕ) (ha : a < 256) (hb : b < 256) (hc : c < 256) (hd : d < 256) where
-  top-1 : (a + 256 * b + 65536 * c + 16777216 * d) / 128 % 2 ≡ 0 → a < 128
-  top-1 h = omega arith
-
-  top-2 : (a + 256 * b + 65536 * c + 16777216 * d) / 32768 % 2 ≡ 0 → b < 128
-  top-2 h = omega arith
-
-  top-3 : (a + 256 * b + 65536 * c + 16777216 * d) / 8388608 % 2 ≡ 0 → c < 128
-  top-3 h = omega arith
-
-  top-4 : (a + 256 * b + 65536 * c + 16777216 * d) / 2147483648 % 2 ≡ 0 → d < 128
-  top-4 h = omega arith
-
-  second-byte : (a + 256 * b + 65536 * c + 16777216 * d) / 256 % 256 ≡ b
-  second-byte = omega arith
-
 module _ (s : List ℕ) (p : ℕ) where
-  five-ends : 128 ≤ getD s p 0 → getD s (p + 1) 0 < 128 → getD s (p + 2) 0 < 128 → getD s (p + 3) 0 < 128 → getD s (p + 4) 0 < 128
+  pub five-ends : 128 ≤ getD s p 0 → getD s (p + 1) 0 < 128 → getD s (p + 2) 0 < 128 → getD s (p + 3) 0 < 128 → getD s (p + 4) 0 < 128
       → (momentEnd s p ≡ p + 2) × (intervalEnd s p ≡ p + 5)
   unfolding intervalEnd
   five-ends a b c d e =
@@ -169,19 +152,12 @@ module _ (s : List ℕ) (p : ℕ) where
       let v : sumEnd s (p + 4) ≡ p + 5 = sym (sum-1 s (p + 4) e) ∙ (let z : p + 4 + 1 ≡ p + 5 = omega arith in z) in
       (m, rw (m, n, w, v) refl)
 
-  pub not-five : FiveAt s p 255
-  not-five = record { name = λ h. absurd (h refl); ends = λ h. absurd (h refl) }
-
-  module _ (x : ℕ) (ex : x ≡ getD s (p + 1) 0 + 256 * getD s (p + 2) 0 + 65536 * getD s (p + 3) 0 + 16777216 * getD s (p + 4) 0)
-      (hb : getD s (p + 1) 0 < 256) (hc : getD s (p + 2) 0 < 256) (hd : getD s (p + 3) 0 < 256) (he : getD s (p + 4) 0 < 256) where
-    pub five-is : 128 ≤ getD s p 0 → x / 128 % 2 ≡ 0 → x / 32768 % 2 ≡ 0 → x / 8388608 % 2 ≡ 0 → x / 2147483648 % 2 ≡ 0 → FiveAt s p (x / 256 % 256)
-    five-is a t₁ t₂ t₃ t₄ =
-        let b = top-1 _ _ _ _ hb hc hd he (rw ex at t₁) in
-        let c = top-2 _ _ _ _ hb hc hd he (rw ex at t₂) in
-        let d = top-3 _ _ _ _ hb hc hd he (rw ex at t₃) in
-        let e = top-4 _ _ _ _ hb hc hd he (rw ex at t₄) in
-        let f = five-ends a b c d e in
-        record {
-          name = λ z. ap (numberAt s) (f .0) ∙ sym (number-one s (p + 2) c) ∙ sym (second-byte _ _ _ _ hb hc hd he) ∙ ap (λ (y : ℕ). y / 256 % 256) (sym ex);
-          ends = λ z. f .1;
-        }
+  -- and one in ticks
+  pub tick-ends : getD s p 0 ≡ 2 → getD s (p + 9) 0 < 128 → getD s (p + 10) 0 < 128 → getD s (p + 11) 0 < 128 → (momentEnd s p ≡ p + 9) × (intervalEnd s p ≡ p + 12)
+  unfolding intervalEnd
+  tick-ends a c d e =
+      let m : momentEnd s p ≡ p + 9 = sym (moment-ticks s p a) in
+      let n : numberEnd s (p + 9) ≡ p + 10 = sym (number-end-one s (p + 9) c) ∙ (let z : p + 9 + 1 ≡ p + 10 = omega arith in z) in
+      let w : sumEnd s (p + 10) ≡ p + 11 = sym (sum-1 s (p + 10) d) ∙ (let z : p + 10 + 1 ≡ p + 11 = omega arith in z) in
+      let v : sumEnd s (p + 11) ≡ p + 12 = sym (sum-1 s (p + 11) e) ∙ (let z : p + 11 + 1 ≡ p + 12 = omega arith in z) in
+      (m, rw (m, n, w, v) refl)

@@ -5,7 +5,7 @@ ghost use lib.ListN.{length, getD};
 ghost use Rattle.use_order.specs.Order.{mentionAll};
 ghost use Rattle.mention_runs.specs.Run.{Room};
 ghost use Rattle.counted_zones.specs.Steps.{countEnd, momentEnd, sumEnd, numberAt, numberEnd, listNames, listEnd, tailNames, tailEnd, bodyNames, bodyEnd, zoneNames, zoneEnd};
-ghost use Rattle.counted_zones.specs.Going.{Going, FiveAt, NameCounted};
+ghost use Rattle.counted_zones.specs.Going.{mentionTimes, Going, IsFive, IsTick, Pairs, NameCounted};
 
 // The place behind a count.
 fn count_end(s: &[u8], at: usize) -> usize
@@ -47,10 +47,10 @@ fn sum_end(s: &[u8], at: usize) -> usize
     if b < 128 {
         return at + 1;
     }
-    if b < 160 {
-        return at + 2;
-    }
     if b < 192 {
+        if b < 160 {
+            return at + 2;
+        }
         return at + 3;
     }
     at + 4
@@ -96,34 +96,91 @@ fn four(a: u8, b: u8, c: u8, d: u8) -> u32
     a as u32 + 256 * (b as u32) + 65536 * (c as u32) + 16777216 * (d as u32)
 }
 
-// The name of an interval of five bytes at a place; 255 where none such stands there. The top bits of four bytes are told by one test.
-fn five(s: &[u8], at: usize) -> u32
-    requires { ⌜ at + 5 ≤ length (now s) ⌝ }
-    ensures { λ r. ⌜ FiveAt (now (s .entry)) at r ⌝ }
+// Whether an interval of five bytes with the name k stands at a place: the top bits of four bytes and the name are told by one test.
+fn is_five(s: &[u8], at: usize, k: u32) -> bool
+    requires { ⌜ (at + 5 ≤ length (now s)) × (k < 128) ⌝ }
+    ensures { λ r. ⌜ IsFive (now (s .entry)) at k r ⌝ }
 {
     if s[at] < 128 {
-        return 255;
+        return false;
     }
     let x = four(s[at + 1], s[at + 2], s[at + 3], s[at + 4]);
-    if x / 128 % 2 != 0 {
-        return 255;
+    x & 2155937664 == 256 * k
+}
+
+// How many pairs of intervals of five bytes with the names j and k stand from a place on, at most n.
+fn pairs(s: &[u8], at: usize, j: u32, k: u32, n: u64) -> u64
+    requires { ⌜ (at + 10 * n ≤ length (now s)) × (j < 128) × (k < 128) ⌝ }
+    ensures { λ r. ⌜ Pairs (now (s .entry)) at j k r × (r ≤ n) ⌝ }
+{
+    let mut place = at;
+    let mut left = n;
+    while 0 < left {
+        if !is_five(s, place, j) {
+            break;
+        }
+        if !is_five(s, place + 5, k) {
+            break;
+        }
+        place += 10;
+        left -= 1;
     }
-    if x / 32768 % 2 != 0 {
-        return 255;
+    n - left
+}
+
+// n uses more of k.
+fn mention_times(uses: &mut [u32], k: usize, n: u32)
+    requires { ⌜ getD (now uses) k 0 + n ≤ 4294967295 ⌝ }
+    ensures { λ _. ⌜ now (uses .exit) ≡ mentionTimes k n (now (uses .entry)) ⌝ }
+{
+    if k < uses.len() {
+        uses[k] = uses[k] + n;
     }
-    if x / 8388608 % 2 != 0 {
-        return 255;
+}
+
+// How many pairs there may be among so many intervals in so many bytes.
+fn fitting(n: u64, room: usize) -> u64
+    ensures { λ r. ⌜ (2 * r ≤ n) × (10 * r ≤ room) ⌝ }
+{
+    let k = (room / 10) as u64;
+    if n / 2 < k {
+        return n / 2;
     }
-    if x / 2147483648 % 2 != 0 {
-        return 255;
-    }
-    x / 256 % 256
+    k
 }
 
 // Before so many intervals.
 pub struct Rows {
     pub place: usize,
     pub left: u64,
+}
+
+// Counts the names of pairs of intervals of five bytes, the second with the name j, as long as such follow.
+fn count_pairs(s: &[u8], at: usize, j: u32, left: u64, uses: &mut [u32]) -> Rows
+    requires { ⌜ (listEnd (now s) at left ≤ length (now s)) × Room (now uses) (length (now s) - at) × (j < 128) ⌝ }
+    ensures { λ r. ⌜ Going (now (s .entry)) (mentionAll (listNames (now (s .entry)) at left) (now (uses .entry))) (listEnd (now (s .entry)) at left) (length (now (uses .entry))) (r .place) (r .left) (now (uses .exit)) × (r .left ≤ left) ⌝ }
+{
+    let n = fitting(left, s.len() - at);
+    if n == 0 {
+        return Rows {
+            place: at,
+            left: left,
+        };
+    }
+    let k = s[at + 2] as u32;
+    if 127 < k {
+        return Rows {
+            place: at,
+            left: left,
+        };
+    }
+    let c = pairs(s, at, k, j, n);
+    mention_times(uses, k as usize, c as u32);
+    mention_times(uses, j as usize, c as u32);
+    Rows {
+        place: at + 10 * (c as usize),
+        left: left - 2 * c,
+    }
 }
 
 // Counts the names of intervals of five bytes, as long as such follow.
@@ -137,12 +194,57 @@ fn count_fives(s: &[u8], at: usize, left: u64, uses: &mut [u32]) -> Rows
         if s.len() - place < 5 {
             break;
         }
-        let k = five(s, place);
-        if k == 255 {
+        let j = s[place + 2] as u32;
+        if 127 < j {
             break;
         }
-        mention_runs::mention(uses, k as usize);
-        place += 5;
+        if !is_five(s, place, j) {
+            break;
+        }
+        mention_runs::mention(uses, j as usize);
+        let r = count_pairs(s, place + 5, j, n - 1, uses);
+        place = r.place;
+        n = r.left;
+    }
+    Rows {
+        place: place,
+        left: n,
+    }
+}
+
+// Whether an interval in ticks stands at a place, with a byte each for name and offsets.
+fn is_tick(s: &[u8], at: usize) -> bool
+    requires { ⌜ at + 12 ≤ length (now s) ⌝ }
+    ensures { λ r. ⌜ IsTick (now (s .entry)) at r ⌝ }
+{
+    if s[at] != 2 {
+        return false;
+    }
+    if 127 < s[at + 9] {
+        return false;
+    }
+    if 127 < s[at + 10] {
+        return false;
+    }
+    s[at + 11] < 128
+}
+
+// Counts the names of intervals in ticks whose name and offsets take a byte each, as long as such follow.
+fn count_ticks(s: &[u8], at: usize, left: u64, uses: &mut [u32]) -> Rows
+    requires { ⌜ (listEnd (now s) at left ≤ length (now s)) × Room (now uses) (length (now s) - at) ⌝ }
+    ensures { λ r. ⌜ Going (now (s .entry)) (mentionAll (listNames (now (s .entry)) at left) (now (uses .entry))) (listEnd (now (s .entry)) at left) (length (now (uses .entry))) (r .place) (r .left) (now (uses .exit)) × (r .left ≤ left) ⌝ }
+{
+    let mut place = at;
+    let mut n = left;
+    while 0 < n {
+        if s.len() - place < 12 {
+            break;
+        }
+        if !is_tick(s, place) {
+            break;
+        }
+        mention_runs::mention(uses, s[place + 9] as usize);
+        place += 12;
         n -= 1;
     }
     Rows {
@@ -170,7 +272,8 @@ fn count_intervals(s: &[u8], at: usize, left: u64, uses: &mut [u32]) -> usize
     let mut place = at;
     let mut n = left;
     loop {
-        let r = count_fives(s, place, n, uses);
+        let f = count_fives(s, place, n, uses);
+        let r = count_ticks(s, f.place, f.left, uses);
         place = r.place;
         n = r.left;
         if n == 0 {

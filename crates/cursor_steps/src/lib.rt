@@ -45,14 +45,26 @@ fn usual_end(s: &[u8], pool: u64, c: Cursor, t: u64) -> u64
         return 0;
     }
     let i = c.next;
-    let m = usual_starts::usual_start(s, c.place, pool, i.start);
+    let m = next_intervals::short_next(s, c.place, pool, i.start);
     if m <= t {
         return 0;
     }
     m
 }
 
-// The cursor moved on to the interval that holds the instant t. Mostly that is the next one, which is taken here without a walk.
+// The cursor moved on to the interval that holds the instant t, one interval after the other.
+fn walk(s: &[u8], pool: u64, c: Cursor, ending: ZoneEnd, t: u64) -> Cursor
+    requires { ⌜ Points pool (now s) ending c × (c .held .start ≤ t) × Finite t ⌝ }
+    ensures { λ r. ⌜ At pool (now (s .entry)) ending t r ⌝ }
+{
+    let mut x = c;
+    while x.held.end <= t {
+        x = next(s, pool, x, ending, t);
+    }
+    x
+}
+
+// The same. Mostly that is the next one, which is taken here without a walk, for which the end of the zone would be copied.
 pub fn seek(s: &[u8], pool: u64, c: Cursor, ending: ZoneEnd, t: u64) -> Cursor
     requires { ⌜ Points pool (now s) ending c × (c .held .start ≤ t) × Finite t ⌝ }
     ensures { λ r. ⌜ At pool (now (s .entry)) ending t r ⌝ }
@@ -61,9 +73,5 @@ pub fn seek(s: &[u8], pool: u64, c: Cursor, ending: ZoneEnd, t: u64) -> Cursor
     if m != 0 {
         return listed_cursors::at_usual(s, c.next, c.left - 1, c.place, m);
     }
-    let mut x = c;
-    while x.held.end <= t {
-        x = next(s, pool, x, ending, t);
-    }
-    x
+    walk(s, pool, c, ending, t)
 }

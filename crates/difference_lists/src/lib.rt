@@ -75,7 +75,7 @@ fn window_end(
     let gp = y.pool;
     let ge = y.past;
     let ey = y.ending;
-    let e = same_tails::same_from(&f[fp..fe], sf, ex, &g[gp..ge], sg, ey);
+    let e = tail_matches::same_from(&f[fp..fe], sf, ex, &g[gp..ge], sg, ey);
     occurrences::smaller(last, e)
 }
 

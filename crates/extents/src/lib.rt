@@ -44,6 +44,10 @@ fn span(r: &[u8]) -> usize
         return 0;
     }
     let a = r[0] as usize;
+    // Behind a field of no data the next place waits for no sum.
+    if a == 0 {
+        return 1;
+    }
     if a < 128 {
         return 1 + a;
     }

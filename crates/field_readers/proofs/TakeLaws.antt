@@ -2,10 +2,10 @@
 use mathlib.Core.Path.{_≡_, refl, sym, _∙_, ap, ap₂}
 use mathlib.Core.Bool.{Bool, true, false}
 use mathlib.Core.List.{List, []}
-use Prim.Native.Nat.{ℕ, _+_, _-_, _≤_, _<_}
+use Prim.Native.Nat.{ℕ, zero, suc, _+_, _-_, _≤_, _<_}
 use native.Mathlib.Omega.{arith}
 use lib.ListN.{length, getD, drop, length-drop}
-use lib.Seq.{sets, length-take-le}
+use lib.Seq.{sets, length-take-le, take-all}
 use borrow.Author.Tests.{eq-eqb, ne-eqb}
 use Rattle.base.specs.Parsed.{Parsed, got, bad as faulty}
 use Rattle.texts.specs.Text.{readText}
@@ -16,7 +16,8 @@ use Rattle.pool.specs.Pool.{Pool, parsePool, checked, stringsIn, stringsOf}
 use Rattle.pool.specs.Index.{startsOf, roomOf}
 use Rattle.pool.specs.declared.Checked.{Checked}
 use Rattle.pool.specs.declared.Checked.the-variants.{Strings, Refused as Unpooled}
-use Rattle.pool.proofs.PoolLaws.{few, ready}
+use Rattle.pool.proofs.PoolLaws.{few, ready, room-enough}
+use Rattle.pool.proofs.StringLaws.{index-room}
 use Rattle.zones.specs.Content.{Zone}
 use Rattle.zones.specs.Parse.{parseZone}
 use Rattle.lookups.specs.View.{formOf}
@@ -37,7 +38,7 @@ use Rattle.aliases.specs.View.{verdictOf as aliasVerdict}
 use Rattle.aliases.specs.declared.Verdict.{Verdict as AliasVerdict}
 use Rattle.aliases.specs.declared.Verdict.the-variants.{Good as GoodAliases, Refused as Unaliased}
 use Rattle.field_checks.specs.Check.{Memory, poolIn, poolKept, newId, zoneIn, zoneKept, textKept, aliasesIn, aliasesKept, judged, locationsIn, locationsKept}
-use Rattle.field_readers.specs.Remembered.{part, poolOf, Indexed, Stands, Ordered, Says, TookPool, TookZone, TookText, TookAliases, TookField, TookLocations}
+use Rattle.field_readers.specs.Remembered.{part, poolOf, Wide, Indexed, Stands, Ordered, Says, TookPool, TookZone, TookText, TookAliases, TookField, TookLocations}
 use Rattle.field_readers.specs.declared.Kept.{Kept}
 use Rattle.field_readers.specs.declared.Taken.{Taken}
 use Rattle.field_readers.specs.declared.Taken.the-variants.{Refused, Keep}
@@ -46,12 +47,21 @@ use Rattle.base.proofs.Tests.{clash}
 pub part-length : (s : List ℕ) (a e : ℕ) → e ≤ length s → length (part s a e) ≡ e - a
 part-length s a e h = length-take-le (e - a) (drop a s) (rw length-drop (omega arith))
 
+-- an index that has room for a pool has a place for each of its strings
+strings-room : (d : List ℕ) → length (stringsOf d) ≤ roomOf d
+strings-room d = go (length (stringsOf d)) refl
+  where
+    go : (m : ℕ) → length (stringsOf d) ≡ m → length (stringsOf d) ≤ roomOf d
+    go zero e = omega arith
+    go (suc m) e =
+        omega (arith, room-enough d, index-room d m (omega arith) (startsOf d) (record { begins = take-all (length (startsOf d)) (startsOf d) (omega arith) }))
+
 -- field 0, by what the check of the pool gives
 module _ (s : List ℕ) (k : Kept) (a e : ℕ) (ix ix′ : List ℕ) (c : Checked)
     (h : (c ≡ checked (parsePool (part s a e))) × (ix′ ≡ sets ix 0 (startsOf (part s a e)))) where
   pub pool-refused : (n : ℕ) → c ≡ Unpooled n → TookPool s k a e ix ix′ (Refused n)
   unfolding poolKept
-  pool-refused n q = record { means = λ od y st fr. go od y (parsePool (part s a e)) (sym q ∙ h .0) }
+  pool-refused n q = record { means = λ od y st fr wide. go od y (parsePool (part s a e)) (sym q ∙ h .0) }
     where
       go : (od : List ℕ) (y : Memory) (p : Pool) → Unpooled n ≡ checked p → Says s ix′ od (poolIn y p) (Refused n)
       go od y (faulty m) r = cc
@@ -60,13 +70,13 @@ module _ (s : List ℕ) (k : Kept) (a e : ℕ) (ix ix′ : List ℕ) (c : Checke
   pub pool-kept : (n : ℕ) → c ≡ Strings n → a ≤ e → e ≤ length s → roomOf (part s a e) ≤ length ix
       → TookPool s k a e ix ix′ (Keep (record { start = a; end = e; count = n; zones = 0; text = k .text; len = k .len }))
   unfolding poolKept
-  pool-kept n q l₁ l₂ l₃ = record { means = λ od y st fr. go od y st fr (parsePool (part s a e)) refl (sym q ∙ h .0) }
+  pool-kept n q l₁ l₂ l₃ = record { means = λ od y st fr wide. go od y st fr wide (parsePool (part s a e)) refl (sym q ∙ h .0) }
     where
-      go : (od : List ℕ) (y : Memory) → Stands s k od y → y .ids ≡ [] → (p : Pool) → parsePool (part s a e) ≡ p
+      go : (od : List ℕ) (y : Memory) → Stands s k od y → y .ids ≡ [] → Wide ix od → (p : Pool) → parsePool (part s a e) ≡ p
           → Strings n ≡ checked p
           → Says s ix′ od (poolIn y p) (Keep (record { start = a; end = e; count = n; zones = 0; text = k .text; len = k .len }))
-      go od y st fr (faulty m) i r = clash cc
-      go od y st fr (got ts u) i r =
+      go od y st fr wide (faulty m) i r = clash cc
+      go od y st fr wide (got ts u) i r =
           let w : stringsOf (part s a e) ≡ ts = ap stringsIn i in
           let j : n ≡ length ts = cc in (
             record {
@@ -75,7 +85,7 @@ module _ (s : List ℕ) (k : Kept) (a e : ℕ) (ix ix′ : List ℕ) (c : Checke
               ready = ready (part s a e) ix ix′ l₃ (h .1);
               count = j ∙ sym (ap length w);
             },
-            record { strings = sym w; ids = rw fr (keeps-again _ _ od _ (rw fr at (st .ids))); text = st .text },
+            record { strings = sym w; ids = rw fr (keeps-again _ (stringsOf (part s a e)) od _ (omega (arith, strings-room (part s a e))) (rw fr at (st .ids))); text = st .text },
           )
 
 pub zones-most : (s : List ℕ) (k : Kept) (od : List ℕ) → Ordered s k od → k .zones ≤ 8192
@@ -220,7 +230,7 @@ module _ (s : List ℕ) (k : Kept) (i a e : ℕ) (ix od : List ℕ) where
   pub field-pool : (r : Taken) (ix′ : List ℕ) → i ≡ 0 → Indexed s k ix → TookPool s k a e ix ix′ r → TookField s k i a e ix od ix′ od r
   unfolding judged
   field-pool r ix′ q ind t =
-      record { means = λ y st fr. rw (eq-eqb i 0 q) (t .means od y st (fr q)) }
+      record { means = λ y st fr. rw (eq-eqb i 0 q) (t .means od y st (fr q .0) (fr q .1)) }
 
   module _ (n₀ : i ≡ 0 → ⊥) where
     pub field-zone : (r : Taken) (od′ : List ℕ) → i ≡ 1 → TookZone s k a e ix od od′ r → TookField s k i a e ix od ix od′ r

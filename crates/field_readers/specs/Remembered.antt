@@ -1,5 +1,5 @@
 -- How what is remembered and the lent arrays stand for the check's memory, and what the reader of each field says of it. The code's way: internal functions alone use it; what the check gives is said by field_checks/specs/Check.antt.
-use Prim.Native.Nat.{ℕ, _-_, _≤_}
+use Prim.Native.Nat.{ℕ, _+_, _-_, _≤_}
 use mathlib.Core.Path.{_≡_}
 use mathlib.Core.List.{List, []}
 use lib.ListN.{length, take, drop}
@@ -52,8 +52,12 @@ Says s ix od (answer v) r = ⊥
 Says s ix od (keep y) (Refused m) = ⊥
 Says s ix od (keep y) (Keep k) = Indexed s k ix × Stands s k od y
 
+-- the numbers of as many strings as the index has places have room in the array od
+abbrev pub Wide : List ℕ → List ℕ → Type 0
+Wide ix od = length ix + 257 ≤ length od
+
 pub record TookPool (s : List ℕ) (k : Kept) (a e : ℕ) (ix ix′ : List ℕ) (r : Taken) : Type 0 where
-  pub means : (od : List ℕ) (y : Memory) → Stands s k od y → y .ids ≡ []
+  pub means : (od : List ℕ) (y : Memory) → Stands s k od y → y .ids ≡ [] → Wide ix od
       → Says s ix′ od (poolKept y (part s a e)) r
 
 pub record TookZone (s : List ℕ) (k : Kept) (a e : ℕ) (ix od od′ : List ℕ) (r : Taken) : Type 0 where
@@ -69,4 +73,4 @@ pub record TookLocations (s : List ℕ) (k : Kept) (a e : ℕ) (field : Location
   pub means : (ix od : List ℕ) (y : Memory) → Indexed s k ix → Stands s k od y → Says s ix od (locationsKept y field (part s a e)) r
 
 pub record TookField (s : List ℕ) (k : Kept) (i a e : ℕ) (ix od ix′ od′ : List ℕ) (r : Taken) : Type 0 where
-  pub means : (y : Memory) → Stands s k od y → (i ≡ 0 → y .ids ≡ []) → Says s ix′ od′ (judged y i a (part s a e)) r
+  pub means : (y : Memory) → Stands s k od y → (i ≡ 0 → (y .ids ≡ []) × Wide ix od) → Says s ix′ od′ (judged y i a (part s a e)) r

@@ -42,7 +42,7 @@ fn find_with(s: &[u8], d: usize, e: usize, id: &[u8], starts: &mut [u32]) -> Fin
         Located::Found(v) => {
             let from = v.start;
             let to = v.past;
-            match zone_checks::check(&s[from..to], v.count as u64) {
+            match zone_reads::check(&s[from..to], v.count as u64) {
                 ZoneVerdict::Refused(n) => Finding::Refused(n, v.place),
                 ZoneVerdict::Good(_) => Finding::Zone(FoundZone {
                     pool: d,
@@ -106,13 +106,15 @@ fn answer_in(file: &[u8], v: FoundZone, t: u64, edition: Edition) -> Answer
     requires { ⌜ Finite t ⌝ }
     ensures { λ r. ⌜ r ≡ zoneAnswer (now (file .entry)) v edition t (zoneAt (now (file .entry)) v) ⌝ }
 {
-    let count = pool::room(location_lookup::lent(file, v.pool, v.past));
+    let pool = location_lookup::lent(file, v.pool, v.past);
+    let count = pool::room(pool);
     let zone = location_lookup::lent(file, v.start, v.end);
     match zone_lookups::find(zone, count as u64, t, edition) {
         ZoneAnswer::Refused(n) => Answer::Refused(n, place_in(v)),
         ZoneAnswer::In(x) => {
-            let name = location_lookup::text_in(file, v.pool, v.past, x.name);
-            Answer::In(answers::answer_of(name.at, name.len, x))
+            let name = string_search::find_string(pool, x.name);
+            let at = name.at;
+            Answer::In(answers::answer_of(v.pool + at, name.len, x))
         }
     }
 }

@@ -6,7 +6,7 @@ use native.Mathlib.Omega.{arith}
 use lib.ListN.{length, getD, set, length-set}
 use lib.Seq.{getD-set-same, getD-set-other}
 use Rattle.base.proofs.Tests.{by-order}
-use Rattle.ids.specs.Layout.{buffered, ahead, numberIn, Placed}
+use Rattle.ids.specs.Layout.{mainNumber, buffered, ahead, numberIn, Placed}
 use Rattle.ids.specs.Parts.{Shifted, Inserted, Buffered}
 use Rattle.ids.proofs.LayoutLaws.{in-front, in-place, behind, behind-all}
 
@@ -39,69 +39,69 @@ shifted-inserted od od′ n p k s l r =
     }
 
 -- two insertions, of a number and of its place, and the new size
-module _ (od od₁ od₂ : List ℕ) (b i j k : ℕ) (l : b < 128) (h : j ≤ b) (room : length od ≡ 8449)
-    (s : Inserted od (8192 + b) (8192 + j) k od₁) (t : Inserted od₁ (8320 + b) (8320 + j) i od₂) where
-  two-room : length od₂ ≡ 8449
-  two-room = t .room ∙ s .room ∙ room
+module _ (od od₁ od₂ : List ℕ) (b i j k : ℕ) (l : b < 128) (h : j ≤ b) (room : 257 ≤ length od)
+    (s : Inserted od b j k od₁) (t : Inserted od₁ (128 + b) (128 + j) i od₂) where
+  two-room : length od₂ ≡ length od
+  two-room = t .room ∙ s .room
 
-  other : (q : ℕ) → q < 8448 → getD (set od₂ 8448 (b + 1)) q 0 ≡ getD od₂ q 0
-  other q m = getD-set-other od₂ 8448 q (b + 1) 0 (λ e. omega arith)
+  other : (q : ℕ) → (q ≡ 256 → ⊥) → getD (set od₂ 256 (b + 1)) q 0 ≡ getD od₂ q 0
+  other q m = getD-set-other od₂ 256 q (b + 1) 0 m
 
-  pub inserted-buffered : Buffered od b i j k (set od₂ 8448 (b + 1))
+  pub inserted-buffered : Buffered od b i j k (set od₂ 256 (b + 1))
   unfolding buffered ahead
   inserted-buffered =
       record {
-        room = length-set od₂ 8448 (b + 1) ∙ two-room;
-        size = getD-set-same od₂ 8448 (b + 1) 0 (omega (arith, two-room)) ∙ (let e : b + 1 ≡ suc b = omega arith in e);
-        main = λ q m. other q (omega arith) ∙ t .below q (omega arith) ∙ s .below q (omega arith);
+        room = length-set od₂ 256 (b + 1) ∙ two-room;
+        size = getD-set-same od₂ 256 (b + 1) 0 (omega (arith, two-room)) ∙ (let e : b + 1 ≡ suc b = omega arith in e);
+        main = λ q. other (257 + q) (λ e. omega arith) ∙ t .above (257 + q) (omega arith) ∙ s .above (257 + q) (omega arith);
         numbers =
             record {
-              below = λ q m. other (8192 + q) (omega arith) ∙ t .below (8192 + q) (omega arith) ∙ s .below (8192 + q) (omega arith);
-              here = other (8192 + j) (omega arith) ∙ t .below (8192 + j) (omega arith) ∙ s .here;
+              below = λ q m. other q (λ e. omega arith) ∙ t .below q (omega arith) ∙ s .below q m;
+              here = other j (λ e. omega arith) ∙ t .below j (omega arith) ∙ s .here;
               above = λ q g m.
-                  let e : 8192 + suc q ≡ 8192 + q + 1 = omega arith in
-                  ap (λ (p : ℕ). getD (set od₂ 8448 (b + 1)) p 0) e
-                  ∙ other (8192 + q + 1) (omega arith)
-                  ∙ t .below (8192 + q + 1) (omega arith)
-                  ∙ s .moved (8192 + q) (omega arith) (omega arith);
+                  let e : suc q ≡ q + 1 = omega arith in
+                  ap (λ (p : ℕ). getD (set od₂ 256 (b + 1)) p 0) e
+                  ∙ other (q + 1) (λ e. omega arith)
+                  ∙ t .below (q + 1) (omega arith)
+                  ∙ s .moved q g m;
             };
         places =
             record {
-              below = λ q m. other (8320 + q) (omega arith) ∙ t .below (8320 + q) (omega arith) ∙ s .above (8320 + q) (omega arith);
-              here = other (8320 + j) (omega arith) ∙ t .here;
+              below = λ q m. other (128 + q) (λ e. omega arith) ∙ t .below (128 + q) (omega arith) ∙ s .above (128 + q) (omega arith);
+              here = other (128 + j) (λ e. omega arith) ∙ t .here;
               above = λ q g m.
-                  let e : 8320 + suc q ≡ 8320 + q + 1 = omega arith in
-                  ap (λ (p : ℕ). getD (set od₂ 8448 (b + 1)) p 0) e
-                  ∙ other (8320 + q + 1) (omega arith)
-                  ∙ t .moved (8320 + q) (omega arith) (omega arith)
-                  ∙ s .above (8320 + q) (omega arith);
+                  let e : 128 + suc q ≡ 128 + q + 1 = omega arith in
+                  ap (λ (p : ℕ). getD (set od₂ 256 (b + 1)) p 0) e
+                  ∙ other (128 + q + 1) (λ e. omega arith)
+                  ∙ t .moved (128 + q) (omega arith) (omega arith)
+                  ∙ s .above (128 + q) (omega arith);
             };
       }
 
 -- the list with a number more in the buffer
 module _ (od od′ : List ℕ) (b i j k : ℕ) (w : Buffered od b i j k od′) (below : (t : ℕ) → t < j → ahead od t ≤ i)
     (above : (t : ℕ) → j ≤ t → t < b → i ≤ ahead od t) where
-  same-first : (t q : ℕ) → t ≤ j → q < 8192 → numberIn od′ t q ≡ numberIn od t q
+  same-first : (t q : ℕ) → t ≤ j → numberIn od′ t q ≡ numberIn od t q
   unfolding numberIn
-  same-first zero q l h = w .main q h
-  same-first (suc t) q l h =
-      rw (w .places .below t l, w .numbers .below t l, same-first t q (omega arith) h, w .main (q - suc t) (omega arith))
+  same-first zero q l = w .main q
+  same-first (suc t) q l =
+      rw (w .places .below t l, w .numbers .below t l, same-first t q (omega arith), w .main (q - suc t))
 
   -- the place of a number that went up
   up : (t : ℕ) → j ≤ t → t < b → ahead od′ (suc t) + suc t ≡ ahead od t + t + 1
   up t g h = let e = w .places .above t g h in omega arith
 
-  pub put-below : (t q : ℕ) → j ≤ t → t ≤ b → q < 8192 → q < i + j → numberIn od′ (suc t) q ≡ numberIn od t q
-  put-below zero q g h l m =
+  pub put-below : (t q : ℕ) → j ≤ t → t ≤ b → q < i + j → numberIn od′ (suc t) q ≡ numberIn od t q
+  put-below zero q g h m =
       let z : 0 ≡ j = omega arith in
-      in-front od′ zero q (omega (arith, ap (ahead od′) z, w .places .here)) ∙ same-first zero q (omega arith) l
-  put-below (suc t) q g h l m =
+      in-front od′ zero q (omega (arith, ap (ahead od′) z, w .places .here)) ∙ same-first zero q (omega arith)
+  put-below (suc t) q g h m =
       by-order j (suc t)
       (λ s. in-front od′ (suc t) q (omega (arith, up t (omega arith) (omega arith), above t (omega arith) (omega arith)))
-      ∙ put-below t q (omega arith) (omega arith) l m
+      ∙ put-below t q (omega arith) (omega arith) m
       ∙ sym (in-front od t q (omega (arith, above t (omega arith) (omega arith)))))
       (λ s. let z : suc t ≡ j = omega arith in
-      in-front od′ (suc t) q (omega (arith, ap (ahead od′) z, w .places .here)) ∙ same-first (suc t) q (omega arith) l)
+      in-front od′ (suc t) q (omega (arith, ap (ahead od′) z, w .places .here)) ∙ same-first (suc t) q (omega arith))
 
   pub put-here : (t : ℕ) → j ≤ t → t ≤ b → numberIn od′ (suc t) (i + j) ≡ k
   put-here zero g h =
@@ -115,35 +115,35 @@ module _ (od od′ : List ℕ) (b i j k : ℕ) (w : Buffered od b i j k od′) (
       in-place od′ (suc t) (i + j) (omega (arith, ap (ahead od′) z, w .places .here)) ∙ ap (buffered od′) z ∙ w .numbers .here)
 
   -- behind the number that was put where no other of the buffer is behind it
-  last-above : (q : ℕ) → q < 8192 → i + j ≤ q → numberIn od′ (suc j) (q + 1) ≡ numberIn od j q
-  last-above q l m =
+  last-above : (q : ℕ) → i + j ≤ q → numberIn od′ (suc j) (q + 1) ≡ numberIn od j q
+  last-above q m =
       let e : q + 1 - suc j ≡ q - j = omega arith in
       behind od′ j (q + 1) (omega (arith, w .places .here))
-      ∙ ap (λ (p : ℕ). getD od′ p 0) e
-      ∙ w .main (q - j) (omega arith)
+      ∙ ap (mainNumber od′) e
+      ∙ w .main (q - j)
       ∙ sym (behind-all od j q (λ t h. omega (arith, below t h)))
 
-  pub put-above : (t q : ℕ) → j ≤ t → t ≤ b → q < 8192 → i + j ≤ q → numberIn od′ (suc t) (q + 1) ≡ numberIn od t q
-  put-above zero q g h l m =
+  pub put-above : (t q : ℕ) → j ≤ t → t ≤ b → i + j ≤ q → numberIn od′ (suc t) (q + 1) ≡ numberIn od t q
+  put-above zero q g h m =
       let z : j ≡ 0 = omega arith in
-      ap (λ (p : ℕ). numberIn od′ (suc p) (q + 1)) (sym z) ∙ last-above q l m ∙ ap (λ (p : ℕ). numberIn od p q) z
-  put-above (suc t) q g h l m =
+      ap (λ (p : ℕ). numberIn od′ (suc p) (q + 1)) (sym z) ∙ last-above q m ∙ ap (λ (p : ℕ). numberIn od p q) z
+  put-above (suc t) q g h m =
       by-order j (suc t)
       (λ s. by-order q (ahead od t + t)
       (λ a. in-front od′ (suc t) (q + 1) (omega (arith, up t (omega arith) (omega arith)))
-      ∙ put-above t q (omega arith) (omega arith) l m
+      ∙ put-above t q (omega arith) (omega arith) m
       ∙ sym (in-front od t q a))
       (λ a. by-order (ahead od t + t) q
       (λ c. let e : q + 1 - suc (suc t) ≡ q - suc t = omega arith in
       behind od′ (suc t) (q + 1) (omega (arith, up t (omega arith) (omega arith)))
-      ∙ ap (λ (p : ℕ). getD od′ p 0) e
-      ∙ w .main (q - suc t) (omega arith)
+      ∙ ap (mainNumber od′) e
+      ∙ w .main (q - suc t)
       ∙ sym (behind od t q c))
       (λ c. in-place od′ (suc t) (q + 1) (omega (arith, up t (omega arith) (omega arith)))
       ∙ w .numbers .above t (omega arith) (omega arith)
       ∙ sym (in-place od t q (omega arith)))))
       (λ s. let z : j ≡ suc t = omega arith in
-      ap (λ (p : ℕ). numberIn od′ (suc p) (q + 1)) (sym z) ∙ last-above q l m ∙ ap (λ (p : ℕ). numberIn od p q) z)
+      ap (λ (p : ℕ). numberIn od′ (suc p) (q + 1)) (sym z) ∙ last-above q m ∙ ap (λ (p : ℕ). numberIn od p q) z)
 
   -- the places in the new buffer
   module _ (n : ℕ) (p : Placed od n b) (g : b < 128) (h : i + b ≤ n) (r : j ≤ b) where

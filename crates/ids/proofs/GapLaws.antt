@@ -3,7 +3,7 @@ use mathlib.Core.Path.{_≡_, refl, _∙_, ap, subst}
 use mathlib.Core.List.{List, []}
 use Prim.Native.Nat.{ℕ, zero, suc, _+_, _-_, _≤_, _<_}
 use native.Mathlib.Omega.{arith}
-use lib.ListN.{getD}
+use lib.ListN.{length, getD}
 use Rattle.base.proofs.Tests.{by-order}
 use Rattle.string_order.specs.Order.{ordering}
 use Rattle.string_order.specs.declared.Ordering.the-variants.{Less}
@@ -14,36 +14,40 @@ use Rattle.ids.specs.Memory.{textAt, Sorted, Between, Finds}
 use Rattle.ids.specs.declared.Place.{Place}
 use Rattle.ids.specs.declared.Place.the-variants.{Seen, Free}
 use Rattle.ids.specs.declared.Gap.the-variants.{Known, New}
+use Rattle.ids.proofs.MemoryLaws.{sorted-most}
 use Rattle.ids.proofs.LayoutLaws.{buffer-at, main-between, low-above, low-high, high-inner, high-outer, high-below, high-most}
 
 -- the numbers of a part of the array stand in the list at the places that `to` gives, one after the other
 record Part (od : List ℕ) (n a e : ℕ) (to : ℕ → ℕ) : Type 0 where
   order : a ≤ e
-  most : e ≤ 8320
+  most : e ≤ 8449
+  room : e ≤ length od
   is : (i : ℕ) → a ≤ i → i < e → numberAt od (to i) ≡ getD od i 0
   inside : (i : ℕ) → a ≤ i → i < e → to i < n
   up : (i j : ℕ) → a ≤ i → i < j → j < e → to i < to j
 
-module _ (od : List ℕ) (n : ℕ) (p : Placed od n (bufferSize od)) (few : n ≤ 8192) where
-  buffer-part : Part od n 8192 (8192 + bufferSize od) (λ i. ahead od (i - 8192) + (i - 8192))
+module _ (od : List ℕ) (n : ℕ) (p : Placed od n (bufferSize od)) (few : n ≤ 8192) (room : n + 257 ≤ length od) where
+  buffer-part : Part od n 0 (bufferSize od) (λ i. ahead od i + i)
   unfolding buffered
   buffer-part =
       record {
         order = omega arith;
         most = omega (arith, p .few);
-        is = λ i g h.
-            let z : 8192 + (i - 8192) ≡ i = omega arith in
-            buffer-at od n (bufferSize od) p (i - 8192) (omega arith) ∙ ap (λ (k : ℕ). getD od k 0) z;
-        inside = λ i g h. omega (arith, p .fits (i - 8192) (omega arith));
-        up = λ i j g h l. omega (arith, p .rising (i - 8192) (j - 8192) (omega arith) (omega arith));
+        room = omega (arith, p .few);
+        is = λ i g h. buffer-at od n (bufferSize od) p i h;
+        inside = λ i g h. omega (arith, p .fits i h);
+        up = λ i j g h l. omega (arith, p .rising i j (omega arith) l);
       }
 
-  main-part : (j : ℕ) → j ≤ bufferSize od → Part od n (lowOf od j) (highOf od (n - bufferSize od) (bufferSize od) j) (λ i. i + j)
+  main-part : (j : ℕ) → j ≤ bufferSize od → Part od n (257 + lowOf od j) (257 + highOf od (n - bufferSize od) (bufferSize od) j) (λ i. i - 257 + j)
   main-part j l =
       record {
-        order = low-high od n (bufferSize od) p j l;
+        order = omega (arith, low-high od n (bufferSize od) p j l);
         most = omega (arith, high-most od n (bufferSize od) p j l);
-        is = λ i g h. main-between od n (bufferSize od) p i j l g h;
+        room = omega (arith, high-most od n (bufferSize od) p j l);
+        is = λ i g h.
+            let z : 257 + (i - 257) ≡ i = omega arith in
+            main-between od n (bufferSize od) p (i - 257) j l (omega arith) (omega arith) ∙ ap (λ (k : ℕ). getD od k 0) z;
         inside = λ i g h. omega (arith, high-most od n (bufferSize od) p j l, p .inside);
         up = λ i k g h m. omega arith;
       }
@@ -56,7 +60,7 @@ module _ (ts : List (List ℕ)) (od : List ℕ) (n : ℕ) (s : Sorted ts od n) w
     part-run : Run ts od a e
     part-run =
         record {
-          room = s .roomy .room;
+          room = p .room;
           order = p .order;
           inside = p .most;
           known = λ i g h. rw (← (p .is i g h)) (s .known (to i) (p .inside i g h));
@@ -79,11 +83,14 @@ module _ (ts : List (List ℕ)) (od : List ℕ) (n : ℕ) (s : Sorted ts od n) w
         }
 
   module _ (few : n ≤ 8192) where
-    pub buffer-run : Run ts od 8192 (8192 + bufferSize od)
-    buffer-run = part-run _ _ _ (buffer-part od n (s .roomy .placed) few)
+    fits-in : n + 257 ≤ length od
+    fits-in = omega (arith, sorted-most ts od n s, s .room)
 
-    pub main-run : (j : ℕ) → j ≤ bufferSize od → Run ts od (lowOf od j) (highOf od (n - bufferSize od) (bufferSize od) j)
-    main-run j l = part-run _ _ _ (main-part od n (s .roomy .placed) few j l)
+    pub buffer-run : Run ts od 0 (bufferSize od)
+    buffer-run = part-run _ _ _ (buffer-part od n (s .roomy .placed) few fits-in)
+
+    pub main-run : (j : ℕ) → j ≤ bufferSize od → Run ts od (257 + lowOf od j) (257 + highOf od (n - bufferSize od) (bufferSize od) j)
+    main-run j l = part-run _ _ _ (main-part od n (s .roomy .placed) few fits-in j l)
 
     pub low-few : (j : ℕ) → j ≤ bufferSize od → lowOf od j ≤ 8192
     low-few j l = omega (arith, low-high od n _ (s .roomy .placed) j l, high-most od n _ (s .roomy .placed) j l)
@@ -92,8 +99,8 @@ module _ (ts : List (List ℕ)) (od : List ℕ) (n : ℕ) (s : Sorted ts od n) w
     high-few j l = omega (arith, high-most od n _ (s .roomy .placed) j l)
 
     -- x comes behind j of the buffer and i of the main list
-    module _ (x : List ℕ) (j i : ℕ) (l : j ≤ bufferSize od) (u : Splits ts od 8192 (8192 + bufferSize od) x (8192 + j))
-        (v : Splits ts od (lowOf od j) (highOf od (n - bufferSize od) (bufferSize od) j) x i) where
+    module _ (x : List ℕ) (j i : ℕ) (l : j ≤ bufferSize od) (u : Splits ts od 0 (bufferSize od) x j)
+        (v : Splits ts od (257 + lowOf od j) (257 + highOf od (n - bufferSize od) (bufferSize od) j) x (257 + i)) where
       p : Placed od n (bufferSize od)
       p = s .roomy .placed
 
@@ -106,10 +113,10 @@ module _ (ts : List (List ℕ)) (od : List ℕ) (n : ℕ) (s : Sorted ts od n) w
             above = λ t g h. omega (arith, v .inside, high-below od n (bufferSize od) p j t g h);
           }
 
-      main-text : (q : ℕ) → lowOf od j ≤ q → q < highOf od (n - bufferSize od) (bufferSize od) j → textAt ts od (q + j) ≡ textIn ts od q
-      main-text = text-is _ _ _ (main-part od n p few j l)
+      main-text : (q : ℕ) → lowOf od j ≤ q → q < highOf od (n - bufferSize od) (bufferSize od) j → textAt ts od (q + j) ≡ textIn ts od (257 + q)
+      main-text q g h = ap (λ (k : ℕ). getD ts k []) (main-between od n (bufferSize od) p q j l g h)
 
-      buffer-text : (t : ℕ) → t < bufferSize od → textAt ts od (ahead od t + t) ≡ textIn ts od (8192 + t)
+      buffer-text : (t : ℕ) → t < bufferSize od → textAt ts od (ahead od t + t) ≡ textIn ts od t
       unfolding buffered
       buffer-text t h = ap (λ (k : ℕ). getD ts k []) (buffer-at od n (bufferSize od) p t h)
 
@@ -119,23 +126,23 @@ module _ (ts : List (List ℕ)) (od : List ℕ) (n : ℕ) (s : Sorted ts od n) w
       before-low zero q z y h = absurd (omega arith)
       before-low (suc t) q z y h =
           let w : q ≡ ahead od t + t = omega (arith, fits .below t (omega arith)) in
-          rw (w, buffer-text t (omega arith)) (u .below (8192 + t) (omega arith) (omega arith))
+          rw (w, buffer-text t (omega arith)) (u .below t (omega arith) (omega arith))
 
       just-before : (q : ℕ) → q + 1 ≡ i + j → ordering (textAt ts od q) x ≡ Less
       just-before q y =
           by-order (lowOf od j) i
           (λ h. let w : q ≡ i - 1 + j = omega arith in
-          rw (w, main-text (i - 1) (omega arith) (omega (arith, v .inside))) (v .below (i - 1) (omega arith) (omega arith)))
+          rw (w, main-text (i - 1) (omega arith) (omega (arith, v .inside))) (v .below (257 + (i - 1)) (omega arith) (omega arith)))
           (λ h. before-low j q refl y h)
 
       -- the string behind it
       just-behind : i + j < n → ordering x (textAt ts od (i + j)) ≡ Less
       just-behind m =
           by-order i (highOf od (n - bufferSize od) (bufferSize od) j)
-          (λ h. rw (main-text i (v .from) h) (v .above i (omega arith) h))
+          (λ h. rw (main-text i (omega (arith, v .from)) h) (v .above (257 + i) (omega arith) (omega arith)))
           (λ h. by-order j (bufferSize od)
           (λ g. let w : i ≡ ahead od j = omega (arith, v .inside, high-inner od n (bufferSize od) p j g) in
-          rw (w, buffer-text j g) (u .above (8192 + j) (omega arith) (omega arith)))
+          rw (w, buffer-text j g) (u .above j (omega arith) g))
           (λ g. absurd (omega (arith, high-outer od n (bufferSize od) p j (omega arith), p .inside))))
 
       between : Between ts od n x (i + j)
@@ -152,27 +159,30 @@ module _ (ts : List (List ℕ)) (od : List ℕ) (n : ℕ) (s : Sorted ts od n) w
                 (λ f. let w : q ≡ i + j = omega arith in rw w (just-behind (omega arith)));
           }
 
-    module _ (x : List ℕ) (r : Place) (f : Located ts od 8192 (8192 + bufferSize od) x r) where
+    module _ (x : List ℕ) (r : Place) (f : Located ts od 0 (bufferSize od) x r) where
       pub buffer-seen : (k : ℕ) → r ≡ Seen k → Finds ts od n x (Known k)
-      buffer-seen = part-seen _ _ _ (buffer-part od n (s .roomy .placed) few) x r f
+      buffer-seen = part-seen _ _ _ (buffer-part od n (s .roomy .placed) few fits-in) x r f
 
       module _ (q : ℕ) (e : r ≡ Free q) where
-        in-buffer : Splits ts od 8192 (8192 + bufferSize od) x q
+        in-buffer : Splits ts od 0 (bufferSize od) x q
         in-buffer = (rw e at f) .is
 
-        pub from-buffer : 8192 ≤ q
-        from-buffer = in-buffer .from
+        pub to-buffer : q ≤ bufferSize od
+        to-buffer = in-buffer .inside
 
-        pub to-buffer : q - 8192 ≤ bufferSize od
-        to-buffer = omega (arith, in-buffer .from, in-buffer .inside)
-
-        module _ (r′ : Place) (f′ : Located ts od (lowOf od (q - 8192)) (highOf od (n - bufferSize od) (bufferSize od) (q - 8192)) x r′) where
+        module _ (r′ : Place) (f′ : Located ts od (257 + lowOf od q) (257 + highOf od (n - bufferSize od) (bufferSize od) q) x r′) where
           pub main-seen : (k : ℕ) → r′ ≡ Seen k → Finds ts od n x (Known k)
-          main-seen = part-seen _ _ _ (main-part od n (s .roomy .placed) few (q - 8192) to-buffer) x r′ f′
+          main-seen = part-seen _ _ _ (main-part od n (s .roomy .placed) few fits-in q to-buffer) x r′ f′
 
-          pub main-free : (i : ℕ) → r′ ≡ Free i → Finds ts od n x (New i (q - 8192))
-          main-free i e′ =
-              let z : q ≡ 8192 + (q - 8192) = omega (arith, from-buffer) in
-              let u = subst (λ (k : ℕ). Splits ts od 8192 (8192 + bufferSize od) x k) z in-buffer in
-              let v = (rw e′ at f′) .is in
-              record { is = (fits x (q - 8192) i to-buffer u v, between x (q - 8192) i to-buffer u v) }
+          module _ (i : ℕ) (e′ : r′ ≡ Free i) where
+            in-main : Splits ts od (257 + lowOf od q) (257 + highOf od (n - bufferSize od) (bufferSize od) q) x i
+            in-main = (rw e′ at f′) .is
+
+            pub from-main : 257 ≤ i
+            from-main = omega (arith, in-main .from)
+
+            pub main-free : Finds ts od n x (New (i - 257) q)
+            main-free =
+                let z : i ≡ 257 + (i - 257) = omega (arith, from-main) in
+                let v = subst (Splits ts od (257 + lowOf od q) (257 + highOf od (n - bufferSize od) (bufferSize od) q) x) z in-main in
+                record { is = (fits x q (i - 257) to-buffer in-buffer v, between x q (i - 257) to-buffer in-buffer v) }

@@ -7,7 +7,7 @@ use native.Mathlib.Nat.{not-suc-le-zero}
 use lib.ListN.{getD}
 use borrow.Author.Tests.{lt-ltb, le-ltb, eq-eqb, ne-eqb}
 use Rattle.base.proofs.Tests.{by-order}
-use Rattle.ids.specs.Layout.{buffered, ahead, numberIn, Placed, lowOf, highOf}
+use Rattle.ids.specs.Layout.{mainNumber, buffered, ahead, numberIn, Placed, lowOf, highOf}
 
 -- the last of the buffer's first numbers, and what stands before and behind it
 module _ (od : List ℕ) (j i : ℕ) where
@@ -19,14 +19,14 @@ module _ (od : List ℕ) (j i : ℕ) where
   unfolding numberIn
   in-place h = rw (le-ltb i (ahead od j + j) (omega arith), eq-eqb i (ahead od j + j) h)
 
-  pub behind : ahead od j + j < i → numberIn od (suc j) i ≡ getD od (i - suc j) 0
+  pub behind : ahead od j + j < i → numberIn od (suc j) i ≡ mainNumber od (i - suc j)
   unfolding numberIn
   behind h = rw (le-ltb i (ahead od j + j) (omega arith), ne-eqb i (ahead od j + j) (λ e. omega arith))
 
 -- behind all of the first j
-pub behind-all : (od : List ℕ) (j i : ℕ) → ((t : ℕ) → t < j → ahead od t + t < i) → numberIn od j i ≡ getD od (i - j) 0
+pub behind-all : (od : List ℕ) (j i : ℕ) → ((t : ℕ) → t < j → ahead od t + t < i) → numberIn od j i ≡ mainNumber od (i - j)
 unfolding numberIn
-behind-all od zero i h = let e : i ≡ i - 0 = omega arith in ap (λ (q : ℕ). getD od q 0) e
+behind-all od zero i h = let e : i ≡ i - 0 = omega arith in ap (mainNumber od) e
 behind-all od (suc j) i h = behind od j i (h j (omega arith))
 
 -- before all of those from j on
@@ -46,12 +46,12 @@ module _ (od : List ℕ) (n b : ℕ) (p : Placed od n b) where
 
   -- a number of the main list, behind j of the buffer
   pub main-at : (i j : ℕ) → j ≤ b → ((t : ℕ) → t < j → ahead od t ≤ i) → ((t : ℕ) → j ≤ t → t < b → i < ahead od t)
-      → numberIn od b (i + j) ≡ getD od i 0
+      → numberIn od b (i + j) ≡ mainNumber od i
   main-at i j l lo hi =
       let e : i + j - j ≡ i = omega arith in
       in-front-all od b j (i + j) l (λ t g h. omega (arith, hi t g h))
       ∙ behind-all od j (i + j) (λ t h. omega (arith, lo t h))
-      ∙ ap (λ (q : ℕ). getD od q 0) e
+      ∙ ap (mainNumber od) e
 
   -- the places of the main list between two of the buffer
   pub low-above : (j t : ℕ) → j ≤ b → t < j → ahead od t ≤ lowOf od j
@@ -85,7 +85,7 @@ module _ (od : List ℕ) (n b : ℕ) (p : Placed od n b) where
       (λ h. omega (arith, high-outer (suc j) (omega arith), p .fits j (omega arith)))
 
   -- a number of the main list between two of the buffer
-  pub main-between : (i j : ℕ) → j ≤ b → lowOf od j ≤ i → i < highOf od (n - b) b j → numberIn od b (i + j) ≡ getD od i 0
+  pub main-between : (i j : ℕ) → j ≤ b → lowOf od j ≤ i → i < highOf od (n - b) b j → numberIn od b (i + j) ≡ mainNumber od i
   main-between i j l lo hi = main-at i j l (λ t h. omega (arith, low-above j t l h)) (λ t g h. omega (arith, high-below j t g h))
 
 -- what the code reads
@@ -93,15 +93,15 @@ pub low-none : (od : List ℕ) (j : ℕ) → j ≡ 0 → 0 ≡ lowOf od j
 unfolding lowOf
 low-none od j e = ap (lowOf od) (sym e)
 
-pub low-read : (od : List ℕ) (j : ℕ) → (j ≡ 0 → ⊥) → getD od (8319 + j) 0 ≡ lowOf od j
+pub low-read : (od : List ℕ) (j : ℕ) → (j ≡ 0 → ⊥) → getD od (127 + j) 0 ≡ lowOf od j
 unfolding lowOf ahead
 low-read od zero n = absurd (n refl)
-low-read od (suc j) n = let e : 8319 + suc j ≡ 8320 + j = omega arith in ap (λ (q : ℕ). getD od q 0) e
+low-read od (suc j) n = let e : 127 + suc j ≡ 128 + j = omega arith in ap (λ (q : ℕ). getD od q 0) e
 
 pub high-end : (od : List ℕ) (m b j : ℕ) → j ≡ b → m ≡ highOf od m b j
 unfolding highOf
 high-end od m b j e = rw (eq-eqb j b e)
 
-pub high-read : (od : List ℕ) (m b j : ℕ) → (j ≡ b → ⊥) → getD od (8320 + j) 0 ≡ highOf od m b j
+pub high-read : (od : List ℕ) (m b j : ℕ) → (j ≡ b → ⊥) → getD od (128 + j) 0 ≡ highOf od m b j
 unfolding highOf ahead
 high-read od m b j n = rw (ne-eqb j b n)

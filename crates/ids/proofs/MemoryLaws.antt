@@ -72,30 +72,31 @@ pub sorted-most : (ts : List (List ℕ)) (od : List ℕ) (n : ℕ) → Sorted ts
 sorted-most ts od n s = omega (arith, s .few, howMany-most ts (textsOf ts od n))
 
 -- no place stands for no string
-pub sorted-none : (ts : List (List ℕ)) (od : List ℕ) → Roomy od 0 → Sorted ts od 0
-sorted-none ts od r =
+pub sorted-none : (ts : List (List ℕ)) (od : List ℕ) → length ts + 257 ≤ length od → Roomy od 0 → Sorted ts od 0
+sorted-none ts od l r =
     record {
+      room = l;
       roomy = r;
       known = λ i l. absurd (not-suc-le-zero l);
       rising = λ i j l m. absurd (not-suc-le-zero m);
       few = omega arith;
     }
 
-pub keeps-none : (ts : List (List ℕ)) (od : List ℕ) → Roomy od 0 → Keeps ts od 0 []
+pub keeps-none : (ts : List (List ℕ)) (od : List ℕ) → length ts + 257 ≤ length od → Roomy od 0 → Keeps ts od 0 []
 unfolding textsOf
-keeps-none ts od r = record { sorted = sorted-none ts od r; same = λ x. refl }
+keeps-none ts od l r = record { sorted = sorted-none ts od l r; same = λ x. refl }
 
 -- an array of zeros
-pub keeps-start : (ts : List (List ℕ)) → Keeps ts (replicate 8449 0) 0 []
-keeps-start ts =
-    keeps-none ts (replicate 8449 0)
-    (roomy-none (replicate 8449 0) 0 (length-replicate {A = ℕ} 8449 0) (getD-replicate {A = ℕ} 8449 8448 0 0 (omega arith)))
+pub keeps-start : (ts : List (List ℕ)) (m : ℕ) → length ts + 257 ≤ m → Keeps ts (replicate m 0) 0 []
+keeps-start ts m l =
+    keeps-none ts (replicate m 0) (omega (arith, length-replicate {A = ℕ} m 0))
+    (roomy-none (replicate m 0) 0 (getD-replicate {A = ℕ} m 256 0 0 (omega arith)))
 
 -- an array that stands for no string of a pool stands for none of another
-pub keeps-again : (ts us : List (List ℕ)) (od : List ℕ) (n : ℕ) → Keeps ts od n [] → Keeps us od 0 []
+pub keeps-again : (ts us : List (List ℕ)) (od : List ℕ) (n : ℕ) → length us + 257 ≤ length od → Keeps ts od n [] → Keeps us od 0 []
 unfolding among textsOf
-keeps-again ts us od zero m = keeps-none us od (m .sorted .roomy)
-keeps-again ts us od (suc n) m = never (among-at ts od (suc n) n (textAt ts od n) (omega arith) refl) (sym (m .same (textAt ts od n)))
+keeps-again ts us od zero l m = keeps-none us od l (m .sorted .roomy)
+keeps-again ts us od (suc n) l m = never (among-at ts od (suc n) n (textAt ts od n) (omega arith) refl) (sym (m .same (textAt ts od n)))
 
 -- the number k of x, put at its place p
 module _ (ts : List (List ℕ)) (od od′ : List ℕ) (n p k : ℕ) (s : Sorted ts od n) (b : Between ts od n (getD ts k []) p)
@@ -168,6 +169,7 @@ module _ (ts : List (List ℕ)) (od od′ : List ℕ) (n p k : ℕ) (s : Sorted 
   pub inserted-sorted : Sorted ts od′ (suc n)
   inserted-sorted =
       record {
+        room = omega (arith, t .room, s .room);
         roomy = t .roomy;
         known = λ i h.
             by-number (λ j. j < length ts) i h

@@ -5,13 +5,13 @@ use Prim.Native.Nat.{ℕ, suc, _+_, _-_, _≤_, _<_}
 use native.Mathlib.Omega.{arith}
 use lib.ListN.{length, getD, set, length-set}
 use lib.Seq.{getD-set-same, getD-set-other}
-use Rattle.ids.specs.Layout.{ahead, bufferSize, numberIn, numberAt, Placed, Fits}
+use Rattle.ids.specs.Layout.{mainNumber, ahead, bufferSize, numberIn, numberAt, Placed, Fits}
 use Rattle.ids.specs.Parts.{Buffered, Merged}
 use Rattle.ids.specs.Memory.{Roomy, Added}
 use Rattle.ids.proofs.BufferLaws.{put-below, put-here, put-above, put-placed}
 
 -- with nothing in the buffer the list is the main list
-pub main-only : (od : List ℕ) (i : ℕ) → bufferSize od ≡ 0 → numberAt od i ≡ getD od i 0
+pub main-only : (od : List ℕ) (i : ℕ) → bufferSize od ≡ 0 → numberAt od i ≡ mainNumber od i
 unfolding numberIn
 main-only od i e = ap (λ (b : ℕ). numberIn od b i) e
 
@@ -24,25 +24,29 @@ placed-none od n b e =
       rising = λ i j l m. absurd (omega arith);
     }
 
-pub roomy-none : (od : List ℕ) (n : ℕ) → length od ≡ 8449 → bufferSize od ≡ 0 → Roomy od n
-roomy-none od n r e = record { room = r; free = omega arith; placed = placed-none od n _ e }
+pub roomy-none : (od : List ℕ) (n : ℕ) → bufferSize od ≡ 0 → Roomy od n
+roomy-none od n e = record { free = omega arith; placed = placed-none od n _ e }
 
-module _ (od : List ℕ) (n i j k : ℕ) (r : Roomy od n) (f : Fits od n i j) (l : n < 8192) where
+module _ (od : List ℕ) (n i j k : ℕ) (r : Roomy od n) (f : Fits od n i j) (l : n + 257 < length od) where
   -- at the end of the main list
   module _ (none : bufferSize od ≡ 0) (last : i ≡ n) where
-    none′ : bufferSize (set od n k) ≡ 0
-    none′ = getD-set-other od n 8448 k 0 (λ e. omega arith) ∙ none
+    abbrev put : List ℕ
+    put = set od (257 + n) k
+
+    none′ : bufferSize put ≡ 0
+    none′ = getD-set-other od (257 + n) 256 k 0 (λ e. omega arith) ∙ none
 
     end : i + j ≡ n
     end = omega (arith, f .few)
 
-    pub added-last : Added od n (i + j) k (set od n k)
+    pub added-last : Added od n (i + j) k put
     added-last =
         record {
-          roomy = roomy-none (set od n k) (suc n) (length-set od n k ∙ r .room) none′;
+          room = length-set od (257 + n) k;
+          roomy = roomy-none put (suc n) none′;
           below = λ q h.
-              main-only (set od n k) q none′ ∙ getD-set-other od n q k 0 (λ e. omega (arith, end)) ∙ sym (main-only od q none);
-          here = main-only (set od n k) (i + j) none′ ∙ ap (λ (q : ℕ). getD (set od n k) q 0) end ∙ getD-set-same od n k 0 (omega (arith, r .room));
+              main-only put q none′ ∙ getD-set-other od (257 + n) (257 + q) k 0 (λ e. omega (arith, end)) ∙ sym (main-only od q none);
+          here = main-only put (i + j) none′ ∙ ap (mainNumber put) end ∙ getD-set-same od (257 + n) k 0 (omega arith);
           above = λ q g h. absurd (omega (arith, end));
         }
 
@@ -66,32 +70,32 @@ module _ (od : List ℕ) (n i j k : ℕ) (r : Roomy od n) (f : Fits od n i j) (l
         subst (Placed od′ (n - b + 128)) z (subst (λ (q : ℕ). Placed od′ q (suc b)) y buffer-placed)
 
     -- whichever array holds the list with the fuller buffer
-    module _ (od″ : List ℕ) (s : Roomy od″ (suc n)) (same : (q : ℕ) → q < suc n → numberAt od″ q ≡ numberIn od′ (suc b) q) where
+    module _ (od″ : List ℕ) (r″ : length od″ ≡ length od) (s : Roomy od″ (suc n)) (same : (q : ℕ) → q < suc n → numberAt od″ q ≡ numberIn od′ (suc b) q) where
       before : (q : ℕ) → numberIn od b q ≡ numberAt od q
       before q = ap (λ (c : ℕ). numberIn od c q) size
 
       added : Added od n (i + j) k od″
       added =
           record {
+            room = r″;
             roomy = s;
             below = λ q h.
                 same q (omega (arith, f .inside, f .few))
-                ∙ put-below od od′ b i j k w lower upper b q (omega (arith, f .few)) (omega arith) (omega (arith, f .inside, f .few)) h
+                ∙ put-below od od′ b i j k w lower upper b q (omega (arith, f .few)) (omega arith) h
                 ∙ before q;
             here =
                 same (i + j) (omega (arith, f .inside, f .few))
                 ∙ put-here od od′ b i j k w lower upper b (omega (arith, f .few)) (omega arith);
             above = λ q g h.
                 same (q + 1) (omega arith)
-                ∙ put-above od od′ b i j k w lower upper b q (omega (arith, f .few)) (omega arith) (omega arith) g
+                ∙ put-above od od′ b i j k w lower upper b q (omega (arith, f .few)) (omega arith) g
                 ∙ before q;
           }
 
     pub added-buffered : (b ≡ 127 → ⊥) → Added od n (i + j) k od′
     added-buffered free =
-        added od′
+        added od′ (w .room)
         record {
-          room = w .room;
           free = omega (arith, w .size, r .free);
           placed = rw (w .size) buffer-placed;
         }
@@ -100,5 +104,5 @@ module _ (od : List ℕ) (n i j k : ℕ) (r : Roomy od n) (f : Fits od n i j) (l
     pub added-merged : (od″ : List ℕ) → b ≡ 127 → Merged od′ (n - b + 128) 128 od″ → Added od n (i + j) k od″
     added-merged od″ full g =
         let z : suc b ≡ 128 = omega arith in
-        added od″ (roomy-none od″ (suc n) (g .room) (g .size))
+        added od″ (g .room ∙ w .room) (roomy-none od″ (suc n) (g .size))
         (λ q h. main-only od″ q (g .size) ∙ g .is q (omega (arith, r .placed .inside)) ∙ sym (ap (λ (c : ℕ). numberIn od′ c q) z))

@@ -1,5 +1,5 @@
--- How an array of 8,449 numbers holds a list: the main list stands from the place 0 on; the numbers that were put among them since, the
--- buffer, from 8,192 on; for each of these how many of the main list come before it, from 8,320 on; and at 8,448 how many are in the buffer.
+-- How an array of numbers holds a list: the main list stands from the place 257 on; the numbers that were put among them since, the
+-- buffer, from 0 on; for each of these how many of the main list come before it, from 128 on; and at 256 how many are in the buffer.
 -- The code's way: internal functions alone use it.
 use Prim.Native.Nat.{ℕ, zero, suc, _+_, _-_, _≤_, _<_}
 use mathlib.Core.List.{List}
@@ -7,22 +7,26 @@ use lib.ListN.{getD}
 use lib.Dec.{ltb, eqb}
 use Rattle.base.specs.Pick.{pick}
 
+-- the number at the place i of the main list
+abbrev pub mainNumber : List ℕ → ℕ → ℕ
+mainNumber od i = getD od (257 + i) 0
+
 -- the number at the place j of the buffer
 unfoldable pub buffered : List ℕ → ℕ → ℕ
-buffered od j = getD od (8192 + j) 0
+buffered od j = getD od j 0
 
 -- how many of the main list come before it
 unfoldable pub ahead : List ℕ → ℕ → ℕ
-ahead od j = getD od (8320 + j) 0
+ahead od j = getD od (128 + j) 0
 
 abbrev pub bufferSize : List ℕ → ℕ
-bufferSize od = getD od 8448 0
+bufferSize od = getD od 256 0
 
 -- the number at the place i of the main list with the first b of the buffer among it: the last of these stands behind as many as are ahead
 -- of it, and the b - 1 others
 unfoldable pub numberIn : List ℕ → ℕ → ℕ → ℕ
-numberIn od zero i = getD od i 0
-numberIn od (suc b) i = pick (ltb i (ahead od b + b)) (numberIn od b i) (pick (eqb i (ahead od b + b)) (buffered od b) (getD od (i - suc b) 0))
+numberIn od zero i = mainNumber od i
+numberIn od (suc b) i = pick (ltb i (ahead od b + b)) (numberIn od b i) (pick (eqb i (ahead od b + b)) (buffered od b) (mainNumber od (i - suc b)))
 
 -- the number at the place i of the list
 abbrev pub numberAt : List ℕ → ℕ → ℕ

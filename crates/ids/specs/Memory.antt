@@ -27,14 +27,14 @@ unfoldable pub howMany : List (List ℕ) → List (List ℕ) → ℕ
 howMany [] xs = 0
 howMany (t ∷ ts) xs = pick (among t xs) 1 0 + howMany ts xs
 
--- the array is of its length, and its buffer is not full
+-- the buffer is not full
 pub record Roomy (od : List ℕ) (n : ℕ) : Type 0 where
-  pub room : length od ≡ 8449
   pub free : bufferSize od < 128
   pub placed : Placed od n (bufferSize od)
 
--- od holds n numbers of the strings ts, in the order of these; no two are equal, so n of ts at least are among them
+-- od has room for the strings ts and holds n numbers of them, in the order of these; no two are equal, so n of ts at least are among them
 pub record Sorted (ts : List (List ℕ)) (od : List ℕ) (n : ℕ) : Type 0 where
+  pub room : length ts + 257 ≤ length od
   pub roomy : Roomy od n
   pub known : (i : ℕ) → i < n → numberAt od i < length ts
   pub rising : (i j : ℕ) → i < j → j < n → ordering (textAt ts od i) (textAt ts od j) ≡ Less
@@ -73,6 +73,7 @@ pub record Finds (ts : List (List ℕ)) (od : List ℕ) (n : ℕ) (x : List ℕ)
 
 -- k stands at the place p of the list, and the numbers from there up to n one higher
 pub record Added (od : List ℕ) (n p k : ℕ) (od′ : List ℕ) : Type 0 where
+  pub room : length od′ ≡ length od
   pub roomy : Roomy od′ (suc n)
   pub below : (i : ℕ) → i < p → numberAt od′ i ≡ numberAt od i
   pub here : numberAt od′ p ≡ k

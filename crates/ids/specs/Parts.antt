@@ -5,7 +5,7 @@ use mathlib.Core.List.{List, []}
 use lib.ListN.{length, getD}
 use Rattle.string_order.specs.Order.{ordering}
 use Rattle.string_order.specs.declared.Ordering.the-variants.{Less}
-use Rattle.ids.specs.Layout.{buffered, ahead, bufferSize, numberIn}
+use Rattle.ids.specs.Layout.{mainNumber, buffered, ahead, bufferSize, numberIn}
 use Rattle.ids.specs.declared.Place.{Place}
 use Rattle.ids.specs.declared.Place.the-variants.{Seen, Free}
 
@@ -15,9 +15,9 @@ textIn ts od i = getD ts (getD od i 0) []
 
 -- the strings whose numbers stand from the place a up to e are in order
 pub record Run (ts : List (List ℕ)) (od : List ℕ) (a e : ℕ) : Type 0 where
-  pub room : length od ≡ 8449
+  pub room : e ≤ length od
   pub order : a ≤ e
-  pub inside : e ≤ 8320
+  pub inside : e ≤ 8449
   pub known : (i : ℕ) → a ≤ i → i < e → getD od i 0 < length ts
   pub rising : (i j : ℕ) → a ≤ i → i < j → j < e → ordering (textIn ts od i) (textIn ts od j) ≡ Less
 
@@ -66,14 +66,14 @@ pub record Wider (f : ℕ → ℕ) (b j k : ℕ) (f′ : ℕ → ℕ) : Type 0 w
 
 -- k stands at the place j of the buffer, behind i of the main list
 pub record Buffered (od : List ℕ) (b i j k : ℕ) (od′ : List ℕ) : Type 0 where
-  pub room : length od′ ≡ 8449
+  pub room : length od′ ≡ length od
   pub size : bufferSize od′ ≡ suc b
-  pub main : (q : ℕ) → q < 8192 → getD od′ q 0 ≡ getD od q 0
+  pub main : (q : ℕ) → mainNumber od′ q ≡ mainNumber od q
   pub numbers : Wider (buffered od) b j k (buffered od′)
   pub places : Wider (ahead od) b j i (ahead od′)
 
 -- all n numbers are in the main list
 pub record Merged (od : List ℕ) (n b : ℕ) (od′ : List ℕ) : Type 0 where
-  pub room : length od′ ≡ 8449
+  pub room : length od′ ≡ length od
   pub size : bufferSize od′ ≡ 0
-  pub is : (i : ℕ) → i < n → getD od′ i 0 ≡ numberIn od b i
+  pub is : (i : ℕ) → i < n → mainNumber od′ i ≡ numberIn od b i

@@ -16,8 +16,8 @@ use Rattle.transitions.specs.Transition.{readMoment}
 use Rattle.places.specs.Placed.{at, Stands}
 use Rattle.places.specs.Short.{twoBytes, instantAfter, shortAt, Short}
 use Rattle.places.proofs.ShortLaws.{reads, hours-are, details-mean}
-use Rattle.long_starts.specs.Long.{startSize}
-use Rattle.long_starts.proofs.LongLaws.{size-least}
+use Rattle.places.specs.Long.{startSize}
+use Rattle.places.proofs.LongLaws.{size-least}
 use Rattle.pieces.specs.Form.{codePreferred}
 use Rattle.pieces.proofs.CodeLaws.{both-true, short-preferred}
 use Rattle.intervals.specs.declared.Interval.{Interval}

@@ -19,8 +19,8 @@ use Rattle.transitions.specs.Later.{Later, laterIn}
 use Rattle.transitions.proofs.MomentLaws.{renewed, Preferred, Longer}
 use Rattle.transitions.proofs.LaterLaws.{later-of}
 use Rattle.places.specs.Short.{twoBytes, shortDetails}
-use Rattle.long_starts.specs.Long.{startSize}
-use Rattle.long_starts.proofs.LongLaws.{size-least, size-two}
+use Rattle.places.specs.Long.{startSize}
+use Rattle.places.proofs.LongLaws.{size-least, size-two}
 use Rattle.pieces.specs.Form.{codePreferred}
 use Rattle.intervals.specs.Short.{shortOk}
 use Rattle.interval_runs.specs.declared.Run.{Run}

@@ -7,6 +7,7 @@ use native.Mathlib.Nat.{mul-le-mul-left, div-add-mod', mod-lt}
 use native.Mathlib.Omega.{arith}
 use lib.ListN.{length, take, drop, getD, length-drop}
 use lib.Seq.{drop-drop, getD-drop}
+use Rattle.base.specs.Parsed.{parse}
 use Rattle.base.specs.Moment.{Finite, lastInstant}
 use Rattle.base.proofs.Tests.{both-left, both-right}
 use Rattle.base.proofs.Parts.{part-from}
@@ -17,9 +18,12 @@ use Rattle.counts.proofs.FixedLaws.{eight-is}
 use Rattle.transitions.specs.Transition.{readMoment}
 use Rattle.transitions.specs.Later.{laterIn}
 use Rattle.transitions.proofs.LaterLaws.{later-is}
+use Rattle.transitions.proofs.MomentLaws.{ticks-read}
+use Rattle.places.specs.Placed.{at, Stands}
 use Rattle.places.specs.Short.{shortDetails}
+use Rattle.places.proofs.ShortLaws.{reads}
 use Rattle.intervals.specs.Short.{shortOk}
-use Rattle.long_starts.specs.Long.{startSize}
+use Rattle.places.specs.Long.{startSize}
 use Rattle.interval_runs.specs.declared.Run.{Run}
 use Rattle.interval_runs.specs.Run.{detailsAt, SameDetails, longStepOf, runAt, Passed, Fitting, TicksAt, TicksStep}
 use Rattle.interval_runs.proofs.StepLaws.{long-unasked, passed-start, passed-long}
@@ -46,6 +50,15 @@ module _ (s : List ℕ) (place high low : ℕ) (w : place + 8 ≤ length s) (e :
       → TicksAt s place (high * 4294967296 + low - 17699160297709551616)
   ticks-before a b l =
       record { to = λ i. raw-early (high * 4294967296 + low) (omega arith) (omega (arith, i .low)) ∙ ap fromRaw (eight-is s place w high low e f) }
+
+-- a transition in ticks at a place
+pub ticks-stand : (prev : ℕ) (s : List ℕ) (place t : ℕ) → place ≤ length s → 9 ≤ length s - place → getD s place 0 ≡ 2 → TicksAt s (place + 1) t → Finite t
+    → Stands s (parse (readMoment prev) (drop place s)) (at t (place + 9))
+ticks-stand prev s place t p w b a f =
+    let k : place + 0 ≡ place = omega arith in
+    let e : t ≡ fromRaw (fixedFrom 8 0 (drop 1 (drop place s))) = rw drop-drop (a .to f) in
+    reads (readMoment prev) s place t 9
+    (ticks-read prev (drop place s) t (rw length-drop w) (rw (getD-drop place s 0 0, k) b) e (λ z. omega (arith, f .low))) (omega arith)
 
 -- a step
 pub no-ticks : (s : List ℕ) (pool place prev : ℕ) → TicksStep s pool place prev 0

@@ -13,7 +13,7 @@ use Rattle.signed.specs.Instant.{fromRaw}
 use Rattle.transitions.specs.Transition.{hour, readMoment}
 use Rattle.transitions.specs.Later.{laterIn}
 use Rattle.places.specs.Short.{twoBytes, shortDetails}
-use Rattle.long_starts.specs.Long.{startSize}
+use Rattle.places.specs.Long.{startSize}
 use Rattle.pieces.specs.Form.{codePreferred}
 use Rattle.intervals.specs.Short.{shortOk}
 use Rattle.interval_runs.specs.declared.Run.{Run}

@@ -3,14 +3,45 @@
 use base::END;
 use base::FIRST;
 use base::LAST;
+use intervals::Interval;
 use transitions::HOUR;
 ghost use mathlib.Core.Path.{_≡_};
-ghost use mathlib.Core.Bool.{true, false};
-ghost use Prim.Native.Nat.{_+_, _-_, _≤_, _<_};
+ghost use Prim.Native.Nat.{_+_, _≤_, _-_, _<_};
 ghost use lib.ListN.{length};
+ghost use Rattle.intervals.specs.Short.{shortInterval, shortOk};
+ghost use mathlib.Core.Bool.{true, false};
 ghost use Rattle.base.specs.Moment.{Finite, lastInstant};
-ghost use Rattle.long_starts.specs.Long.{startSize};
+ghost use Rattle.places.specs.Long.{startSize};
 ghost use Rattle.interval_runs.specs.Run.{hoursAt, detailsAt, SameDetails, stepOf, Behind, longStepOf, runOf, stopOf, Fitting, TicksAt, TicksStep, Passed, Stopped};
+
+// Whether the codes of a byte each at a place have a name of the pool and a standard offset inside 24 hours. In half hours two bytes tell that;
+// their difference, with what keeps it above 0, is in one range, which is one test of the machine's.
+pub fn short_ok(s: &[u8], at: usize, pool: u64) -> bool
+    requires { ⌜ at + 3 ≤ length (now s) ⌝ }
+    ensures { λ r. ⌜ r ≡ shortOk (now (s .entry)) pool at ⌝ }
+{
+    if pool <= s[at] as u64 {
+        return false;
+    }
+    let standard = s[at + 1] as u64 + 303 - s[at + 2] as u64;
+    if standard < 256 {
+        return false;
+    }
+    standard < 351
+}
+
+// An interval with the start m and the codes of a byte each at a place.
+pub fn short_interval(s: &[u8], at: usize, m: u64) -> Interval
+    requires { ⌜ at + 3 ≤ length (now s) ⌝ }
+    ensures { λ r. ⌜ r ≡ shortInterval (now (s .entry)) at m ⌝ }
+{
+    Interval {
+        start: m,
+        name: s[at] as u64,
+        wall: s[at + 1] as u64 * 1800000,
+        savings: s[at + 2] as u64 * 1800000,
+    }
+}
 
 // Where a run ends: how many intervals are left, the place behind it, and its last start.
 pub struct Run {
@@ -43,8 +74,8 @@ fn details_ok(s: &[u8], at: usize, pool: u64) -> bool
     requires { ⌜ at + 3 ≤ length (now s) ⌝ }
     ensures { λ r. ⌜ r ≡ detailsAt (now (s .entry)) pool at ⌝ }
 {
-    if short_places::short_details(s, at) {
-        return short_intervals::short_ok(s, at, pool);
+    if places::short_details(s, at) {
+        return short_ok(s, at, pool);
     }
     false
 }
@@ -103,9 +134,9 @@ fn long_step(s: &[u8], at: usize, n: usize, pool: u64, prev: u64, form: bool) ->
     requires { ⌜ (at + n + 3 ≤ length (now s)) × Finite prev × (n ≡ startSize (now s) at) × (n ≡ 2 → ⊥) ⌝ }
     ensures { λ r. ⌜ r ≡ longStepOf (now (s .entry)) pool form at n prev ⌝ }
 {
-    if short_places::short_details(s, at + n) {
-        if short_intervals::short_ok(s, at + n, pool) {
-            let m = long_starts::long_start(s, at, n, prev);
+    if places::short_details(s, at + n) {
+        if short_ok(s, at + n, pool) {
+            let m = places::long_start(s, at, n, prev);
             if m == 0 {
                 return 0;
             }
@@ -231,7 +262,7 @@ fn read_fives(s: &[u8], pool: u64, stop: u64, from: Run) -> Run
 }
 
 // The instant of the ticks in eight bytes, where it is one; any number outside the instants else. Four bytes and four become one load.
-fn ticks_at(s: &[u8], at: usize) -> u64
+pub fn ticks_at(s: &[u8], at: usize) -> u64
     requires { ⌜ at + 8 ≤ length (now s) ⌝ }
     ensures { λ r. ⌜ TicksAt (now (s .entry)) at r ⌝ }
 {
@@ -321,7 +352,7 @@ pub fn read_run(s: &[u8], at: usize, pool: u64, stop: u64, n: u64, prev: u64, fo
         if left < 5 {
             return r;
         }
-        let k = long_starts::start_size(s, r.place);
+        let k = places::start_size(s, r.place);
         if k == 2 {
             return r;
         }

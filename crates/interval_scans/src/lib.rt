@@ -87,7 +87,7 @@ pub fn read_intervals(s: &[u8], at: usize, pool: u64, n: u64, t: u64, preferred:
         let r = interval_runs::read_run(s, place, pool, stop, left, c.last, form);
         let e = r.place;
         if place < e {
-            let i = short_intervals::short_interval(s, e - 3, r.last);
+            let i = interval_runs::short_interval(s, e - 3, r.last);
             left = r.left;
             place = e;
             c = advance(t, c, i);

@@ -111,7 +111,7 @@ fn list_with(file: &[u8], v: FoundZone, e: u64, starts: &mut [u32], rows: &mut [
     let pool = location_lookup::lent(file, v.pool, v.past);
     let count = pool::room(pool) as u64;
     let zone = location_lookup::lent(file, v.start, v.end);
-    match first_cursors::first(zone, count) {
+    match listed_cursors::first(zone, count) {
         Opened::Refused(_) => 1,
         Opened::Cursor(c, ending) => {
             let indexed = index(pool, starts);

@@ -120,12 +120,12 @@ fn find_each(s: &[u8], at: usize, pool: u64, n: u64, l: u64) -> LocalAnswer
 
 // A zone whose n intervals stand at a place. Mostly none starts within a day of the local time: then the interval that holds the instant a day before
 // is the one that counts, and it is found as for a question, in runs. Where one does, all are read once more, one by one. Where they
-// take more than eight bytes each there are few runs, and they are read one by one at once.
+// take more than eight bytes each, and more than a few do, there are few runs, and they are read one by one at once.
 fn find_listed(s: &[u8], at: usize, pool: u64, n: u64, l: u64) -> LocalAnswer
     requires { ⌜ IntervalsAt pool (now s) n at ⌝ }
     ensures { λ r. ⌜ r ≡ answerOf l (parseZone pool (now (s .entry))) ⌝ }
 {
-    if 8 * n < (s.len() - at) as u64 {
+    if 8 * n + 32 < (s.len() - at) as u64 {
         return find_each(s, at, pool, n, l);
     }
     match interval_scans::read_intervals(s, at, pool, n, day_before(l), false) {
@@ -149,11 +149,12 @@ fn find_listed(s: &[u8], at: usize, pool: u64, n: u64, l: u64) -> LocalAnswer
     }
 }
 
-// The instants of a zone that read as the local time l, all of the zone checked; pool is the pool's count.
+// The instants of a zone that read as the local time l, all of the zone checked; pool is the pool's count. The data are passed on as a part of
+// themselves, as zone_fronts::read_usual_front does.
 pub fn find(s: &[u8], pool: u64, l: u64) -> LocalAnswer
     ensures { λ r. ⌜ r ≡ answerOf l (parseZone pool (now (s .entry))) ⌝ }
 {
-    match zone_fronts::read_front(s, pool) {
+    match zone_fronts::read_front(&s[0..], pool) {
         ZoneFront::Refused(k) => LocalAnswer::Refused(k),
         ZoneFront::Fixed(_, offset, _) => {
             let t = local_times::candidate(l, offset, 0, END);

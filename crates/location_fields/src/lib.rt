@@ -54,7 +54,7 @@ pub fn in_field(
     ensures { λ r. ⌜ r ≡ inField (now (s .entry)) b c p a e field number ⌝ }
 {
     let count = pool::room(location_lookup::lent(s, b, c));
-    let found = location_scans::find(location_lookup::lent(s, a, e), field, count as u64, number);
+    let found = location_reads::find(location_lookup::lent(s, a, e), field, count as u64, number);
     match found {
         Sought::Here(x) => LocationAnswer::Here(locate(s, b, c, a, e, x)),
         Sought::Beyond => LocationAnswer::Refused(12, p),

@@ -1,7 +1,7 @@
 -- Uses counted over a run of mentions. Assumes nothing.
 use mathlib.Core.Path.{_≡_, refl, sym, ap, _∙_, subst⁻¹}
 use mathlib.Core.Bool.{Bool}
-use mathlib.Core.List.{List, _∷_}
+use mathlib.Core.List.{List}
 use Prim.Native.Nat.{ℕ, _+_, _-_, _≤_, _<_}
 use native.Mathlib.Omega.{arith}
 use lib.ListN.{length, getD, set, drop}
@@ -15,12 +15,12 @@ use Rattle.use_order.proofs.NumberLaws.{length-mention, mention-most}
 use Rattle.mentions.specs.declared.Stage.{Stage}
 use Rattle.mentions.specs.declared.Stage.the-variants.{Interval, Names}
 use Rattle.mentions.specs.Walk.{locationNames, aheadOf}
-use Rattle.mentions.specs.Content.{Content, contentAt, numbersIn}
+use Rattle.mentions.specs.Content.{Content, numbersIn}
 use Rattle.mentions.specs.View.{MentionAt}
 use Rattle.mentions.proofs.WalkLaws.{names-more, names-next}
 use Rattle.mentions.proofs.ContentLaws.{content-next, mention-here}
 use Rattle.zone_mentions.specs.declared.Start.{Start}
-use Rattle.zone_mentions.specs.Short.{ShortAt, StartAt}
+use Rattle.zone_mentions.specs.Short.{StartAt}
 use Rattle.mention_runs.specs.Run.{Room, Counted}
 
 pub mention-some : (k : ℕ) (u : List ℕ) → set u k (getD u k 0 + 1) ≡ mention k u
@@ -33,11 +33,6 @@ mention-none k u h = sym (set-out u k (getD u k 0 + 1) h)
 
 -- the next mention in a run
 module _ (s : List ℕ) (place : ℕ) (h : place ≤ length s) (n : ℕ) (l : 0 < n) (v e : ℕ) where
-  pub interval-here : (last m : ℕ) → ShortAt s place last m → (m ≡ 0 → ⊥) → Stands s (parse readCount (drop (place + 4) s)) (at v e)
-      → MentionAt s place (Interval last n) (Interval m (n - 1)) v (place + 4) e
-  unfolding aheadOf
-  interval-here last m a z c = mention-here s place (Interval last n) _ _ (a .ahead z n (λ y. omega arith)) h v e c
-
   pub name-here : (locations : ℕ) (numbered : Bool) → Stands s (parse readCount (drop place s)) (at v e)
       → MentionAt s place (Names n locations numbered) (Names (n - 1) locations numbered) v place e
   unfolding aheadOf

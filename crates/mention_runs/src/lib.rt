@@ -1,11 +1,11 @@
-// Mentions counted in runs: names of intervals, names behind names, and names of locations.
+// Mentions counted in runs: names behind names, and names of locations.
 use base::Read;
 use mentions::Stage;
 ghost use mathlib.Core.Path.{_≡_};
 ghost use Prim.Native.Nat.{_-_, _≤_, _<_};
 ghost use lib.ListN.{length, getD};
 ghost use Rattle.use_order.specs.Order.{mention as mentionOf};
-ghost use Rattle.mentions.specs.declared.Stage.the-variants.{Interval, Names};
+ghost use Rattle.mentions.specs.declared.Stage.the-variants.{Names};
 ghost use Rattle.mention_runs.specs.Run.{Room, Counted};
 
 // One use more of k.
@@ -15,100 +15,6 @@ pub fn mention(uses: &mut [u32], k: usize)
 {
     if k < uses.len() {
         uses[k] = uses[k] + 1;
-    }
-}
-
-// Behind the name of an interval: its start, and how many follow.
-pub struct Run {
-    pub place: usize,
-    pub start: u64,
-    pub left: u64,
-}
-
-// Counts the names of the intervals that follow, as long as the codes before them are short.
-fn count_short(s: &[u8], at: usize, start: u64, left: u64, uses: &mut [u32]) -> Run
-    requires { ⌜ (at ≤ length (now s)) × Room (now uses) (length (now s) - at) ⌝ }
-    ensures { λ r. ⌜ Counted (now (s .entry)) at (Interval start left) (now (uses .entry)) (r .place) (Interval (r .start) (r .left)) (now (uses .exit)) ⌝ }
-{
-    let mut place = at;
-    let mut last = start;
-    let mut n = left;
-    while 0 < n {
-        let m = zone_mentions::short_start(s, place, last);
-        if m == 0 {
-            return Run {
-                place: place,
-                start: last,
-                left: n,
-            };
-        }
-        match places::count_at(s, place + 4) {
-            Read::Refused(_) => {
-                return Run {
-                    place: place,
-                    start: last,
-                    left: n,
-                };
-            }
-            Read::Value(v, e) => {
-                mention(uses, v as usize);
-                place = e;
-                last = m;
-                n -= 1;
-            }
-        }
-    }
-    Run {
-        place: place,
-        start: last,
-        left: n,
-    }
-}
-
-// Counts the names of the intervals that follow.
-fn count_intervals(s: &[u8], at: usize, start: u64, left: u64, uses: &mut [u32]) -> Run
-    requires { ⌜ (at ≤ length (now s)) × Room (now uses) (length (now s) - at) ⌝ }
-    ensures { λ r. ⌜ Counted (now (s .entry)) at (Interval start left) (now (uses .entry)) (r .place) (Interval (r .start) (r .left)) (now (uses .exit)) ⌝ }
-{
-    let mut place = at;
-    let mut last = start;
-    let mut n = left;
-    loop {
-        let r = count_short(s, place, last, n, uses);
-        place = r.place;
-        last = r.start;
-        n = r.left;
-        if n == 0 {
-            return Run {
-                place: place,
-                start: last,
-                left: n,
-            };
-        }
-        let next = zone_mentions::any_start(s, place, last);
-        let p = next.place;
-        if p == 0 {
-            return Run {
-                place: place,
-                start: last,
-                left: n,
-            };
-        }
-        match places::count_at(s, p) {
-            Read::Refused(_) => {
-                return Run {
-                    place: place,
-                    start: last,
-                    left: n,
-                };
-            }
-            Read::Value(v, e) => {
-                mention(uses, v as usize);
-                place = e;
-                last = next.start;
-                n -= 1;
-            }
-        }
     }
 }
 
@@ -193,7 +99,7 @@ fn count_locations(
                 locations: k,
             };
         }
-        match list_mentions::location_names(s, place, numbered) {
+        match mention_steps::location_names(s, place, numbered) {
             Read::Refused(_) => {
                 return List {
                     place: place,
@@ -232,13 +138,6 @@ pub fn count_run(s: &[u8], at: usize, stage: Stage, uses: &mut [u32]) -> Stood
     ensures { λ r. ⌜ Counted (now (s .entry)) at stage (now (uses .entry)) (r .place) (r .stage) (now (uses .exit)) ⌝ }
 {
     match stage {
-        Stage::Interval(start, left) => {
-            let r = count_intervals(s, at, start, left, uses);
-            Stood {
-                place: r.place,
-                stage: Stage::Interval(r.start, r.left),
-            }
-        }
         Stage::Names(n, locations, numbered) => {
             let r = count_locations(s, at, n, locations, numbered, uses);
             Stood {

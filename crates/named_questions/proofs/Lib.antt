@@ -1,3 +1,4 @@
+pub mod AliasLaws
 pub mod WalkingLaws
 pub mod AskLaws
 pub mod GrowLaws

@@ -1,4 +1,6 @@
 // The named question, on any bytes: the walk to the zone that a name leads to, by its ID or over aliases, and the answer there.
+use alias_lookup::Target;
+use aliases::Verdict;
 use answers::Answer;
 use answers::Mark;
 use answers::Outcome;
@@ -10,22 +12,60 @@ use locate::Spot;
 use pool::Checked;
 use zones::Edition;
 ghost use mathlib.Core.Path.{_≡_};
-ghost use mathlib.Core.List.{[]};
-ghost use mathlib.Core.Bool.{true};
 ghost use Prim.Native.Nat.{_≤_};
 ghost use lib.ListN.{length, drop};
+ghost use Rattle.pool.specs.Pool.{stringsOf, parsePool};
+ghost use Rattle.pool.specs.Index.{Ready, startsOf, roomOf};
+ghost use Rattle.locate.specs.View.{part, Lies, poolAt};
+ghost use Rattle.named_fields.specs.View.{JudgedAliases, knownAt, Clear, NamedAs, byPool};
+ghost use mathlib.Core.List.{[]};
+ghost use mathlib.Core.Bool.{true};
 ghost use lib.Seq.{sets};
 ghost use Rattle.base.specs.Moment.{Finite};
-ghost use Rattle.pool.specs.Pool.{parsePool, stringsOf};
-ghost use Rattle.pool.specs.Index.{startsOf, roomOf, Ready};
 ghost use Rattle.frames.specs.Machine.{from, stateAt, walk};
 ghost use Rattle.frames.specs.Mapped.{mapOut};
 ghost use Rattle.locate.specs.Asked.{held, ofHeld};
-ghost use Rattle.locate.specs.View.{part, poolAt, Lies};
 ghost use Rattle.questions.specs.Question.{answerAt};
 ghost use Rattle.questions.specs.View.{outcomeOf};
 ghost use Rattle.named_fields.specs.Named.{nothing, naming, askNamed};
-ghost use Rattle.named_fields.specs.View.{knownAt, Clear, NamedAs, byPool};
+
+// Field 3 in s[d..q], whose ID byte is at a place: what the name leads to. It is no zone's ID, so its zone is that of a target.
+pub fn follow(
+    s: &[u8],
+    starts: &[u32],
+    start: usize,
+    end: usize,
+    count: usize,
+    place: usize,
+    d: usize,
+    q: usize,
+    name: &[u8],
+    flags: &[u8],
+) -> Located
+    requires { ⌜ Lies (now s) start end × Ready (part start end (now s)) (now starts) × (count ≡ length (stringsOf (part start end (now s)))) × (count ≤ length (now flags)) × (d ≤ q) × (q ≤ length (now s)) ⌝ }
+    ensures { λ r. ⌜ JudgedAliases (now (name .entry)) (now (s .entry)) start end place d q (now (flags .entry)) r ⌝ }
+{
+    let v = aliases::check(&s[start..end], starts, count, &s[d..q]);
+    match v {
+        Verdict::Refused(n) => Located::Refused(n, place),
+        Verdict::Good => {
+            let t = alias_lookup::lookup(&s[start..end], starts, count, &s[d..q], flags, name, 8);
+            match t {
+                Target::Unknown => Located::Refused(12, place),
+                Target::Deep => Located::Refused(18, place),
+                Target::Zone(k) => asked_zones::walk_zones(
+                    s,
+                    starts,
+                    start,
+                    end,
+                    count,
+                    strings::text_by(&s[start..end], starts, k),
+                    true,
+                ),
+            }
+        }
+    }
+}
 
 // The fields behind field 0, whose data is s[start..end]. flags gets those of the zones that are passed.
 fn walk_fields(
@@ -62,18 +102,7 @@ fn walk_fields(
                 let d = at + h;
                 let e = d + n;
                 if i == 3 {
-                    return alias_targets::follow(
-                        s,
-                        starts,
-                        start,
-                        end,
-                        count,
-                        at,
-                        d,
-                        e,
-                        name,
-                        &*flags,
-                    );
+                    return follow(s, starts, start, end, count, at, d, e, name, &*flags);
                 }
                 let j = named_fields::judge_field(
                     s,

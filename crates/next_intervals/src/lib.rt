@@ -9,8 +9,9 @@ ghost use Rattle.intervals.specs.Interval.{parseInterval};
 ghost use Rattle.intervals.specs.Scan.{ofInterval};
 ghost use Rattle.next_intervals.specs.Next.{NextAt};
 
-// The start of an interval of five bytes, the usual one, behind prev; 0 where other codes stand there.
-fn short_next(s: &[u8], at: usize, pool: u64, prev: u64) -> u64
+// The start of an interval of five bytes, the usual one, behind prev; 0 where other codes stand there. It is put in place in its readers; a whole
+// interval goes through memory.
+pub fn short_next(s: &[u8], at: usize, pool: u64, prev: u64) -> u64
     requires { ⌜ at ≤ length (now s) ⌝ }
     ensures { λ r. ⌜ NextAt (now (s .entry)) pool at prev r ⌝ }
 {
@@ -37,7 +38,7 @@ pub fn read_interval(s: &[u8], at: usize, pool: u64, prev: u64) -> IntervalRead
 {
     let m = short_next(s, at, pool, prev);
     if m != 0 {
-        return IntervalRead::Got(short_intervals::short_interval(s, at + 2, m), at + 5);
+        return IntervalRead::Got(interval_runs::short_interval(s, at + 2, m), at + 5);
     }
     any_intervals::read_any_interval(s, at, pool, prev)
 }

@@ -86,13 +86,13 @@ module _ (d : List ℕ) (h : HasContent d) where
     head-two o l = record { all = head-print; room = l }
 
     -- where the longest and the shortest that it can be have sizes of one length, that is its size's
-    pub size-sure : Bytes d → (k : ℕ) → k ≡ length (writeCount (length d)) → length (writeCount (length d - 8 * n)) ≡ k
+    pub size-sure : Bytes d → (k : ℕ) → k ≡ length (writeCount (length d)) → length (writeCount (length d - 7 * n)) ≡ k
         → k ≡ length (writeCount (length (print (contentOf 1 d))))
     size-sure b k e f =
         let o = pieces-between n endOfTime (drop a d) (found .pieces) (drop-bytes a d b) (found .are) in
-        let l : length d - a ≤ length (printPieces endOfTime (found .pieces)) + 8 * n = rw length-drop at (o .least) in
+        let l : length d - a ≤ length (printPieces endOfTime (found .pieces)) + 7 * n = rw length-drop at (o .least) in
         let m : a + length (printPieces endOfTime (found .pieces)) ≡ length (print (contentOf 1 d)) = size-is _ (rw (found .are)) in
-        let i = count-mono (length d - 8 * n) (length (print (contentOf 1 d))) (omega (arith, s .within)) in
+        let i = count-mono (length d - 7 * n) (length (print (contentOf 1 d))) (omega (arith, s .within)) in
         let j = count-mono (length (print (contentOf 1 d))) (length d) (rw content-is (h .shorter)) in
         omega arith
 

@@ -33,7 +33,7 @@ pub fn piece_end(s: &[u8], at: usize, n: u64) -> usize
         return s.len();
     }
     if 3 <= s.len() - at {
-        if short_places::short_details(s, at) {
+        if places::short_details(s, at) {
             return at + 3;
         }
     }
@@ -100,12 +100,12 @@ pub fn read_head(s: &[u8]) -> Read
     }
 }
 
-// The least length that m bytes with n transitions have in their preferred form: no form saves more than eight bytes.
+// The least length that m bytes with n transitions have in their preferred form: no form saves more than seven bytes.
 pub fn least(m: u64, n: u64) -> u64
     requires { ⌜ n ≤ 2147483648 ⌝ }
-    ensures { λ r. ⌜ r ≡ m - 8 * n ⌝ }
+    ensures { λ r. ⌜ r ≡ m - 7 * n ⌝ }
 {
-    let saved = 8 * n;
+    let saved = 7 * n;
     if m < saved {
         return 0;
     }

@@ -83,13 +83,15 @@ fn are_short(left: usize, at: usize, plain: usize) -> bool
     true
 }
 
-// Passes a short string at a place: starts gets the place as its i-th. The place behind the string.
-fn pass_short(d: &[u8], at: usize, i: usize, starts: &mut [u32]) -> usize
-    requires { ⌜ (at < length (now d)) × (at < 4294967296) × (i < length (now starts)) ⌝ }
-    ensures { λ r. ⌜ (r ≡ at + (1 + getD (now (d .entry)) at 0)) × (now (starts .exit) ≡ set (now (starts .entry)) i at) ⌝ }
+// Passes a short string, the j-th of some in a row: starts gets its place as its i-th. `at` is the place but for the length bytes of the j before it, so
+// that the next place takes one addition.
+fn pass_short(d: &[u8], at: usize, j: usize, i: usize, starts: &mut [u32]) -> usize
+    requires { ⌜ (at + j < length (now d)) × (at + j < 4294967296) × (i < length (now starts)) ⌝ }
+    ensures { λ r. ⌜ (r ≡ at + getD (now (d .entry)) (at + j) 0) × (now (starts .exit) ≡ set (now (starts .entry)) i (at + j)) ⌝ }
 {
-    starts[i] = at as u32;
-    at + (1 + d[at] as usize)
+    let p = at + j;
+    starts[i] = p as u32;
+    at + d[p] as usize
 }
 
 // The strings of d from a place on, k of them and nothing behind. starts gets the place of each. The bytes up to the place `front` are ASCII.
@@ -105,10 +107,11 @@ fn fill(d: &[u8], from: usize, k: usize, front: usize, starts: &mut [u32]) -> Ch
         if are_short(k - i, at, plain) {
             let mut j: usize = 0;
             while j < 4 {
-                at = pass_short(d, at, i, starts);
+                at = pass_short(d, at, j, i, starts);
                 i += 1;
                 j += 1;
             }
+            at += j;
         } else {
             let n = short(d, at, plain);
             if n < 128 {

@@ -18,7 +18,7 @@ use Rattle.pieces.proofs.CodeLaws.{data-preferred}
 use Rattle.pieces.proofs.HeadLaws.{content-is, print-other}
 use Rattle.pieces.proofs.PutLaws.{InTwo}
 use Rattle.preferred_fields.specs.Field.{printField, fieldWith}
-use Rattle.preferred_fields.specs.View.{Told, Copied}
+use Rattle.preferred_fields.specs.View.{Told, Copied, Unchanged}
 
 -- the length of a field, by that of its data
 pub field-length : (i : ℕ) (d : List ℕ)
@@ -83,3 +83,10 @@ copied-flag i d flags id a b e t s l =
           rw (e, content-is d h) (h .exact k);
       zone = λ f. e;
     }
+
+-- whether a field stays as it is
+pub unchanged-not : (i head : ℕ) (d : List ℕ) → Unchanged i head d false
+unchanged-not i head d = record { same = λ t. never t refl; size = λ t. never t refl }
+
+pub unchanged-so : (i head : ℕ) (d : List ℕ) (b : Bool) (k : ℕ) → head ≡ 1 + k → k ≡ length (writeCount (length d)) → Copied i d b → Unchanged i head d b
+unchanged-so i head d b k h e c = record { same = c .same; size = λ t. rw e at h }

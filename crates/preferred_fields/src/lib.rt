@@ -8,7 +8,7 @@ ghost use lib.ListN.{length};
 ghost use Rattle.counts.specs.Count.{writeCount};
 ghost use Rattle.pieces.specs.View.{HasContent, Put};
 ghost use Rattle.preferred_fields.specs.Field.{printField, fieldWith};
-ghost use Rattle.preferred_fields.specs.View.{Told, Copied};
+ghost use Rattle.preferred_fields.specs.View.{Told, Copied, Unchanged};
 
 // Whether a field is copied: where it is no zone, and where its flag, which stands at the number of its ID, is 0.
 fn is_copied(i: u8, d: &[u8], flags: &[u8]) -> bool
@@ -27,6 +27,17 @@ fn is_copied(i: u8, d: &[u8], flags: &[u8]) -> bool
             flags[id as usize] == 0
         }
     }
+}
+
+// Whether a field whose ID and size take so many bytes is in its preferred form.
+pub fn is_unchanged(i: u8, head: usize, d: &[u8], flags: &[u8]) -> bool
+    requires { ⌜ (i ≡ 1 → Told (now flags) (now d)) ⌝ }
+    ensures { λ r. ⌜ Unchanged i head (now (d .entry)) r ⌝ }
+{
+    if head != 1 + count_writers::count_size(d.len() as u64) {
+        return false;
+    }
+    is_copied(i, d, flags)
 }
 
 // The length of a field, by that of its data.
@@ -66,7 +77,7 @@ fn copy_field(i: u8, d: &[u8], out: &mut [u8]) -> usize
     ensures { λ r. ⌜ Put (i ∷ (writeCount (length (now (d .entry))) ++ now (d .entry))) (now (out .entry)) r (now (out .exit)) ⌝ }
 {
     let w = write_head(i, d.len(), out);
-    w + bytes::copy(d, &mut out[w..])
+    w + copies::copy(d, &mut out[w..])
 }
 
 // Writes a zone in its preferred form: its data behind the room for ID and size, then these, once the size is known.

@@ -1,9 +1,10 @@
 -- What the walk over a well-formed file relies on. The code's way: internal functions alone use it; what the rewriter gives is said by
 -- Preferred.antt.
-use Prim.Native.Nat.{ℕ, _≤_}
+use Prim.Native.Nat.{ℕ, _+_, _≤_}
 use mathlib.Core.Path.{_≡_}
+use mathlib.Core.Bool.{Bool, true}
 use mathlib.Core.List.{List}
-use lib.ListN.{length}
+use lib.ListN.{length, getD}
 use Rattle.frames.specs.Frame.{Field}
 use Rattle.frames.specs.Fields.{fields}
 use Rattle.frames.specs.Covers.{Covers}
@@ -21,3 +22,9 @@ pub record Rewritable (f flags : List ℕ) : Type 0 where
   pub readable : All (Readable flags) (fields f)
   pub shorter : length (preferred f) ≤ length f
   pub limit : length (preferred f) ≤ 4194304
+
+-- where r is true, a field of no data that is no zone stands at a place
+pub record Empty (f : List ℕ) (at : ℕ) (r : Bool) : Type 0 where
+  pub inside : r ≡ true → at + 2 ≤ length f
+  pub other : r ≡ true → getD f at 0 ≡ 1 → ⊥
+  pub size : r ≡ true → getD f (at + 1) 0 ≡ 0

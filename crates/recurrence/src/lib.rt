@@ -37,23 +37,24 @@ pub struct Occurrences {
 
 const DAY: u64 = 864000000000;
 
-// The occurrences of a rule around t. They fall from two years before the year of t to two years after it.
+// The occurrences of a rule around t. They fall from two years before the year of t to two years after it, mostly in the year of t and the one
+// before or after it, so the year of t is looked at first.
 fn occurrences_at(r: Rule, offset: u64, t: u64) -> Occurrences
     requires { ⌜ Finite t × (offset ≤ 172800000) × RuleOk r ⌝ }
     ensures { λ x. ⌜ x ≡ around (occurrence r offset) t ⌝ }
 {
     let y0 = dates::year_of(t / DAY) - 2;
     let y1 = y0 + 1;
-    let a = occurrences::occurrence_in(r, offset, y1);
-    if t < a {
-        return Occurrences {
-            last: occurrences::occurrence_in(r, offset, y0),
-            next: a,
-        };
-    }
     let y2 = y1 + 1;
     let b = occurrences::occurrence_in(r, offset, y2);
     if t < b {
+        let a = occurrences::occurrence_in(r, offset, y1);
+        if t < a {
+            return Occurrences {
+                last: occurrences::occurrence_in(r, offset, y0),
+                next: a,
+            };
+        }
         return Occurrences { last: a, next: b };
     }
     let y3 = y2 + 1;

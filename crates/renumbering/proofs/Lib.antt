@@ -1,2 +1,3 @@
+pub mod RenumberLaws
 pub mod NextLaws
 pub mod UseLaws

@@ -20,8 +20,8 @@ use Rattle.found_zones.proofs.FindLaws.{out-refused, out-cut, out-end, out-on, 
 use Rattle.traces.specs.Trace.{nameStart, nameLength, nameAt}
 use Rattle.trace_records.specs.Record.{agrees}
 use Rattle.trace_records.proofs.KeptLaws.{name-part, name-is, nowhere-agrees}
-use Rattle.passed_zones.specs.Passed.{spotAt, walkTo, Fails, ZoneAt, PassedOk, ReachedAs}
-use Rattle.passed_zones.specs.declared.ReachedZone.{ReachedZone}
+use Rattle.trace_records.specs.Passed.{spotAt, walkTo, Fails, ZoneAt, PassedOk, ReachedAs}
+use Rattle.trace_records.specs.declared.ReachedZone.{ReachedZone}
 use Rattle.replay.specs.Reports.{firstWrong}
 use Rattle.replay.specs.View.{reachedZone, PoolRead}
 use Rattle.replay.specs.declared.Report.the-variants.{Record, Nothing}

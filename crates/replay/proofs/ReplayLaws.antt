@@ -10,9 +10,9 @@ use lib.Seq.{getD-set-same, getD-set-other}
 use borrow.Author.Tests.{eqb-true, eqb-false}
 use Rattle.base.specs.Pick.{pick}
 use Rattle.locate.specs.View.{Lies}
-use Rattle.passed_zones.specs.Passed.{PassedOk}
-use Rattle.passed_zones.specs.declared.PassedZones.{PassedZones}
-use Rattle.passed_zones.proofs.PassedLaws.{passed-none}
+use Rattle.trace_records.specs.Passed.{PassedOk}
+use Rattle.trace_records.specs.declared.PassedZones.{PassedZones}
+use Rattle.trace_records.proofs.PassedLaws.{passed-none}
 use Rattle.traces.specs.Trace.{recordCount, recordsAt, namesAt, namesSize, nameStart, nameLength, namesWithin, traceOk}
 use Rattle.traces.proofs.TraceLaws.{Fits, trace-fits, names-first, names-rest}
 use Rattle.trace_records.specs.Record.{agrees}

@@ -9,7 +9,7 @@ use Rattle.answers.specs.Answers.{noPool}
 use Rattle.locate.specs.Asked.{holder}
 use Rattle.locate.specs.View.{Lies}
 use Rattle.found_zones.specs.declared.FoundZone.{FoundZone}
-use Rattle.passed_zones.specs.Passed.{walkTo}
+use Rattle.trace_records.specs.Passed.{walkTo}
 use Rattle.traces.specs.Trace.{namesWithin}
 
 -- n records at a place of the trace s, whose names stand at `names`

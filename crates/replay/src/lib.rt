@@ -1,17 +1,17 @@
 // Replaying a phone's trace: the first record that a file contradicts.
 use found_zones::FoundZone;
 use locate::First;
-use passed_zones::PassedZones;
-use passed_zones::ReachedZone;
 use pool::Checked;
 use trace_records::Kept;
+use trace_records::PassedZones;
+use trace_records::ReachedZone;
 ghost use mathlib.Core.Path.{_≡_};
 ghost use Prim.Native.Nat.{_+_, _*_, _≤_, _<_};
 ghost use lib.ListN.{length};
 ghost use Rattle.pool.specs.Pool.{stringsOf};
 ghost use Rattle.pool.specs.Index.{roomOf, Ready};
 ghost use Rattle.locate.specs.View.{part, Lies, PoolAt};
-ghost use Rattle.passed_zones.specs.Passed.{PassedOk, ReachedAs};
+ghost use Rattle.trace_records.specs.Passed.{PassedOk, ReachedAs};
 ghost use Rattle.traces.specs.Trace.{nameStart, nameLength, nameAt};
 ghost use Rattle.replay.specs.Reports.{firstWrong, replay as replayOf};
 ghost use Rattle.replay.specs.View.{reachedZone, PoolRead, Records};
@@ -74,7 +74,7 @@ fn reach_name(
     s: &[u8],
     names: usize,
     at: usize,
-    order: &mut [u16; 8449],
+    order: &mut [u16],
     froms: &mut [u32; 8192],
     tos: &mut [u32; 8192],
     p: PassedZones,
@@ -86,7 +86,7 @@ fn reach_name(
     let len = count_readers::four_at(s, at + 12) as usize;
     let from = names + start;
     let to = from + len;
-    passed_zones::reach(f, starts, d, e, count, &s[from..to], order, froms, tos, p)
+    trace_records::reach(f, starts, d, e, count, &s[from..to], order, froms, tos, p)
 }
 
 fn reached_zone(d: usize, e: usize, a: usize, b: usize) -> FoundZone

@@ -1,11 +1,12 @@
-// A field's size, and the whole field by it.
+// A field's size, and the whole field by it; the fields of a file whose fields are whole, one by one.
 use base::Read;
 use frames::Frame;
+ghost use Prim.Native.Nat.{_<_, _+_};
+ghost use lib.ListN.{length};
+ghost use Rattle.sizes.specs.View.{IsField};
 ghost use mathlib.Core.Path.{_≡_};
-ghost use Prim.Native.Nat.{_+_};
 ghost use lib.Dec.{ltb};
-ghost use Rattle.frames.specs.Frame.{largest};
-ghost use Rattle.frames.specs.Frame.{readSize, sized as sizedOf};
+ghost use Rattle.frames.specs.Frame.{largest, readSize, sized as sizedOf};
 
 // The largest place just past a field.
 const LARGEST: usize = 4194304;
@@ -53,6 +54,36 @@ pub fn sized(r: &[u8], at: usize, i: u8) -> Frame
                 return Frame::Whole(i, 1 + u, n);
             }
             Frame::Cut
+        }
+    }
+}
+
+// A field's ID, and where its data start and end.
+pub struct Extent {
+    pub id: u8,
+    pub start: usize,
+    pub end: usize,
+}
+
+// The field at a place of a file whose fields are whole.
+pub fn read_field(s: &[u8], at: usize) -> Extent
+    requires { ⌜ at < length (now s) ⌝ }
+    ensures { λ r. ⌜ IsField (now (s .entry)) at r ⌝ }
+{
+    let a = at + 1;
+    match read_size(&s[a..]) {
+        Read::Refused(_) => Extent {
+            id: 0,
+            start: a,
+            end: a,
+        },
+        Read::Value(n, u) => {
+            let start = a + u;
+            Extent {
+                id: s[at],
+                start: start,
+                end: start + n as usize,
+            }
         }
     }
 }

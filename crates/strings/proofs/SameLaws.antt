@@ -2,14 +2,22 @@
 use mathlib.Core.Path.{_≡_, refl, sym, _∙_, ap, ap₂}
 use mathlib.Core.Bool.{Bool, true, false}
 use mathlib.Core.List.{List, _++_}
-use Prim.Native.Nat.{ℕ, _+_, _-_, _≤_}
+use Prim.Native.Nat.{ℕ, max, _+_, _-_, _≤_}
 use native.Mathlib.Omega.{arith}
 use lib.ListN.{length, getD, take, drop, take-append-drop}
 use lib.Seq.{take-add}
+use lib.Dec.{eqb}
+use borrow.Author.Tests.{ne-eqb}
+use Rattle.base.specs.Pick.{pick}
 use Rattle.base.specs.Equal.{equal}
 use Rattle.base.proofs.Parts.{part-from}
 use Rattle.base.proofs.Tests.{never}
 use Rattle.base.proofs.EqualLaws.{equal-true, equal-refl, equal-is}
+
+-- any mark but 0 tells that bytes differ
+pub mark-tells : (m : ℕ) (t : Bool) → eqb (max m (pick t 0 255)) 0 ≡ eqb (max m (pick t 0 1)) 0
+mark-tells m true = refl
+mark-tells m false = ne-eqb (max m 255) 0 (λ q. omega arith) ∙ sym (ne-eqb (max m 1) 0 (λ q. omega arith))
 
 -- bytes at one place differ
 pub byte-differs : (a b : List ℕ) (p : ℕ) → (getD a p 0 ≡ getD b p 0 → ⊥) → false ≡ equal a b

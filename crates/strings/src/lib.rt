@@ -2,7 +2,7 @@
 use pool::Span;
 ghost use mathlib.Core.Path.{_≡_};
 ghost use mathlib.Core.List.{[]};
-ghost use Prim.Native.Nat.{_<_};
+ghost use Prim.Native.Nat.{max, _<_};
 ghost use lib.ListN.{length, getD};
 ghost use lib.Dec.{eqb};
 ghost use Rattle.base.specs.Pick.{pick};
@@ -68,11 +68,17 @@ pub fn text_of<'a>(pool: &'a [u8], field: &'a [u8], h: Holder) -> &'a [u8]
     }
 }
 
-// 1 where two bytes differ, else 0.
+// 255 where two bytes differ, else 0.
 fn differ(a: u8, b: u8) -> u8
-    ensures { λ r. ⌜ r ≡ pick (eqb a b) 0 1 ⌝ }
+    ensures { λ r. ⌜ r ≡ pick (eqb a b) 0 255 ⌝ }
 {
-    if a == b { 0 } else { 1 }
+    if a == b { 0 } else { 255 }
+}
+
+fn larger(a: u8, b: u8) -> u8
+    ensures { λ r. ⌜ r ≡ max a b ⌝ }
+{
+    if a < b { b } else { a }
 }
 
 // Whether two strings have the same bytes. The loop has no early exit, so that it compiles to wide operations.
@@ -85,7 +91,7 @@ pub fn same(a: &[u8], b: &[u8]) -> bool
     let mut m: u8 = 0;
     let mut i: usize = 0;
     while i < a.len() {
-        m = utf8::larger(m, differ(a[i], b[i]));
+        m = larger(m, differ(a[i], b[i]));
         i += 1;
     }
     m == 0

@@ -16,18 +16,16 @@ use Rattle.zones.specs.declared.Edition.{Edition}
 use Rattle.answers.specs.declared.Found.{Found}
 use Rattle.answers.specs.declared.Answer.{Answer}
 use Rattle.answers.specs.declared.Answer.the-variants.{In, Refused}
-use Rattle.halving.specs.Halving.{findStart}
-use Rattle.halving.specs.declared.Search.the-variants.{Entry}
-use Rattle.halving.specs.Looks.{Standing, Looks}
-use Rattle.halving.proofs.StepLaws.{halved, Counted, find-none, standing-start, standing-counted, standing-next}
-use Rattle.halving.proofs.LookLaws.{looks-kept, looks-before, last-kept, last-before}
+use Rattle.halving.specs.Looks.{Standing, Near}
+use Rattle.halving.proofs.StepLaws.{find-none, standing-start, standing-kept, standing-before, standing-done}
 use Rattle.found_zones.specs.FoundZone.{askZone}
 use Rattle.found_zones.specs.declared.FoundZone.{FoundZone}
 use Rattle.answer_tables.specs.Table.{natural, answerAt, startsOf, holdsIn, keptBy, keptRow, answerOr, askListed}
 use Rattle.answer_tables.specs.declared.Kept.{Kept}
 use Rattle.answer_tables.specs.declared.Kept.the-variants.{Row, Nothing}
 use Rattle.answer_tables.proofs.RowLaws.{starts-length, start-is, left-inside}
-use Rattle.table_questions.specs.View.{LeftRow}
+use Rattle.table_questions.specs.View.{Seeking, Looked, LeftRow}
+use Rattle.table_questions.specs.declared.Rows.{Rows}
 
 pub natural-below : (z : ℤ) → ltZ z (pos 0) ≡ true → 0 ≡ natural z
 natural-below (pos n) e = absurd (omega (arith, ltb-true n 0 e))
@@ -37,81 +35,83 @@ pub natural-of : (z : ℤ) → ltZ z (pos 0) ≡ false → natAbs z ≡ natural 
 natural-of (pos n) e = refl
 natural-of (negsuc n) e = never refl e
 
-pub lies-behind : (place size n : ℕ) → place ≤ n → leb size (n - place) ≡ leb (place + size) n
-lies-behind place size n h =
-    by-order n (place + size)
-    (λ (l : n < place + size). lt-leb size (n - place) (omega arith) ∙ sym (lt-leb (place + size) n l))
-    (λ (l : place + size ≤ n). le-leb size (n - place) (omega arith) ∙ sym (le-leb (place + size) n l))
-
--- the row half the rows between bounds in, and the looks so far, are within the rows
-pub record Seen (rows : List ℤ) (low high k : ℕ) : Type 0 where
-  pub sum : low + high ≤ length rows
-  pub inside : 7 * ((low + high) / 2) + 7 ≤ length rows
-  pub looks : k < length rows
-
 module _ (rows : List ℤ) (z : ℤ) where
-  -- the n rows from low on are left, k were looked at
-  abbrev Seeking : ℕ → ℕ → ℕ → Type 0
-  Seeking low n k = Standing (startsOf rows) z low n k
-
-  pub seeking-start : (n : ℕ) → n ≡ length rows / 7 → 0 < n → Seeking 0 n 0
+  pub seeking-start : (n : ℕ) → n ≡ length rows / 7 → 0 < n → Seeking rows z 0 n
   seeking-start n e h =
       let l : length (startsOf rows) ≡ n = starts-length (length rows / 7) 0 rows ∙ sym e in
-      subst (λ (m : ℕ). Seeking 0 m 0) l (standing-start (startsOf rows) z (λ q. omega arith))
+      record {
+        low = 0;
+        looks = 0;
+        place = refl;
+        stands = subst (λ (m : ℕ). Standing (startsOf rows) z 0 m 0) l (standing-start (startsOf rows) z (λ q. omega arith));
+      }
 
-  module _ (low n k : ℕ) (g : Seeking low n k) where
-    pub seeking-in : low + n ≤ length rows / 7
-    seeking-in = omega (arith, g .inside, starts-length (length rows / 7) 0 rows)
+  module _ (at left : ℕ) (g : Seeking rows z at left) where
+    middle-in : g .low + left / 2 < length rows / 7
+    middle-in = omega (arith, g .stands .inside, g .stands .some, starts-length (length rows / 7) 0 rows)
 
-    pub seeking-few : k + n ≤ length rows / 7
-    seeking-few = omega (arith, g .few, starts-length (length rows / 7) 0 rows)
+    -- the row half the rows left in
+    pub seen : at + 7 * (left / 2) + 7 ≤ length rows
+    seen = omega (arith, g .place, middle-in)
 
-    module _ (h : 1 < n) where
-      -- the row looked at
-      pub seeking-row : 7 * (low + n / 2) + 7 ≤ length rows
-      seeking-row = omega (arith, seeking-in, halved n h .fewer)
+    by-start : (t : Bool) → leZ (getD rows (at + 7 * (left / 2) + 5) (pos 0)) z ≡ t → leZ (getD (startsOf rows) (g .low + left / 2) (pos 0)) z ≡ t
+    by-start t e =
+        let p : 7 * (g .low + left / 2) + 5 ≡ at + 7 * (left / 2) + 5 = omega (arith, g .place) in
+        rw (start-is rows (g .low + left / 2) middle-in, p) e
 
-      module _ (j : ℕ) (is : j ≡ pick (leZ (getD rows (7 * (low + n / 2) + 5) (pos 0)) z) 1 0) where
-        looked : j ≡ pick (leZ (getD (startsOf rows) (low + n / 2) (pos 0)) z) 1 0
-        looked = is ∙ ap (λ (s : ℤ). pick {A = ℕ} (leZ s z) 1 0) (sym (start-is rows (low + n / 2) (omega (arith, seeking-in, halved n h .fewer))))
+    module _ (h : 1 < left) where
+      pub row-kept : leZ (getD rows (at + 7 * (left / 2) + 5) (pos 0)) z ≡ true
+          → Looked rows z left (record { at = at + 7 * (left / 2); left = left - left / 2 })
+      row-kept e = record {
+        seeks = record {
+          low = g .low + left / 2;
+          looks = g .looks + 1;
+          place = omega (arith, g .place);
+          stands = standing-kept (startsOf rows) z (g .low) left (g .looks) (g .stands) h (by-start true e);
+        };
+        least = omega arith;
+        most = omega arith;
+      }
 
-        pub seeking-counted : Counted n j
-        seeking-counted = standing-counted (startsOf rows) z low n k g h j looked
+      pub row-before : leZ (getD rows (at + 7 * (left / 2) + 5) (pos 0)) z ≡ false → Looked rows z left (record { at = at; left = left / 2 })
+      row-before e = record {
+        seeks = record {
+          low = g .low;
+          looks = g .looks + 1;
+          place = g .place;
+          stands = standing-before (startsOf rows) z (g .low) left (g .looks) (g .stands) h (by-start false e);
+        };
+        least = omega arith;
+        most = omega arith;
+      }
 
-        pub seeking-next : Seeking (low + n / 2 * (1 + j) - n / 2) ((n + j) / 2) (k + 1)
-        seeking-next = standing-next (startsOf rows) z low n k g h j looked
+    -- one row is left
+    done : left ≤ 1 → LeftRow rows z at
+    done h =
+        let e = standing-done (startsOf rows) z (g .low) left (g .looks) (g .stands) h in
+        record {
+          row = g .low;
+          looks = g .looks;
+          place = g .place;
+          is = sym e;
+          inside = omega (arith, g .place, left-inside rows z (g .low) (g .looks) (sym e));
+        }
 
-  -- the rows left are those between bounds
-  module _ (low high k : ℕ) (g : Seeking low (high - low) k) where
-    middle-in : (low + high) / 2 < length rows / 7
-    middle-in = omega (arith, seeking-in low (high - low) k g, g .some)
+  pub looked-near : (m left : ℕ) (r : Rows) → Looked rows z left r → Near m left → Near (m / 2) (r .left)
+  looked-near m left r l n = record { from = omega (arith, n .from, l .least); to = omega (arith, n .to, l .most) }
 
-    pub seen : Seen rows low high k
-    seen =
-        let i = seeking-in low (high - low) k g in
-        record { sum = omega (arith, i, g .some); inside = omega (arith, middle-in); looks = omega (arith, seeking-few low (high - low) k g, g .some) }
+  module _ (at left : ℕ) (g : Seeking rows z at left) (h : left ≤ 2) where
+    pub left-kept : leZ (getD rows (at + 7 * (left / 2) + 5) (pos 0)) z ≡ true → LeftRow rows z (at + 7 * (left / 2))
+    left-kept e =
+        by-order 1 left
+        (λ (l : 1 < left). done (at + 7 * (left / 2)) (left - left / 2) (row-kept at left g l e .seeks) (omega arith))
+        (λ (l : left ≤ 1). let q : at + 7 * (left / 2) ≡ at = omega arith in rw q (done at left g l))
 
-    by-start : (t : Bool) → leZ (getD rows (7 * ((low + high) / 2) + 5) (pos 0)) z ≡ t → leZ (getD (startsOf rows) ((low + high) / 2) (pos 0)) z ≡ t
-    by-start t e = rw (start-is rows ((low + high) / 2) middle-in) e
-
-    module _ (h : 1 < high - low) where
-      pub row-kept : leZ (getD rows (7 * ((low + high) / 2) + 5) (pos 0)) z ≡ true
-          → Looks (startsOf rows) z (record { low = low; high = high; probes = k }) (record { low = (low + high) / 2; high = high; probes = k + 1 })
-      row-kept e = looks-kept (startsOf rows) z low high k g h (by-start true e)
-
-      pub row-before : leZ (getD rows (7 * ((low + high) / 2) + 5) (pos 0)) z ≡ false
-          → Looks (startsOf rows) z (record { low = low; high = high; probes = k }) (record { low = low; high = (low + high) / 2; probes = k + 1 })
-      row-before e = looks-before (startsOf rows) z low high k g h (by-start false e)
-
-    module _ (h : high - low ≤ 2) where
-      left-row : (p looks : ℕ) → Entry p looks ≡ findStart (startsOf rows) z → LeftRow rows z p
-      left-row p looks e = record { looks = looks; is = sym e; inside = left-inside rows z p looks (sym e) }
-
-      pub left-kept : leZ (getD rows (7 * ((low + high) / 2) + 5) (pos 0)) z ≡ true → LeftRow rows z ((low + high) / 2)
-      left-kept e = left-row ((low + high) / 2) (k + ((low + high) / 2 - low)) (last-kept (startsOf rows) z low high k g h (by-start true e))
-
-      pub left-before : leZ (getD rows (7 * ((low + high) / 2) + 5) (pos 0)) z ≡ false → LeftRow rows z low
-      left-before e = left-row low (k + ((low + high) / 2 - low)) (last-before (startsOf rows) z low high k g h (by-start false e))
+    pub left-before : leZ (getD rows (at + 7 * (left / 2) + 5) (pos 0)) z ≡ false → LeftRow rows z at
+    left-before e =
+        by-order 1 left
+        (λ (l : 1 < left). done at (left / 2) (row-before at left g l e .seeks) (omega arith))
+        (λ (l : left ≤ 1). done at left g l)
 
   -- each way out of the table, of n bytes
   module _ (n : ℕ) where
@@ -119,24 +119,46 @@ module _ (rows : List ℤ) (z : ℤ) where
     unfolding keptRow
     kept-none h = ap (keptBy n rows z) (find-none (startsOf rows) z (starts-length (length rows / 7) 0 rows ∙ h))
 
-    module _ (k : ℕ) (l : LeftRow rows z k) (x : Found) (e : x ≡ answerAt rows k) where
-      -- the row that is left, by its tests
-      by-tests : (a b c : Bool) → leZ (x .start) z ≡ a → ltZ z (x .end) ≡ b → leb (x .name + x .length) n ≡ c
-          → pick (both a (both b c)) (Row x) Nothing ≡ keptRow n rows z
+    module _ (at : ℕ) (l : LeftRow rows z at) where
+      -- a number of the row
+      abbrev number : ℕ → ℤ
+      number i = getD rows (at + i) (pos 0)
+
+      -- the row, by the places of its numbers
+      abbrev row : Found
+      row = record {
+        wall = getD rows at (pos 0);
+        savings = number 1;
+        standard = number 2;
+        name = natural (number 3);
+        length = natural (number 4);
+        start = number 5;
+        end = number 6;
+      }
+
+      row-is : row ≡ answerAt rows (l .row)
+      row-is = rw (l .place) refl
+
+      -- by its tests
+      by-tests : (a b c : Bool) → leZ (number 5) z ≡ a → ltZ z (number 6) ≡ b → leb (natural (number 3) + natural (number 4)) n ≡ c
+          → pick (both a (both b c)) (Row row) Nothing ≡ keptRow n rows z
       unfolding keptRow
-      by-tests a b c p q r = rw (← p, ← q, ← r) (ap (λ (y : Found). pick (holdsIn n y z) (Row y) Nothing) e ∙ ap (keptBy n rows z) (sym (l .is)))
+      by-tests a b c p q r =
+          rw (← p, ← q, ← r) (ap (λ (y : Found). pick (holdsIn n y z) (Row y) Nothing) row-is ∙ ap (keptBy n rows z) (sym (l .is)))
 
-      pub kept-after : leZ (x .start) z ≡ false → Nothing ≡ keptRow n rows z
-      kept-after p = by-tests false (ltZ z (x .end)) (leb (x .name + x .length) n) p refl refl
+      pub kept-after : leZ (number 5) z ≡ false → Nothing ≡ keptRow n rows z
+      kept-after p = by-tests false (ltZ z (number 6)) (leb (natural (number 3) + natural (number 4)) n) p refl refl
 
-      pub kept-before : leZ (x .start) z ≡ true → ltZ z (x .end) ≡ false → Nothing ≡ keptRow n rows z
-      kept-before p q = by-tests true false (leb (x .name + x .length) n) p q refl
+      module _ (p : leZ (number 5) z ≡ true) where
+        pub kept-before : ltZ z (number 6) ≡ false → Nothing ≡ keptRow n rows z
+        kept-before q = by-tests true false (leb (natural (number 3) + natural (number 4)) n) p q refl
 
-      pub kept-outside : leZ (x .start) z ≡ true → ltZ z (x .end) ≡ true → leb (x .name + x .length) n ≡ false → Nothing ≡ keptRow n rows z
-      kept-outside p q r = by-tests true true false p q r
+        module _ (q : ltZ z (number 6) ≡ true) where
+          pub kept-outside : n < natural (number 3) + natural (number 4) → Nothing ≡ keptRow n rows z
+          kept-outside r = by-tests true true false p q (lt-leb (natural (number 3) + natural (number 4)) n r)
 
-      pub kept-holds : leZ (x .start) z ≡ true → ltZ z (x .end) ≡ true → leb (x .name + x .length) n ≡ true → Row x ≡ keptRow n rows z
-      kept-holds p q r = by-tests true true true p q r
+          pub kept-holds : natural (number 3) + natural (number 4) ≤ n → Row row ≡ keptRow n rows z
+          kept-holds r = by-tests true true true p q (le-leb (natural (number 3) + natural (number 4)) n r)
 
 -- BY THE TICK
 module _ (f : List ℕ) (v : FoundZone) (rows : List ℤ) (z : ℤ) (ed : Edition) where

@@ -3,18 +3,13 @@ use answer_tables::Kept;
 use answers::Answer;
 use answers::Found;
 use found_zones::FoundZone;
-use halving::Bounds;
 use zones::Edition;
 ghost use mathlib.Core.Path.{_≡_};
-ghost use Prim.Native.Nat.{_+_, _*_, _/_, _≤_, _<_};
-ghost use lib.Dec.{leb};
-ghost use lib.IntN.{pos};
-ghost use lib.Signed.{leZ};
-ghost use lib.ListN.{length, getD};
-ghost use Rattle.base.specs.Pick.{pick};
-ghost use Rattle.halving.specs.Looks.{leftOf, StandsAt, Looks, Near, Due};
-ghost use Rattle.answer_tables.specs.Table.{natural, answerAt, startsOf, keptRow, askListed};
-ghost use Rattle.table_questions.specs.View.{LeftRow};
+ghost use Prim.Native.Nat.{_*_, _/_, _≤_, _<_};
+ghost use lib.ListN.{length};
+ghost use Rattle.halving.specs.Looks.{Near, Due};
+ghost use Rattle.answer_tables.specs.Table.{natural, keptRow, askListed};
+ghost use Rattle.table_questions.specs.View.{Seeks, Looked, LeftRow};
 
 // A place or a length out of a row; 0 for a number below 0.
 fn count_of(z: i64) -> usize
@@ -26,38 +21,35 @@ fn count_of(z: i64) -> usize
     z as usize
 }
 
-// 1 where row k doesn't start after the tick, else 0.
-fn keeps(rows: &[i64], k: usize, ticks: i64) -> usize
-    requires { ⌜ 7 * k + 7 ≤ length (now rows) ⌝ }
-    ensures { λ r. ⌜ r ≡ pick (leZ (getD (now (rows .entry)) (7 * k + 5) (pos 0)) ticks) 1 0 ⌝ }
-{
-    if rows[7 * k + 5] <= ticks { 1 } else { 0 }
+// The rows left: the place of the first of them in the table, and how many there are.
+pub struct Rows {
+    pub at: usize,
+    pub left: usize,
 }
 
-// One look.
-fn look(rows: &[i64], b: Bounds, ticks: i64) -> Bounds
-    requires { ⌜ StandsAt (startsOf (now rows)) ticks b × (1 < leftOf b) ⌝ }
-    ensures { λ r. ⌜ Looks (startsOf (now (rows .entry))) ticks b r ⌝ }
+// One look. That the place has all seven numbers of a row counted takes less time than a product for each look.
+fn look(rows: &[i64], b: Rows, ticks: i64) -> Rows
+    requires { ⌜ Seeks (now rows) ticks b × (1 < b .left) ⌝ }
+    ensures { λ r. ⌜ Looked (now (rows .entry)) ticks (b .left) r ⌝ }
 {
-    let middle = (b.low + b.high) / 2;
-    if rows[7 * middle + 5] <= ticks {
-        return Bounds {
-            low: middle,
-            high: b.high,
-            probes: b.probes + 1,
+    let half = b.left / 2;
+    let at = b.at + 7 * half;
+    if rows[at + 5] <= ticks {
+        return Rows {
+            at: at,
+            left: b.left - half,
         };
     }
-    Bounds {
-        low: b.low,
-        high: middle,
-        probes: b.probes + 1,
+    Rows {
+        at: b.at,
+        left: half,
     }
 }
 
 // The look that n rows have where they are twice as many as half, or more.
-fn look_due(rows: &[i64], b: Bounds, ticks: i64, n: usize, half: usize) -> Bounds
-    requires { ⌜ StandsAt (startsOf (now rows)) ticks b × (Due n (2 * half) (leftOf b) × ((0 < half) × (half ≤ 2048))) ⌝ }
-    ensures { λ r. ⌜ StandsAt (startsOf (now (rows .entry))) ticks r × Due n half (leftOf r) ⌝ }
+fn look_due(rows: &[i64], b: Rows, ticks: i64, n: usize, half: usize) -> Rows
+    requires { ⌜ Seeks (now rows) ticks b × (Due n (2 * half) (b .left) × ((0 < half) × (half ≤ 2048))) ⌝ }
+    ensures { λ r. ⌜ Seeks (now (rows .entry)) ticks r × Due n half (r .left) ⌝ }
 {
     if n < 2 * half {
         return b;
@@ -66,9 +58,9 @@ fn look_due(rows: &[i64], b: Bounds, ticks: i64, n: usize, half: usize) -> Bound
 }
 
 // The looks that leave 64 rows at most.
-fn look_many(rows: &[i64], b: Bounds, ticks: i64, n: usize) -> Bounds
-    requires { ⌜ StandsAt (startsOf (now rows)) ticks b × (Near n (leftOf b) × (n ≤ 8191)) ⌝ }
-    ensures { λ r. ⌜ StandsAt (startsOf (now (rows .entry))) ticks r × Due n 32 (leftOf r) ⌝ }
+fn look_many(rows: &[i64], b: Rows, ticks: i64, n: usize) -> Rows
+    requires { ⌜ Seeks (now rows) ticks b × (Near n (b .left) × (n ≤ 8191)) ⌝ }
+    ensures { λ r. ⌜ Seeks (now (rows .entry)) ticks r × Due n 32 (r .left) ⌝ }
 {
     if n < 64 {
         return b;
@@ -83,9 +75,9 @@ fn look_many(rows: &[i64], b: Bounds, ticks: i64, n: usize) -> Bounds
 }
 
 // The looks that leave two rows at most.
-fn look_few(rows: &[i64], b: Bounds, ticks: i64, n: usize) -> Bounds
-    requires { ⌜ StandsAt (startsOf (now rows)) ticks b × Due n 32 (leftOf b) ⌝ }
-    ensures { λ r. ⌜ StandsAt (startsOf (now (rows .entry))) ticks r × (leftOf r ≤ 2) ⌝ }
+fn look_few(rows: &[i64], b: Rows, ticks: i64, n: usize) -> Rows
+    requires { ⌜ Seeks (now rows) ticks b × Due n 32 (b .left) ⌝ }
+    ensures { λ r. ⌜ Seeks (now (rows .entry)) ticks r × (r .left ≤ 2) ⌝ }
 {
     let b1 = look_due(rows, b, ticks, n, 16);
     let b2 = look_due(rows, b1, ticks, n, 8);
@@ -95,71 +87,63 @@ fn look_few(rows: &[i64], b: Bounds, ticks: i64, n: usize) -> Bounds
 }
 
 // The last look, which is none where one row is left.
-fn look_last(rows: &[i64], b: Bounds, ticks: i64) -> usize
-    requires { ⌜ StandsAt (startsOf (now rows)) ticks b × (leftOf b ≤ 2) ⌝ }
+fn look_last(rows: &[i64], b: Rows, ticks: i64) -> usize
+    requires { ⌜ Seeks (now rows) ticks b × (b .left ≤ 2) ⌝ }
     ensures { λ r. ⌜ LeftRow (now (rows .entry)) ticks r ⌝ }
 {
-    let middle = (b.low + b.high) / 2;
-    if rows[7 * middle + 5] <= ticks {
-        return middle;
+    let half = b.left / 2;
+    let at = b.at + 7 * half;
+    if rows[at + 5] <= ticks {
+        return at;
     }
-    b.low
+    b.at
 }
 
-// The row that halving leaves of n rows, by their starts: halving::find_start over every seventh number.
+// The place of the row that halving leaves of n rows, by their starts: halving::find_start over every seventh number.
 fn find_row(rows: &[i64], n: usize, ticks: i64) -> usize
     requires { ⌜ (n ≡ length (now rows) / 7) × (0 < n) ⌝ }
     ensures { λ r. ⌜ LeftRow (now (rows .entry)) ticks r ⌝ }
 {
-    let mut low = 0;
-    let mut left = n;
-    let mut probes = 0;
+    let mut b = Rows { at: 0, left: n };
     let mut m = n;
     while 8191 < m {
-        let half = left / 2;
-        probes += 1;
-        let k = keeps(rows, low + half, ticks);
-        low = low + half * (1 + k) - half;
-        left = (left + k) / 2;
+        b = look(rows, b, ticks);
         m = m / 2;
     }
-    let b = Bounds {
-        low: low,
-        high: low + left,
-        probes: probes,
-    };
     let many = look_many(rows, b, ticks, m);
     let few = look_few(rows, many, ticks, m);
     look_last(rows, few, ticks)
 }
 
-// The answer in row k.
-fn row_at(rows: &[i64], k: usize) -> Found
-    requires { ⌜ 7 * k + 7 ≤ length (now rows) ⌝ }
-    ensures { λ r. ⌜ r ≡ answerAt (now (rows .entry)) k ⌝ }
+// The row at a place, if it holds the tick and its name is a part of n bytes. Each number is read behind the test before it, so that a test is a
+// branch of its own.
+fn row_at(n: usize, rows: &[i64], at: usize, ticks: i64) -> Kept
+    requires { ⌜ LeftRow (now rows) ticks at ⌝ }
+    ensures { λ r. ⌜ r ≡ keptRow n (now (rows .entry)) ticks ⌝ }
 {
-    let at = 7 * k;
-    let name = count_of(rows[at + 3]);
-    let length = count_of(rows[at + 4]);
-    Found {
-        wall: rows[at],
-        savings: rows[at + 1],
-        standard: rows[at + 2],
-        name: name,
-        length: length,
-        start: rows[at + 5],
-        end: rows[at + 6],
+    if rows[at + 5] <= ticks {
+        if ticks < rows[at + 6] {
+            let name = count_of(rows[at + 3]);
+            if n < name {
+                return Kept::Nothing;
+            }
+            let length = count_of(rows[at + 4]);
+            if n - name < length {
+                return Kept::Nothing;
+            }
+            return Kept::Row(Found {
+                wall: rows[at],
+                savings: rows[at + 1],
+                standard: rows[at + 2],
+                name: name,
+                length: length,
+                start: rows[at + 5],
+                end: rows[at + 6],
+            });
+        }
+        return Kept::Nothing;
     }
-}
-
-// Whether so many bytes at a place are a part of n bytes.
-fn lies(place: usize, length: usize, n: usize) -> bool
-    ensures { λ r. ⌜ r ≡ leb (place + length) n ⌝ }
-{
-    if n < place {
-        return false;
-    }
-    length <= n - place
+    Kept::Nothing
 }
 
 // The row that holds the tick, if its name is a part of n bytes.
@@ -170,18 +154,8 @@ fn kept_row(n: usize, rows: &[i64], ticks: i64) -> Kept
     if count == 0 {
         return Kept::Nothing;
     }
-    let k = find_row(rows, count, ticks);
-    let x = row_at(rows, k);
-    if x.start <= ticks {
-        if ticks < x.end {
-            if lies(x.name, x.length, n) {
-                return Kept::Row(x);
-            }
-            return Kept::Nothing;
-        }
-        return Kept::Nothing;
-    }
-    Kept::Nothing
+    let at = find_row(rows, count, ticks);
+    row_at(n, rows, at, ticks)
 }
 
 // The question over a table of the zone's answers, whatever its rows are. The file is read only where no row holds the tick.

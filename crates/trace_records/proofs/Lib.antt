@@ -1,2 +1,4 @@
+pub mod NextLaws
+pub mod PassedLaws
 pub mod ShownLaws
 pub mod KeptLaws

@@ -37,7 +37,7 @@ fn units_to(unit: u64, least: u64, limit: u64, from: u64, t: u64) -> u64
 }
 
 // The hours from the previous transition, if they can be its code.
-fn hours_to(previous: u64, t: u64) -> u64
+pub fn hours_to(previous: u64, t: u64) -> u64
     ensures { λ r. ⌜ r ≡ hoursTo previous t ⌝ }
 {
     if previous < FIRST {

@@ -2,17 +2,15 @@
 use mathlib.Core.Path.{_≡_, refl, sym, ap, ap₂, _∙_, subst}
 use mathlib.Core.Bool.{Bool, true, false}
 use mathlib.Core.List.{List, [], _∷_, _++_, append-assoc, append-nil}
-use Prim.Native.Nat.{ℕ, zero, suc, _+_, _≤_, _<_}
+use Prim.Native.Nat.{ℕ, zero, suc, _+_, _<_}
 use native.Mathlib.Omega.{arith}
 use lib.ListN.{length, getD, take, drop, take-append-drop}
 use lib.Seq.{ext-getD}
 use lib.Dec.{eqb}
-use borrow.Author.Tests.{eqb-true, eqb-false, eq-eqb}
-use Rattle.base.specs.All.{All, all-none, all-also}
+use borrow.Author.Tests.{eqb-true, eqb-false}
+use Rattle.base.specs.All.{All}
 use Rattle.base.specs.Bytes.{Bytes}
-use Rattle.base.specs.Pick.{pick}
-use Rattle.base.specs.Parsed.{Parsed, got, bad, bind, prepend, many}
-use Rattle.base.specs.declared.Read.{Read}
+use Rattle.base.specs.Parsed.{got, bind, prepend, many}
 use Rattle.base.specs.declared.Read.the-variants.{Value, Refused}
 use Rattle.base.proofs.AllLaws.{all-head, all-tail, all-map, all-left, all-right}
 use Rattle.base.proofs.ByteLaws.{drop-bytes}
@@ -24,7 +22,7 @@ use Rattle.texts.specs.Text.{readText, partOf, textBytes, behindText, parseText
 use Rattle.texts.specs.declared.Text.{Text}
 use Rattle.texts.specs.declared.Text.the-variants.{Part, Refused as Untext}
 use Rattle.texts.proofs.TextLaws.{text-form}
-use Rattle.pool.specs.Pool.{string, noState, readStrings, parsePool, stringsOf}
+use Rattle.pool.specs.Pool.{readStrings, stringsOf}
 use Rattle.pool.proofs.StringLaws.{Opened, opened}
 use Rattle.frames.specs.Frame.{Field}
 use Rattle.frames.specs.Fields.{FieldOf, fields}
@@ -38,10 +36,10 @@ use Rattle.closed_files.proofs.PoolLaws.{length-chosen}
 use Rattle.closed_files.proofs.PlaceLaws.{Placed, length-uses-of, mentioned-placed}
 use Rattle.closed_files.proofs.OrderLaws.{Falls, length-up, up-at, order-up}
 use Rattle.closed_pools.specs.View.{GoodPool}
-use Rattle.closed_fields.specs.View.{NumbersKept, PoolChecked}
+use Rattle.closed_fields.specs.View.{PoolChecked}
 use Rattle.closed_fields.proofs.SizeLaws.{data-kept}
 use Rattle.closed_walks.specs.View.{Walkable}
-use Rattle.unchanged_files.specs.View.{DescendsWhere, UsedUpTo, PoolUsed, plainFields, PlainWhere, SameWhere}
+use Rattle.unchanged_files.specs.View.{DescendsWhere, UsedUpTo, ClosedWhere, PoolHas, plainFields, PlainWhere}
 use Rattle.unchanged_files.proofs.UseLaws.{falls}
 
 -- ---- a pool that reads is what is written for its strings
@@ -133,7 +131,7 @@ take-bytes (suc n) (b ∷ s) h zero = h 0
 take-bytes (suc n) (b ∷ s) h (suc i) = take-bytes n s (λ j. h (suc j)) i
 
 module _ (f uses : List ℕ) (b : Bytes f) (w : Walkable f) (u : uses ≡ usesOf (fields f)) (small : All (λ k. k < 8192) (mentionsIn (fields f)))
-    (d : DescendsWhere true uses) where
+    (d : DescendsWhere true uses) (count : ℕ) (up : UsedUpTo true uses count) where
   order-to : (n : ℕ) → UsedUpTo true uses n → newOrder (fields f) ≡ upFrom 0 n
   order-to n x = order-up n (usesOf (fields f)) (omega (arith, length-uses-of (fields f))) (subst (Falls n) u (falls uses d n x))
 
@@ -150,7 +148,7 @@ module _ (f uses : List ℕ) (b : Bytes f) (w : Walkable f) (u : uses ≡ usesOf
   stays : All Stays (mentionsIn (fields f))
   stays = all-map (λ k (p : Placed (newOrder (fields f)) (newTable (fields f)) k). sym (at-place (newNumber (newTable (fields f)) k) (p .inside)) ∙ p .is) (mentioned-placed (fields f) small)
 
-  data-same : (i : ℕ) (x : List ℕ) → Bytes x → PoolChecked i x → PoolUsed true uses i x → All Stays (numbersOf i x)
+  data-same : (i : ℕ) (x : List ℕ) → Bytes x → PoolChecked i x → PoolHas count i x → All Stays (numbersOf i x)
       → closedData (newOrder (fields f)) (newTable (fields f)) i x ≡ x
   unfolding closedData
   data-same i x bx c p a = go (eqb i 0) refl
@@ -158,10 +156,10 @@ module _ (f uses : List ℕ) (b : Bytes f) (w : Walkable f) (u : uses ≡ usesOf
       go : (t : Bool) → eqb i 0 ≡ t → closedData (newOrder (fields f)) (newTable (fields f)) i x ≡ x
       go true e =
           let z : i ≡ 0 = eqb-true i 0 e in
-          rw e (ap writePool (chosen-all (stringsOf x) (newOrder (fields f)) (order-to (length (stringsOf x)) (p .used z))) ∙ pool-written x bx (c .good z))
+          rw e (ap writePool (chosen-all (stringsOf x) (newOrder (fields f)) (order-to (length (stringsOf x)) (subst (UsedUpTo true uses) (p .strings z) up))) ∙ pool-written x bx (c .good z))
       go false e = data-kept (newOrder (fields f)) (newTable (fields f)) i x true (eqb-false i 0 e) bx (record { stay = λ t. a }) refl
 
-  fields-same : (at : ℕ) (hs : List Field) → Covers f at hs → All (λ g. PoolChecked (g .id) (g .body)) hs → All (λ g. PoolUsed true uses (g .id) (g .body)) hs
+  fields-same : (at : ℕ) (hs : List Field) → Covers f at hs → All (λ g. PoolChecked (g .id) (g .body)) hs → All (λ g. PoolHas count (g .id) (g .body)) hs
       → All Stays (mentionsIn hs) → closedFields (newOrder (fields f)) (newTable (fields f)) hs ≡ plainFields hs
   unfolding closedFields plainFields mentionsIn
   fields-same at [] c k p a = refl
@@ -173,18 +171,13 @@ module _ (f uses : List ℕ) (b : Bytes f) (w : Walkable f) (u : uses ≡ usesOf
       (fields-same (g .past) hs (c .2) (all-tail k) (all-tail p) (all-right (numbersOf (g .id) (g .body)) (mentionsIn hs) a))
 
   -- the file itself
-  pub same-file : (r : Bool) → PlainWhere r f uses → SameWhere r f
+  same-file : PlainWhere true f count → closedFile (fields f) ≡ f
   unfolding closedFile
-  same-file r p = record { same = λ t. whole t }
-    where
-      whole : r ≡ true → closedFile (fields f) ≡ f
-      whole t =
-          ap (λ (x : List ℕ). 0 ∷ 0 ∷ 0 ∷ 0 ∷ x) (fields-same 4 (fields f) (w .covers) (w .pools) (p .pools t) stays ∙ p .plain t)
-          ∙ ap (λ (x : List ℕ). x ++ drop 4 f) (sym (w .version)) ∙ take-append-drop 4 f
+  same-file p =
+      ap (λ (x : List ℕ). 0 ∷ 0 ∷ 0 ∷ 0 ∷ x) (fields-same 4 (fields f) (w .covers) (w .pools) (p .pools refl) stays ∙ p .plain refl)
+      ∙ ap (λ (x : List ℕ). x ++ drop 4 f) (sym (w .version)) ∙ take-append-drop 4 f
 
-pub same-not : (f : List ℕ) → SameWhere false f
-same-not f = record { same = λ t. clash cc }
-
-pub same-so : (f uses : List ℕ) → Bytes f → Walkable f → uses ≡ usesOf (fields f) → All (λ k. k < 8192) (mentionsIn (fields f)) → (t : Bool) → DescendsWhere t uses
-    → t ≡ true → (r : Bool) → PlainWhere r f uses → SameWhere r f
-same-so f uses b w u small t d e r p = same-file f uses b w u small (subst (λ (x : Bool). DescendsWhere x uses) e d) r p
+pub same-so : (f uses : List ℕ) → Bytes f → Walkable f → uses ≡ usesOf (fields f) → All (λ k. k < 8192) (mentionsIn (fields f)) → (n : ℕ) (plain r : Bool)
+    → PlainWhere plain f n → ClosedWhere r plain uses n → r ≡ true → closedFile (fields f) ≡ f
+same-so f uses b w u small n plain r p c t =
+    same-file f uses b w u small (c .descends t) n (c .used t) (subst (λ (x : Bool). PlainWhere x f n) (c .plain t) p)

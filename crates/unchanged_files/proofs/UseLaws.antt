@@ -1,14 +1,13 @@
 -- Uses that descend. Assumes nothing.
-use mathlib.Core.Path.{_≡_, refl, sym, ap, _∙_, subst}
+use mathlib.Core.Path.{_≡_, refl, subst}
 use mathlib.Core.Bool.{Bool, true, false}
-use mathlib.Core.List.{List, [], _∷_}
+use mathlib.Core.List.{List}
 use Prim.Native.Nat.{ℕ, zero, suc, _+_, _-_, _≤_, _<_}
 use native.Mathlib.Omega.{arith}
 use lib.ListN.{length, getD, List·getD-eq-default}
 use Rattle.base.proofs.Tests.{clash, by-order}
-use Rattle.pool.specs.Pool.{stringsOf}
 use Rattle.closed_files.proofs.OrderLaws.{Falls}
-use Rattle.unchanged_files.specs.View.{NotBelow, DescendsWhere, LastUsed, UsedUpTo, PoolUsed}
+use Rattle.unchanged_files.specs.View.{NotBelow, DescendsWhere, LastUsed, UsedUpTo, ClosedWhere}
 
 pub is-below : (a b bad : ℕ) → NotBelow a b bad 1
 is-below a b bad = record { order = λ e. absurd (omega arith); earlier = λ e. absurd (omega arith) }
@@ -88,10 +87,10 @@ module _ (l : List ℕ) (d : DescendsWhere true l) where
         fall = λ j h. let a = d .descends refl j (omega (arith, u .within refl)) in omega arith;
       }
 
--- ---- a field
-pub pool-other : (uses : List ℕ) (i : ℕ) (d : List ℕ) → (i ≡ 0 → ⊥) → PoolUsed true uses i d
-pool-other uses i d h = record { used = λ e. absurd (h e) }
+-- ---- whether a file is its own closed file
+pub closed-not : (plain : Bool) (uses : List ℕ) (n : ℕ) → ClosedWhere false plain uses n
+closed-not plain uses n = record { plain = λ t. clash cc; descends = λ t. clash cc; used = λ t. clash cc }
 
-module _ (r : Bool) (uses : List ℕ) (i : ℕ) (d : List ℕ) (n : ℕ) where
-  pub pool-so : UsedUpTo r uses n → n ≡ length (stringsOf d) → PoolUsed r uses i d
-  pool-so u e = record { used = λ z. subst (UsedUpTo r uses) e u }
+module _ (plain : Bool) (uses : List ℕ) (n : ℕ) (p : plain ≡ true) (d : Bool) (h : DescendsWhere d uses) (e : d ≡ true) where
+  pub closed-so : (r : Bool) → UsedUpTo r uses n → ClosedWhere r plain uses n
+  closed-so r u = record { plain = λ t. p; descends = λ t. subst (λ (x : Bool). DescendsWhere x uses) e h; used = λ t. subst (λ (x : Bool). UsedUpTo x uses n) t u }

@@ -1,16 +1,15 @@
-// Whether a file is its own closed file: its uses descend, all its strings are used, and its sizes are in the shortest form.
+// The mentions of all fields counted, and whether a file is its own closed file: its uses descend, all its strings are used, and its sizes are in the
+// shortest form.
 use base::Read;
 ghost use mathlib.Core.Path.{_≡_};
-ghost use Prim.Native.Nat.{_≤_, _<_};
+ghost use Prim.Native.Nat.{_≤_};
 ghost use lib.ListN.{length};
-ghost use Rattle.base.specs.All.{All};
 ghost use Rattle.pool.specs.Pool.{stringsOf};
-ghost use Rattle.frames.specs.Fields.{fields};
-ghost use Rattle.closed_files.specs.File.{mentionsIn, usesOf};
+ghost use Rattle.renumbering.specs.Table.{Fits};
 ghost use Rattle.closed_pools.specs.View.{GoodPool};
 ghost use Rattle.closed_fields.specs.View.{PoolChecked};
 ghost use Rattle.closed_walks.specs.View.{Walkable};
-ghost use Rattle.unchanged_files.specs.View.{NotBelow, DescendsWhere, LastUsed, UsedUpTo, PoolUsed, PlainWhere, SameWhere};
+ghost use Rattle.unchanged_files.specs.View.{NotBelow, DescendsWhere, LastUsed, UsedUpTo, ClosedWhere, FirstStrings, PlainField, Walks};
 
 // 0 where a number isn't below the next, and none was before.
 fn below(a: u32, b: u32, bad: u32) -> u32
@@ -80,46 +79,78 @@ fn string_count(d: &[u8]) -> usize
     }
 }
 
-// Whether a field with the ID i that is a pool has as many strings as there are uses.
-fn pool_used(i: u8, d: &[u8], uses: &[u32]) -> bool
-    requires { ⌜ PoolChecked i (now d) ⌝ }
-    ensures { λ r. ⌜ PoolUsed r (now (uses .entry)) i (now (d .entry)) ⌝ }
+// How many strings the pool behind the version has.
+pub fn first_strings(s: &[u8]) -> usize
+    requires { ⌜ Walkable (now s) ⌝ }
+    ensures { λ r. ⌜ FirstStrings (now (s .entry)) r ⌝ }
 {
+    if s.len() <= 4 {
+        return 0;
+    }
+    let f = sizes::read_field(s, 4);
+    if f.id != 0 {
+        return 0;
+    }
+    let a = f.start;
+    let e = f.end;
+    string_count(&s[a..e])
+}
+
+// Whether a field behind plain ones has a head of the shortest form, of h bytes, and, where it is a pool, so many strings.
+fn is_plain(before: bool, i: u8, h: usize, d: &[u8], strings: usize) -> bool
+    requires { ⌜ PoolChecked i (now d) ⌝ }
+    ensures { λ r. ⌜ PlainField r before i h (now (d .entry)) strings ⌝ }
+{
+    if !before {
+        return false;
+    }
+    if h != 1 + count_writers::count_size(d.len() as u64) {
+        return false;
+    }
     if i != 0 {
         return true;
     }
     let n = string_count(d);
-    used_up_to(uses, n)
+    n == strings
 }
 
-// Whether all sizes are in the shortest form, and all strings are used.
-fn is_plain(s: &[u8], uses: &[u32]) -> bool
-    requires { ⌜ Walkable (now s) ⌝ }
-    ensures { λ r. ⌜ PlainWhere r (now (s .entry)) (now (uses .entry)) ⌝ }
+// The place of the first field that isn't read; or that mentions are counted, and whether all fields are plain.
+pub enum Walked {
+    Unread(usize),
+    Counted(bool),
+}
+
+// Counts the mentions of all fields, up to one that isn't read.
+pub fn count_mentions(s: &[u8], strings: usize, uses: &mut [u32]) -> Walked
+    requires { ⌜ Walkable (now s) × Fits (now uses) (length (now s)) ⌝ }
+    ensures { λ r. ⌜ Walks (now (s .entry)) strings (now (uses .entry)) (now (uses .exit)) r ⌝ }
 {
     let mut at: usize = 4;
+    let mut plain = true;
     while at < s.len() {
-        let f = whole_fields::read_field(s, at);
+        let f = sizes::read_field(s, at);
+        let i = f.id;
+        if closed_walks::is_unread(i) {
+            return Walked::Unread(at);
+        }
         let a = f.start;
         let e = f.end;
-        if a - at != 1 + count_writers::count_size((e - a) as u64) {
-            return false;
-        }
-        if !pool_used(f.id, &s[a..e], uses) {
-            return false;
-        }
+        plain = is_plain(plain, i, a - at, &s[a..e], strings);
+        closed_walks::count_field(i, &s[a..e], uses);
         at = e;
     }
-    true
+    Walked::Counted(plain)
 }
 
-// Whether a file is its own closed file, by its uses.
-pub fn is_closed(s: &[u8], uses: &[u32]) -> bool
-    requires { ⌜ Walkable (now s) × (now uses ≡ usesOf (fields (now s))) × All (λ k. k < 8192) (mentionsIn (fields (now s))) ⌝ }
-    ensures { λ r. ⌜ SameWhere r (now (s .entry)) ⌝ }
+// Whether a file of so many strings is its own closed file, by its uses.
+pub fn is_closed(plain: bool, uses: &[u32], strings: usize) -> bool
+    ensures { λ r. ⌜ ClosedWhere r plain (now (uses .entry)) strings ⌝ }
 {
+    if !plain {
+        return false;
+    }
     if descends(uses) {
-        return is_plain(s, uses);
+        return used_up_to(uses, strings);
     }
     false
 }

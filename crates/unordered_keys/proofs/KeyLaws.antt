@@ -108,7 +108,12 @@ module _ (s st en : List ℕ) (n : ℕ) (od : List ℕ) (b c : ℕ) (r : Gap) (f
     key-new od′ a l b-c c-s =
         record {
           said = λ mem m. sym (m .keeps .same (part b c s) ∙ between-new (keysIn s st en n) od n (part b c s) (i + j) (key-gap .1));
-          kept = λ mem m e. record { inside = inside-more s st en n b c (m .inside) l b-c c-s; keeps = keeps mem m };
+          kept = λ mem m e.
+              record {
+                inside = inside-more s st en n b c (m .inside) l b-c c-s;
+                wide = omega (arith, length-set st n b, m .wide, a .room);
+                keeps = keeps mem m;
+              };
         }
       where
         keeps : (mem : List (List ℕ)) → Stands s st en n od mem → Keeps (keysIn s (set st n b) (set en n c) (n + 1)) od′ (n + 1) (part b c s ∷ mem)
@@ -116,7 +121,7 @@ module _ (s st en : List ℕ) (n : ℕ) (od : List ℕ) (b c : ℕ) (r : Gap) (f
             let x = part b c s in
             let us = keysIn s st en n in
             let y : getD (us ++ (x ∷ [])) n [] ≡ x = ap (λ (k : ℕ). getD (us ++ (x ∷ [])) k []) (sym (keys-length s st en n)) ∙ getD-append-seam us x [] [] in
-            let k = keeps-wider us (x ∷ []) od n mem (m .keeps) in
+            let k = keeps-wider us (x ∷ []) od n mem (simp length-append (omega (arith, keys-length s st en n, m .wide))) (m .keeps) in
             let g = subst (λ (w : List ℕ). Between (us ++ (x ∷ [])) od n w (i + j)) (sym y) (between-wider us (x ∷ []) od n (m .keeps .sorted) x (i + j) (key-gap .1)) in
             let t = taken-new (us ++ (x ∷ [])) od od′ n (i + j) n (k .sorted) g a (simp length-append (omega (arith, keys-length s st en n))) in
             rw (keys-more s st en n b c (m .inside) l b-c c-s) (subst (λ (w : List ℕ). Keeps (us ++ (x ∷ [])) od′ (n + 1) (w ∷ mem)) y (t .kept mem k))

@@ -16,11 +16,12 @@ use Rattle.old_dictionaries.specs.View.{part}
 use Rattle.old_dictionaries.specs.declared.Found.the-variants.{Entries, Refused}
 use Rattle.old_dictionaries.proofs.EntryLaws.{Walk, walk-start, walk-known, walk-bad, walk-next, walk-done}
 use Rattle.unordered_keys.specs.Keys.{limitOf, KeyTaken, Remembers, Judged, StepTo, Stepped, Arrays}
+use Rattle.unordered_keys.proofs.KeyLaws.{keys-length}
 use Rattle.unordered_keys.specs.declared.Step.{Step}
 use Rattle.unordered_keys.specs.declared.Step.the-variants.{Next, Bad}
 
 pub arrays : (s st en : List ℕ) (n : ℕ) (od : List ℕ) (mem : List (List ℕ)) → Remembers s st en n od mem → Arrays s st en n od
-arrays s st en n od mem r = record { most = λ l. let h = r .most l in record { inside = h .inside; sorted = h .keeps .sorted } }
+arrays s st en n od mem r = record { most = λ l. let h = r .most l in record { inside = h .inside; wide = h .wide; sorted = h .keeps .sorted } }
 
 -- whether a key is one of n
 module _ (s : List ℕ) (from n : ℕ) (st en od x : List ℕ) (r : Bool) where
@@ -74,7 +75,7 @@ module _ (s : List ℕ) (from n place : ℕ) (st en od : List ℕ) where
               record {
                 most = λ g.
                     let t = m .most g in
-                    record { inside = t .inside; keeps = keeps-same _ od′ (n + 1) _ _ (keys-more pre (entry (part b c s) (part v d s))) (t .keeps) };
+                    record { inside = t .inside; wide = t .wide; keeps = keeps-same _ od′ (n + 1) _ _ (keys-more pre (entry (part b c s) (part v d s))) (t .keeps) };
               }
 
 -- the loop over the entries, and what is remembered of them
@@ -84,8 +85,8 @@ pub record Reading (s : List ℕ) (from n : ℕ) (st en od : List ℕ) (done pla
   pub remembers : Remembers s st en done od (keys pre)
 
 -- arrays of zeros
-pub remembers-none : (s : List ℕ) (m : ℕ) → m ≤ 8192 → Remembers s (replicate m 0) (replicate m 0) 0 (replicate 8449 0) []
-remembers-none s m r =
+pub remembers-none : (s : List ℕ) (m k : ℕ) → m ≤ 8192 → m + 257 ≤ k → Remembers s (replicate m 0) (replicate m 0) 0 (replicate k 0) []
+remembers-none s m k r w =
     record {
       most = λ l.
           record {
@@ -97,7 +98,8 @@ remembers-none s m r =
                   order = λ k l. absurd (omega arith);
                   inside = λ k l. absurd (omega arith);
                 };
-            keeps = keeps-start _;
+            wide = omega (arith, length-replicate {A = ℕ} m 0, length-replicate {A = ℕ} k 0);
+            keeps = keeps-start _ k (omega (arith, keys-length s (replicate m 0) (replicate m 0) 0));
           };
     }
 

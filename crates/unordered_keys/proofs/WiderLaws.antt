@@ -3,7 +3,7 @@ use mathlib.Core.Path.{_≡_, refl, sym, _∙_, ap}
 use mathlib.Core.List.{List, [], _∷_, _++_}
 use Prim.Native.Nat.{ℕ, zero, suc, _+_, _≤_, _<_}
 use native.Mathlib.Omega.{arith}
-use lib.ListN.{length-append, List·getD-append}
+use lib.ListN.{length, length-append, List·getD-append}
 use Rattle.ids.specs.Ids.{among}
 use Rattle.ids.specs.Layout.{numberAt}
 use Rattle.ids.specs.Memory.{textAt, textsOf, howMany, Sorted, Keeps, Between}
@@ -22,9 +22,10 @@ module _ (ts us : List (List ℕ)) (od : List ℕ) (n : ℕ) (s : Sorted ts od n
   texts-wider zero l = refl
   texts-wider (suc m) l = rw (text-wider m l, texts-wider m (omega arith)) refl
 
-  pub sorted-wider : Sorted (ts ++ us) od n
-  sorted-wider =
+  pub sorted-wider : length (ts ++ us) + 257 ≤ length od → Sorted (ts ++ us) od n
+  sorted-wider room =
       record {
+        room = room;
         roomy = s .roomy;
         known = λ i h. simp length-append (omega (arith, s .known i h));
         rising = λ i j h l. rw (text-wider i (omega arith), text-wider j l) (s .rising i j h l);
@@ -39,9 +40,9 @@ module _ (ts us : List (List ℕ)) (od : List ℕ) (n : ℕ) (s : Sorted ts od n
         above = λ i g h. rw (text-wider i h) (b .above i g h);
       }
 
-pub keeps-wider : (ts us : List (List ℕ)) (od : List ℕ) (n : ℕ) (mem : List (List ℕ)) → Keeps ts od n mem → Keeps (ts ++ us) od n mem
-keeps-wider ts us od n mem k =
+pub keeps-wider : (ts us : List (List ℕ)) (od : List ℕ) (n : ℕ) (mem : List (List ℕ)) → length (ts ++ us) + 257 ≤ length od → Keeps ts od n mem → Keeps (ts ++ us) od n mem
+keeps-wider ts us od n mem room k =
     record {
-      sorted = sorted-wider ts us od n (k .sorted);
+      sorted = sorted-wider ts us od n (k .sorted) room;
       same = λ x. k .same x ∙ ap (among x) (sym (texts-wider ts us od n (k .sorted) n (omega arith)));
     }

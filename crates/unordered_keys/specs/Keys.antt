@@ -33,11 +33,13 @@ pub record Inside (s st en : List ℕ) (n : ℕ) : Type 0 where
 -- the arrays hold n keys
 pub record Held (s st en : List ℕ) (n : ℕ) (od : List ℕ) : Type 0 where
   pub inside : Inside s st en n
+  pub wide : length st + 257 ≤ length od
   pub sorted : Sorted (keysIn s st en n) od n
 
 -- and stand for the strings mem
 pub record Stands (s st en : List ℕ) (n : ℕ) (od : List ℕ) (mem : List (List ℕ)) : Type 0 where
   pub inside : Inside s st en n
+  pub wide : length st + 257 ≤ length od
   pub keeps : Keeps (keysIn s st en n) od n mem
 
 -- r says whether x is one of the keys, and if it is not, the arrays then stand for x too

@@ -7,7 +7,7 @@ use string_order::Ordering;
 use texts::Text;
 ghost use mathlib.Core.Path.{_≡_};
 ghost use mathlib.Core.List.{[]};
-ghost use Prim.Native.Nat.{_-_, _≤_, _<_};
+ghost use Prim.Native.Nat.{_+_, _-_, _≤_, _<_};
 ghost use lib.ListN.{length, getD, drop};
 ghost use Rattle.ids.specs.Layout.{bufferSize, lowOf, highOf};
 ghost use Rattle.ids.specs.Parts.{Run, Located};
@@ -38,7 +38,7 @@ fn find(
     starts: &[u32],
     ends: &[u32],
     n: usize,
-    order: &[u16; 8449],
+    order: &[u16],
     from: usize,
     to: usize,
     x: &[u8],
@@ -76,33 +76,33 @@ fn find_between(
     starts: &[u32],
     ends: &[u32],
     n: usize,
-    order: &[u16; 8449],
+    order: &[u16],
     j: usize,
     x: &[u8],
 ) -> Place
     requires { ⌜ Held (now s) (now starts) (now ends) n (now order) × (j ≤ bufferSize (now order)) ⌝ }
-    ensures { λ r. ⌜ Located (keysIn (now (s .entry)) (now (starts .entry)) (now (ends .entry)) n) (now (order .entry)) (lowOf (now (order .entry)) j) (highOf (now (order .entry)) (n - bufferSize (now (order .entry))) (bufferSize (now (order .entry))) j) (now (x .entry)) r ⌝ }
+    ensures { λ r. ⌜ Located (keysIn (now (s .entry)) (now (starts .entry)) (now (ends .entry)) n) (now (order .entry)) (257 + lowOf (now (order .entry)) j) (257 + highOf (now (order .entry)) (n - bufferSize (now (order .entry))) (bufferSize (now (order .entry))) j) (now (x .entry)) r ⌝ }
 {
-    let b = order[8448] as usize;
-    let lo = ids::low(order, j);
-    let hi = ids::high(order, n - b, b, j);
+    let b = order[256] as usize;
+    let lo = 257 + ids::low(order, j);
+    let hi = 257 + ids::high(order, n - b, b, j);
     find(s, starts, ends, n, order, lo, hi, x)
 }
 
 // Looks for x among the n keys.
-fn find_gap(s: &[u8], starts: &[u32], ends: &[u32], n: usize, order: &[u16; 8449], x: &[u8]) -> Gap
+fn find_gap(s: &[u8], starts: &[u32], ends: &[u32], n: usize, order: &[u16], x: &[u8]) -> Gap
     requires { ⌜ Held (now s) (now starts) (now ends) n (now order) ⌝ }
     ensures { λ r. ⌜ Finds (keysIn (now (s .entry)) (now (starts .entry)) (now (ends .entry)) n) (now (order .entry)) n (now (x .entry)) r ⌝ }
 {
-    let b = order[8448] as usize;
-    let p = find(s, starts, ends, n, order, 8192, 8192 + b, x);
+    let b = order[256] as usize;
+    let p = find(s, starts, ends, n, order, 0, b, x);
     match p {
         Place::Seen(k) => Gap::Known(k),
         Place::Free(q) => {
-            let g = find_between(s, starts, ends, n, order, q - 8192, x);
+            let g = find_between(s, starts, ends, n, order, q, x);
             match g {
                 Place::Seen(k) => Gap::Known(k),
-                Place::Free(i) => Gap::New(i, q - 8192),
+                Place::Free(i) => Gap::New(i - 257, q),
             }
         }
     }
@@ -114,7 +114,7 @@ fn take_key(
     starts: &mut [u32],
     ends: &mut [u32],
     n: usize,
-    order: &mut [u16; 8449],
+    order: &mut [u16],
     b: usize,
     c: usize,
 ) -> bool
@@ -153,7 +153,7 @@ fn is_second(
     c: usize,
     starts: &mut [u32],
     ends: &mut [u32],
-    order: &mut [u16; 8449],
+    order: &mut [u16],
 ) -> bool
     requires { ⌜ (from ≤ length (now s)) × (b ≤ c) × (c ≤ length (now s)) × Arrays (now s) (now starts) (now ends) n (now order) ⌝ }
     ensures { λ r. ⌜ Judged (now (s .entry)) from n (now (starts .entry)) (now (ends .entry)) (now (order .entry)) (part b c (now (s .entry))) (now (starts .exit)) (now (ends .exit)) (now (order .exit)) r ⌝ }
@@ -172,7 +172,7 @@ fn take_entry(
     at: usize,
     starts: &mut [u32],
     ends: &mut [u32],
-    order: &mut [u16; 8449],
+    order: &mut [u16],
 ) -> Step
     requires { ⌜ (from ≤ length (now s)) × (at ≤ length (now s)) × Arrays (now s) (now starts) (now ends) n (now order) ⌝ }
     ensures { λ r. ⌜ Stepped (now (s .entry)) from n at (now (starts .entry)) (now (ends .entry)) (now (order .entry)) (now (starts .exit)) (now (ends .exit)) (now (order .exit)) r ⌝ }
@@ -200,7 +200,7 @@ fn read_all(
     n: u64,
     starts: &mut [u32],
     ends: &mut [u32],
-    order: &mut [u16; 8449],
+    order: &mut [u16],
 ) -> Found
     requires { ⌜ (from ≤ length (now s)) × Remembers (now s) (now starts) (now ends) 0 (now order) [] ⌝ }
     ensures { λ r. ⌜ r ≡ foundOf (now (s .entry)) (parseEntries n [] (drop from (now (s .entry)))) ⌝ }
@@ -229,7 +229,7 @@ fn read_few(s: &[u8], from: usize, n: u64) -> Found
 {
     let mut starts = [0u32; 1024];
     let mut ends = [0u32; 1024];
-    let mut order = [0u16; 8449];
+    let mut order = [0u16; 1281];
     read_all(s, from, n, &mut starts, &mut ends, &mut order)
 }
 

@@ -1,5 +1,5 @@
--- ASCII is UTF-8, and the largest byte tells it. Assumes nothing.
-use mathlib.Core.Path.{_≡_, refl, sym, _∙_}
+-- ASCII is UTF-8, and a mark tells it. Assumes nothing.
+use mathlib.Core.Path.{_≡_, refl, sym, ap, _∙_}
 use mathlib.Core.List.{List, [], _∷_}
 use mathlib.Core.Bool.{Bool, true, false}
 use Prim.Native.Nat.{ℕ, zero, suc, _+_, _-_, _*_, _/_, _≤_, _<_, max}
@@ -7,7 +7,7 @@ use native.Mathlib.Omega.{arith}
 use native.Mathlib.Numerals.{add-one}
 use lib.ListN.{length, getD, take, drop, length-drop, drop-of-length-le}
 use lib.Seq.{drop-cons, drop-drop, take-all}
-use lib.Dec.{ltb}
+use lib.Dec.{ltb, eqb}
 use borrow.Author.Tests.{ltb-true, ltb-false, lt-ltb, le-ltb}
 use Rattle.base.specs.Pick.{pick}
 use Rattle.base.proofs.Tests.{by-order}
@@ -24,19 +24,20 @@ ascii-utf8 (b ∷ s) e = go (ltb b 0x80) refl e (ascii-utf8 s)
     go true q h f = rw q (f h)
     go false q h f = let z : true ≡ false = sym h in cc
 
--- m is the largest of the bytes before i
-pub larger-at : (s : List ℕ) (i m : ℕ) → i < length s → pick (ltb (max m (getD s i 0)) 0x80) (ascii (drop (i + 1) s)) false ≡ pick (ltb m 0x80) (ascii (drop i s)) false
+-- m is 0 exactly where the bytes before i are ASCII
+pub marked-at : (s : List ℕ) (i m : ℕ) → i < length s
+    → pick (eqb (pick (ltb (getD s i 0) 0x80) m 1) 0) (ascii (drop (i + 1) s)) false ≡ pick (eqb m 0) (ascii (drop i s)) false
 unfolding ascii
-larger-at s i m l = rw (drop-cons s i 0 l, add-one i) (go (ltb m 0x80) (ltb (getD s i 0) 0x80) refl refl)
+marked-at s i m l = rw (drop-cons s i 0 l, add-one i) (go (ltb (getD s i 0) 0x80) (eqb m 0) refl)
   where
-    go : (t u : Bool) → ltb m 0x80 ≡ t → ltb (getD s i 0) 0x80 ≡ u → pick (ltb (max m (getD s i 0)) 0x80) (ascii (drop (suc i) s)) false ≡ pick t (pick u (ascii (drop (suc i) s)) false) false
-    go true true p q = let h : max m (getD s i 0) < 0x80 = omega (arith, ltb-true m 0x80 p, ltb-true (getD s i 0) 0x80 q) in rw (lt-ltb _ _ h)
-    go true false p q = let h : 0x80 ≤ max m (getD s i 0) = omega (arith, ltb-false (getD s i 0) 0x80 q) in rw (le-ltb _ _ h)
-    go false u p q = let h : 0x80 ≤ max m (getD s i 0) = omega (arith, ltb-false m 0x80 p) in rw (le-ltb _ _ h)
+    go : (u t : Bool) → eqb m 0 ≡ t → pick (eqb (pick u m 1) 0) (ascii (drop (suc i) s)) false ≡ pick t (pick u (ascii (drop (suc i) s)) false) false
+    go true t p = rw p
+    go false true p = refl
+    go false false p = refl
 
-pub larger-end : (s : List ℕ) (i m : ℕ) → length s ≤ i → pick (ltb m 0x80) (ascii (drop i s)) false ≡ ltb m 0x80
+pub marked-end : (s : List ℕ) (i m : ℕ) → length s ≤ i → pick (eqb m 0) (ascii (drop i s)) false ≡ eqb m 0
 unfolding ascii
-larger-end s i m l = rw (drop-of-length-le s l) (go (ltb m 0x80))
+marked-end s i m l = rw (drop-of-length-le s l) (go (eqb m 0))
   where
     go : (t : Bool) → pick t true false ≡ t
     go true = refl
@@ -161,3 +162,29 @@ blocks-ascii (suc n) s h =
 -- it lies in s, and is ASCII
 pub front-ascii : (s : List ℕ) (n : ℕ) → n ≡ asciiFront s → (n ≤ length s) × (ascii (take n s) ≡ true)
 front-ascii s n e = rw e (blocks-ascii (length s / 128) s (omega arith))
+
+-- behind bytes that are ASCII
+ascii-behind : (n : ℕ) (s : List ℕ) → ascii (take n s) ≡ true → ascii s ≡ ascii (drop n s)
+unfolding ascii
+ascii-behind zero s e = refl
+ascii-behind (suc n) [] e = refl
+ascii-behind (suc n) (b ∷ s) e = go (ltb b 0x80) e (ascii-behind n s)
+  where
+    go : (t : Bool) → pick t (ascii (take n s)) false ≡ true → (ascii (take n s) ≡ true → ascii s ≡ ascii (drop n s))
+        → pick t (ascii s) false ≡ ascii (drop n s)
+    go true h f = f h
+    go false h f = let z : true ≡ false = sym h in cc
+
+-- what stands behind the front may be told with a part of the front before it
+pub front-tells : (s : List ℕ) (at from : ℕ) → FrontFrom s at → from ≤ at → (t : Bool) → t ≡ ascii (take (length s - from) (drop from s))
+    → t ≡ ascii (take (length s - at) (drop at s))
+front-tells s at from f l t e =
+    let k = ascii-head at (asciiFront s) s (omega (arith, f .rest)) (front-ascii s (asciiFront s) refl .1) in
+    let z : from + (at - from) ≡ at = omega arith in
+    e
+    ∙ rw (part-from from s, part-from at s)
+    (ascii-behind (at - from) (drop from s) (ascii-from at from s k) ∙ ap ascii (drop-drop (at - from) from s ∙ ap (λ (j : ℕ). drop j s) z))
+
+-- and a front that is all of s
+pub all-front : (s : List ℕ) (n : ℕ) → n ≡ asciiFront s → n ≡ length s → ascii s ≡ true
+all-front s n e h = rw (take-all n s (omega arith)) at (front-ascii s n e .1)

@@ -1,10 +1,10 @@
 // UTF-8, and its part that is ASCII.
 ghost use mathlib.Core.Path.{_≡_};
 ghost use mathlib.Core.Bool.{true};
-ghost use Prim.Native.Nat.{max, _+_, _≤_, _<_};
+ghost use Prim.Native.Nat.{_+_, _≤_, _<_};
 ghost use lib.ListN.{length, take, drop};
-ghost use lib.Dec.{leb};
-ghost use Rattle.base.specs.Pick.{both};
+ghost use lib.Dec.{ltb, leb};
+ghost use Rattle.base.specs.Pick.{pick, both};
 ghost use Rattle.utf8.specs.Utf8.{lead as leadOf, chars, utf8, sizeOf};
 ghost use Rattle.utf8.specs.Ascii.{ascii, asciiFront};
 
@@ -159,10 +159,11 @@ fn scan(s: &[u8]) -> bool
     true
 }
 
-pub fn larger(a: u8, b: u8) -> u8
-    ensures { λ r. ⌜ r ≡ max a b ⌝ }
+// 1 where b isn't ASCII, else m.
+fn marked(m: u8, b: u8) -> u8
+    ensures { λ r. ⌜ r ≡ pick (ltb b 0x80) m 1 ⌝ }
 {
-    if a < b { b } else { a }
+    if b < 0x80 { m } else { 1 }
 }
 
 // Whether every byte is below 0x80. The loop has no early exit, so that it compiles to wide operations.
@@ -172,13 +173,14 @@ fn all_ascii(s: &[u8]) -> bool
     let mut m: u8 = 0;
     let mut i: usize = 0;
     while i < s.len() {
-        m = larger(m, s[i]);
+        m = marked(m, s[i]);
         i += 1;
     }
-    m < 0x80
+    m == 0
 }
 
-// How many bytes at the front of s are ASCII, by blocks of 128: there may be more in the block at which it ends.
+// How many bytes at the front of s are ASCII, by blocks of 128: there may be more in the block at which it ends. The last 128 bytes are such a block
+// too, of which some were looked at before.
 pub fn ascii_front(s: &[u8]) -> usize
     ensures { λ r. ⌜ r ≡ asciiFront (now (s .entry)) ⌝ }
 {
@@ -191,7 +193,14 @@ pub fn ascii_front(s: &[u8]) -> usize
             return at;
         }
     }
-    if all_ascii(&s[at..]) {
+    if at < 128 {
+        if all_ascii(&s[at..]) {
+            return s.len();
+        }
+        return at;
+    }
+    let from = s.len() - 128;
+    if all_ascii(&s[from..]) {
         return s.len();
     }
     at
@@ -201,7 +210,7 @@ pub fn ascii_front(s: &[u8]) -> usize
 pub fn is_utf8(s: &[u8]) -> bool
     ensures { λ r. ⌜ r ≡ utf8 (now (s .entry)) ⌝ }
 {
-    if all_ascii(s) {
+    if ascii_front(s) == s.len() {
         return true;
     }
     scan(s)

@@ -64,10 +64,10 @@ pub fn compare(
         let v = y.held;
         let e = occurrences::smaller(occurrences::smaller(u.end, v.end), last);
         let d = unlike(px, sx, u, py, sy, v);
-        m = stretches::mark(out, m, t, d);
+        m = stretch_marks::mark(out, m, t, d);
         x = cursor_steps::seek(zx, kx, x, ex, e);
         y = cursor_steps::seek(zy, ky, y, ey, e);
         t = e;
     }
-    stretches::put_stretch(out, m.count, m.since, t)
+    stretch_marks::put_stretch(out, m.count, m.since, t)
 }

@@ -9,9 +9,7 @@ use transitions::HOUR;
 ghost use mathlib.Core.Path.{_≡_};
 ghost use Prim.Native.Nat.{_+_, _≤_};
 ghost use lib.ListN.{length, drop};
-ghost use Rattle.base.specs.Parsed.{parse};
-ghost use Rattle.transitions.specs.Transition.{readMoment};
-ghost use Rattle.places.specs.Placed.{Stands, ofRead};
+ghost use Rattle.places.specs.Placed.{Stands};
 ghost use Rattle.places.specs.Short.{halfHours};
 ghost use Rattle.mentions.specs.Walk.{behindRule, behindEnd, behindStart, behindDetails, behindOffset, behindIntervalCount, behindId};
 ghost use Rattle.mentions.specs.View.{ofSkipped};
@@ -189,24 +187,6 @@ pub struct Start {
     pub place: usize,
 }
 
-// A start after prev at a place. Ticks take no call. It has one caller, so that the compiler puts it there whole.
-fn moment_at(s: &[u8], at: usize, prev: u64) -> Read
-    requires { ⌜ at ≤ length (now s) ⌝ }
-    ensures { λ r. ⌜ Stands (now (s .entry)) (parse (readMoment prev) (drop at (now (s .entry)))) (ofRead r) ⌝ }
-{
-    if s.len() - at < 9 {
-        return places::moment_at(s, at, prev);
-    }
-    if s[at] == 2 {
-        let raw = count_readers::fixed_from(&s[at + 1..], 8, 0);
-        let t = signed::from_raw(raw);
-        if t != 0 {
-            return Read::Value(t, at + 9);
-        }
-    }
-    places::moment_at(s, at, prev)
-}
-
 // Behind the name of an interval that starts at prev: the start of the next, code by code; the place 0 where there is none.
 pub fn any_start(s: &[u8], at: usize, prev: u64) -> Start
     requires { ⌜ at ≤ length (now s) ⌝ }
@@ -216,7 +196,7 @@ pub fn any_start(s: &[u8], at: usize, prev: u64) -> Start
         Read::Refused(_) => Start { start: 0, place: 0 },
         Read::Value(_, a) => match places::sum_at(s, a) {
             Read::Refused(_) => Start { start: 0, place: 0 },
-            Read::Value(_, b) => match moment_at(s, b, prev) {
+            Read::Value(_, b) => match any_intervals::moment_at(s, b, prev) {
                 Read::Refused(_) => Start { start: 0, place: 0 },
                 Read::Value(m, e) => Start { start: m, place: e },
             },

@@ -27,7 +27,7 @@ fn put_starts(s: &[u8], at: usize, pool: u64, n: u64, out: &mut [i64])
     let mut place = at;
     let mut last = END;
     while 0 < left {
-        let m = usual_starts::usual_start(s, place, pool, last);
+        let m = next_intervals::short_next(s, place, pool, last);
         if m != 0 {
             out[i] = signed::ticks(m);
             left -= 1;
@@ -57,7 +57,7 @@ fn fill_listed(s: &[u8], at: usize, pool: u64, n: u64, out: &mut [i64]) -> ZoneS
     requires { ⌜ ListedAt pool (now s) n at ⌝ }
     ensures { λ r. ⌜ Fills (parseZone pool (now (s .entry))) (now (out .entry)) r (now (out .exit)) ⌝ }
 {
-    match zone_checks::check(s, pool) {
+    match zone_reads::check(s, pool) {
         ZoneVerdict::Refused(k) => ZoneStarts::Refused(k),
         ZoneVerdict::Good(_) => {
             if (out.len() as u64) < n {

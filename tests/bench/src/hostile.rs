@@ -1,6 +1,7 @@
 //! Files made to be slow, in four sizes each.
 
 use crate::files::{content, in_ticks, preferred, realistic_file};
+use crate::found::Found;
 use crate::inputs::{instants, trace};
 use crate::tools::Tool;
 use crate::work::Work;
@@ -218,10 +219,10 @@ fn one_list(count: usize) -> Grown {
     grown.more = vec![
         ("difference, every other interval changed", Work::Tool(difference)),
         ("interval starts", Work::Tool(Tool::Starts { id: grown.last.clone() })),
-        ("table of all answers", Work::ListAnswers { id: grown.last.clone(), rows: count }),
+        ("table of all answers", Work::found(Found::List { id: grown.last.clone(), rows: count })),
         (
             "10,000 questions over that table",
-            Work::AskListed { id: grown.last.clone(), rows: count, instants: instants.clone() },
+            Work::found(Found::AskListed { id: grown.last.clone(), rows: count, instants: instants.clone() }),
         ),
         ("10,000 searches in the starts", Work::Tool(Tool::Search { table, instants })),
     ];

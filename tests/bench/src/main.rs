@@ -1,9 +1,11 @@
-//! Measures the proved library beside the peer, and prints three Markdown tables with a few words: on the realistic files, ours
-//! against the peer's, and the same files in pieces; on files of n, 2n, 4n and 8n bytes, how the time grows. Fails if the two give
-//! different answers. With an argument only the rows that have it in their file's name or their work's are measured.
+//! Measures the proved library beside the peer, and prints four Markdown tables with a few words: on the realistic files, ours
+//! against the peer's, found zones and tables beside a peer that trusts the bytes, and the same files in pieces; on files of n, 2n, 4n and
+//! 8n bytes, how the time grows. Fails if the two give different answers. With an argument only the rows that have it in their file's name or
+//! their work's are measured.
 
 mod clock;
 mod files;
+mod found;
 mod growing;
 mod hostile;
 mod inputs;
@@ -52,7 +54,10 @@ fn main() -> ExitCode {
     let only = Only(std::env::args().nth(1));
     println!("A time is the processor time of one call in µs, the least of {SAMPLES} samples ({FEW_SAMPLES} where a call takes");
     println!("longer than 0.1 s), ours and the peer's taken in turn.\n");
-    let tables = realistic::table(&only).and_then(|()| pieces::table(&only)).and_then(|()| growing::table(&only));
+    let tables = realistic::table(&only)
+        .and_then(|()| realistic::trusting_table(&only))
+        .and_then(|()| pieces::table(&only))
+        .and_then(|()| growing::table(&only));
     if let Err(fault) = tables {
         eprintln!("bench: {fault}");
         return ExitCode::FAILURE;

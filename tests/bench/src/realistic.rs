@@ -1,6 +1,7 @@
 //! The first table: on the realistic files, ours against the peer's.
 
 use crate::files::{content, in_ticks, padded, preferred, realistic_file};
+use crate::found::Found;
 use crate::inputs::{instants, later_release, reversed_pool, trace};
 use crate::measure::measure;
 use crate::tools::Tool;
@@ -59,14 +60,9 @@ pub fn table(only: &Only) -> Result<(), String> {
         rows.push((&file, "close up the pool, in order already".to_string(), Work::Tool(Tool::ClosePool)));
         rows.push((&reversed, "close up the pool, in the reverse order".to_string(), Work::Tool(Tool::ClosePool)));
         for (file, what, work) in rows {
-            if !only.takes(name, &what) {
-                continue;
+            if only.takes(name, &what) {
+                above.add(row(name, file, &what, &work)?, WANTED_RATIO);
             }
-            agree(file, name, &what, &work)?;
-            let times = measure(&mut work.pieces(file));
-            let ratio = times[0] / times[1];
-            println!("| `{name}` | {what} | {} | {} | {ratio:.2} |", us(times[0]), us(times[1]));
-            above.add(ratio, WANTED_RATIO);
         }
     }
     println!(
@@ -74,6 +70,36 @@ pub fn table(only: &Only) -> Result<(), String> {
         above.above, above.all
     );
     Ok(())
+}
+
+/// The rows of found zones and tables once more, beside the peer that trusts the bytes.
+pub fn trusting_table(only: &Only) -> Result<(), String> {
+    println!("## Found zones and tables, beside a reader that trusts the bytes\n");
+    println!("In the table above the peer's found zone is a plain value, as the library's is, over bytes that may be others by then, so each");
+    println!("question checks the zone's bytes and walks over the pool to the name, and a table has seven numbers a row. Here the peer's found zone keeps");
+    println!("an index of the pool and the zone's tail and checks nothing again, and a row of its table has the name itself.\n");
+    println!("| File | Work | Ours, µs | Peer, µs | Ratio |");
+    println!("|---|---|---:|---:|---:|");
+    for name in ["all.nzd", "europe.nzd"] {
+        let file = realistic_file(name)?;
+        let content = content(&file).map_err(|refusal| format!("{name}: {refusal}"))?;
+        for (what, work) in questions(&content) {
+            if let Some(work) = work.trusting().filter(|_| only.takes(name, &what)) {
+                row(name, &file, &what, &work)?;
+            }
+        }
+    }
+    println!();
+    Ok(())
+}
+
+/// Prints a row, and gives its ratio.
+fn row(name: &str, file: &[u8], what: &str, work: &Work) -> Result<f64, String> {
+    agree(file, name, what, work)?;
+    let times = measure(&mut work.pieces(file));
+    let ratio = times[0] / times[1];
+    println!("| `{name}` | {what} | {} | {} | {ratio:.2} |", us(times[0]), us(times[1]));
+    Ok(ratio)
 }
 
 /// First, middle and last zone at a listed instant; of the zones with a tail the same at an instant in it; the first and the last of
@@ -91,10 +117,11 @@ fn questions(content: &FileContent) -> Vec<(String, Work)> {
             let which = format!("{place} zone, {kind} (`{}`)", String::from_utf8_lossy(&id));
             questions.push((format!("question, {which}"), Work::Ask { id: id.clone(), ticks, edition: Two }));
             if place != "middle" {
-                found.push((format!("question of a found zone, {which}"), Work::AskZone { id: id.clone(), ticks }));
-                let work = Work::AskListed { id: id.clone(), rows: ROWS, instants: vec![ticks] };
+                let work = Work::found(Found::Ask { id: id.clone(), ticks });
+                found.push((format!("question of a found zone, {which}"), work));
+                let work = Work::found(Found::AskListed { id: id.clone(), rows: ROWS, instants: vec![ticks] });
                 listed.push((format!("question over a table, {which}"), work));
-                let work = Work::MapZoneLocal { id: id.clone(), local: ticks };
+                let work = Work::found(Found::MapLocal { id: id.clone(), local: ticks });
                 found_locals.push((format!("local time of a found zone, {which}"), work));
             }
             locals.push((format!("local time, {which}"), Work::MapLocal { id, local: ticks }));
@@ -107,9 +134,9 @@ fn questions(content: &FileContent) -> Vec<(String, Work)> {
         let shown = String::from_utf8_lossy(&id).into_owned();
         let instants = instants(&starts_of(zone));
         let what = format!("10,000 questions over a table, instants in no order (`{shown}`)");
-        questions.push((what, Work::AskListed { id: id.clone(), rows: ROWS, instants }));
+        questions.push((what, Work::found(Found::AskListed { id: id.clone(), rows: ROWS, instants })));
         let what = format!("table of 1,000 answers, last zone with a tail (`{shown}`)");
-        questions.push((what, Work::ListAnswers { id, rows: ROWS }));
+        questions.push((what, Work::found(Found::List { id, rows: ROWS })));
     }
     let absent = Work::Ask { id: b"No/Such_Zone".to_vec(), ticks: LISTED, edition: Two };
     questions.push(("question, absent zone".to_string(), absent));

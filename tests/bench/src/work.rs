@@ -1,6 +1,7 @@
-//! What is measured: normalizing, with room and without, a question by ID, by name, of a found zone or over a table, such a table, all
-//! intervals of a zone, a local time, a location, all countries of a field, a file in pieces, or a tool, by the library and by the peer; and the floor, which memory sets.
+//! What is measured: normalizing, with room and without, a question by ID or by name, all intervals of a zone, a local time, a location, all
+//! countries of a field, a file in pieces, a found zone or a tool, by the library and by the peer; and the floor, which memory sets.
 
+use crate::found::Found;
 use crate::measure::Piece;
 use crate::tools::Tool;
 use nzd::{Bound, Edition, LocationField, Mark};
@@ -22,26 +23,10 @@ pub enum Work {
         ticks: i64,
         edition: Edition,
     },
-    /// A question of a zone that was found before.
-    AskZone {
-        id: Vec<u8>,
-        ticks: i64,
-    },
-    /// Questions over a table of at most so many of a found zone's answers, which was made before.
-    AskListed {
-        id: Vec<u8>,
-        rows: usize,
-        instants: Vec<i64>,
-    },
-    /// A table of at most so many of a found zone's answers.
-    ListAnswers {
-        id: Vec<u8>,
-        rows: usize,
-    },
-    /// A local time of a zone that was found before.
-    MapZoneLocal {
-        id: Vec<u8>,
-        local: i64,
+    /// On a zone that was found before, beside the peer's plain value or the one that trusts the bytes.
+    Found {
+        work: Found,
+        trusts: bool,
     },
     /// All intervals of a zone from year 1 on, each asked for at the end of the one before.
     Intervals {
@@ -78,7 +63,7 @@ pub enum Work {
 }
 
 /// What a question gives: number and place of a refusal, or the values of an answer.
-type Said<'a> = Result<([i64; 3], &'a [u8], i64, i64), (u8, usize)>;
+pub type Said<'a> = Result<([i64; 3], &'a [u8], i64, i64), (u8, usize)>;
 
 pub fn pair(error: nzd::Error) -> (u8, usize) {
     (error.number.value(), error.place)
@@ -88,29 +73,27 @@ pub fn peer_pair(refusal: peer::Refusal) -> (u8, usize) {
     (refusal.number, refusal.place)
 }
 
-fn said(answer: Result<nzd::Answer<'_>, nzd::Error>) -> Said<'_> {
+pub fn said(answer: Result<nzd::Answer<'_>, nzd::Error>) -> Said<'_> {
     answer
         .map(|a| ([a.wall_offset_ms, a.savings_ms, a.standard_offset_ms], a.name, ticks_of(a.start), ticks_of(a.end)))
         .map_err(pair)
 }
 
-fn peer_said(answer: Result<peer::Answer<'_>, peer::Refusal>) -> Said<'_> {
-    answer
-        .map(|a| ([a.wall_offset_ms, a.savings_ms, a.standard_offset_ms].map(i64::from), a.name, a.start, a.end))
-        .map_err(peer_pair)
+pub fn peer_said(answer: Result<peer::Answer<'_>, peer::Refusal>) -> Said<'_> {
+    answer.map(|a| ([a.wall_offset_ms, a.savings_ms, a.standard_offset_ms], a.name, a.start, a.end)).map_err(peer_pair)
 }
 
 /// What a local time gives: number and place of a refusal, or how many instants read as it, the earliest and the latest.
-type Mapped = Result<(usize, i64, i64), (u8, usize)>;
+pub type Mapped = Result<(usize, i64, i64), (u8, usize)>;
 
-fn mapped(found: nzd::LocalInstants) -> Mapped {
+pub fn mapped(found: nzd::LocalInstants) -> Mapped {
     match (found.earliest(), found.latest()) {
         (Some(earliest), Some(latest)) => Ok((found.count(), earliest, latest)),
         _ => Err((17, 0)),
     }
 }
 
-fn peer_mapped(found: Result<peer::LocalInstants, peer::Refusal>) -> Mapped {
+pub fn peer_mapped(found: Result<peer::LocalInstants, peer::Refusal>) -> Mapped {
     found.map(|found| (found.count as usize, found.earliest, found.latest)).map_err(peer_pair)
 }
 
@@ -123,6 +106,19 @@ fn ticks_of(bound: Bound) -> i64 {
 }
 
 impl Work {
+    /// On a found zone, beside the peer's plain value.
+    pub fn found(work: Found) -> Work {
+        Work::Found { work, trusts: false }
+    }
+
+    /// The same beside the peer that trusts the bytes, where a zone was found before.
+    pub fn trusting(self) -> Option<Work> {
+        match self {
+            Work::Found { work, .. } => Some(Work::Found { work, trusts: true }),
+            _ => None,
+        }
+    }
+
     /// Whether both give the same on a file.
     pub fn agrees(&self, file: &[u8]) -> bool {
         match self {
@@ -134,25 +130,7 @@ impl Work {
                 let ours = said(nzd::ask_named(file, name, *ticks, Mark::ThisIsAll, *edition));
                 ours == peer_said(peer::ask_named(file, name, *ticks, false, *edition == Edition::One))
             }
-            Work::AskZone { id, ticks } => {
-                let ours = said(nzd::Zone::find(file, id).and_then(|zone| zone.ask(*ticks, Edition::Two)));
-                ours == peer_said(peer::Zone::find(file, id).and_then(|zone| zone.ask(*ticks, false)))
-            }
-            Work::AskListed { id, rows, instants } => {
-                match (table(file, id, room(*rows)), PeerTable::find(file, id, *rows)) {
-                    (Ok(ours), Ok(theirs)) => {
-                        instants.iter().all(|&ticks| said(ours.ask(ticks)) == peer_said(theirs.ask(ticks)))
-                    }
-                    _ => false,
-                }
-            }
-            Work::ListAnswers { id, rows } => match (table(file, id, room(*rows)), PeerTable::find(file, id, *rows)) {
-                (Ok(ours), Ok(theirs)) => {
-                    let same = |row: &peer::Answer| said(ours.ask(row.end - 1)) == peer_said(Ok(*row));
-                    ours.count() == theirs.rows.len() && theirs.rows.iter().filter(|row| row.end < i64::MAX).all(same)
-                }
-                _ => false,
-            },
+            Work::Found { work, trusts } => work.agrees(file, *trusts),
             Work::Intervals { id } => intervals(file, id) == peer_intervals(file, id),
             Work::AskNamedOld { older, name, ticks } => {
                 let ours = said(nzd::ask_named_old(file, older, name, *ticks, Edition::Two));
@@ -166,10 +144,6 @@ impl Work {
             Work::MapLocal { id, local } => {
                 let ours = nzd::map_local(file, id, *local).map_err(pair).and_then(mapped);
                 ours == peer_mapped(peer::map_local(file, id, *local))
-            }
-            Work::MapZoneLocal { id, local } => {
-                let ours = nzd::Zone::find(file, id).map_err(pair).and_then(|zone| mapped(zone.map_local(*local)));
-                ours == peer_mapped(peer::Zone::find(file, id).and_then(|zone| zone.map_local(*local)))
             }
             Work::Location { field, number } => ours_at(file, *field, *number) == theirs_at(file, *field, *number),
             Work::Countries { field } => countries(file, *field) == peer_countries(file, *field),
@@ -203,46 +177,7 @@ impl Work {
                     piece(move || peer::ask_named(black_box(file), black_box(name), *ticks, false, first)),
                 ]
             }
-            Work::AskZone { id, ticks } => {
-                let (ours, theirs) = (nzd::Zone::find(file, id).ok(), peer::Zone::find(file, id).ok());
-                [
-                    piece(move || black_box(&ours).map(|zone| zone.ask(black_box(*ticks), Edition::Two))),
-                    piece(move || {
-                        let zone = black_box(&theirs).as_ref();
-                        black_box(zone.map(|zone| zone.ask(black_box(*ticks), false)));
-                    }),
-                ]
-            }
-            Work::AskListed { id, rows, instants } => {
-                let (ours, theirs) = (table(file, id, room(*rows)).ok(), PeerTable::find(file, id, *rows).ok());
-                [
-                    piece(move || {
-                        if let Some(table) = black_box(&ours) {
-                            for &ticks in black_box(instants) {
-                                let _ = black_box(table.ask(ticks));
-                            }
-                        }
-                    }),
-                    piece(move || {
-                        if let Some(table) = black_box(&theirs) {
-                            for &ticks in black_box(instants) {
-                                let _ = black_box(table.ask(ticks));
-                            }
-                        }
-                    }),
-                ]
-            }
-            Work::ListAnswers { id, rows } => {
-                let (zone, mut theirs) = (nzd::Zone::find(file, id).ok(), PeerTable::find(file, id, *rows).ok());
-                let room = room(*rows);
-                [
-                    piece(move || {
-                        let zone = black_box(&zone).as_ref();
-                        zone.map(|zone| zone.table(nzd::FIRST_INSTANT, Edition::Two, room).map(|table| table.count()))
-                    }),
-                    piece(move || theirs.as_mut().map(|table| black_box(table).list())),
-                ]
-            }
+            Work::Found { work, trusts } => work.pieces(file, *trusts),
             Work::Intervals { id } => [
                 piece(move || intervals(black_box(file), black_box(id))),
                 piece(move || peer_intervals(black_box(file), black_box(id))),
@@ -261,16 +196,6 @@ impl Work {
                 piece(move || nzd::map_local(black_box(file), black_box(id), *local)),
                 piece(move || peer::map_local(black_box(file), black_box(id), *local)),
             ],
-            Work::MapZoneLocal { id, local } => {
-                let (ours, theirs) = (nzd::Zone::find(file, id).ok(), peer::Zone::find(file, id).ok());
-                [
-                    piece(move || black_box(&ours).map(|zone| zone.map_local(black_box(*local)))),
-                    piece(move || {
-                        let zone = black_box(&theirs).as_ref();
-                        black_box(zone.map(|zone| zone.map_local(black_box(*local))));
-                    }),
-                ]
-            }
             Work::Location { field, number } => [
                 piece(move || nzd::location(black_box(file), field_of(*field), *number)),
                 piece(move || peer::location(black_box(file), *field, *number)),
@@ -312,39 +237,6 @@ fn output(file: &[u8], room: bool) -> Vec<u8> {
     vec![0; if room { file.len() } else { 0 }]
 }
 
-/// Room for a table, which lasts as long as the program.
-fn room(rows: usize) -> &'static mut [i64] {
-    vec![0; rows * nzd::ROW_NUMBERS].leak()
-}
-
-/// A table of a zone's answers from year 1 on.
-fn table<'a, 'r>(file: &'a [u8], id: &[u8], room: &'r mut [i64]) -> Result<nzd::ZoneTable<'a, 'r>, nzd::Error> {
-    nzd::Zone::find(file, id)?.table(nzd::FIRST_INSTANT, Edition::Two, room)
-}
-
-/// The peer's, which has it in a list of its own.
-struct PeerTable<'a> {
-    zone: peer::Zone<'a>,
-    most: usize,
-    rows: Vec<peer::Answer<'a>>,
-}
-
-impl<'a> PeerTable<'a> {
-    fn find(file: &'a [u8], id: &[u8], most: usize) -> Result<Self, peer::Refusal> {
-        let mut found = PeerTable { zone: peer::Zone::find(file, id)?, most, rows: Vec::with_capacity(most) };
-        found.list()?;
-        Ok(found)
-    }
-
-    fn list(&mut self) -> Result<(), peer::Refusal> {
-        self.zone.list(nzd::FIRST_INSTANT, false, self.most, &mut self.rows)
-    }
-
-    fn ask(&self, ticks: i64) -> Result<peer::Answer<'a>, peer::Refusal> {
-        self.zone.ask_listed(&self.rows, ticks, false)
-    }
-}
-
 /// How many intervals a zone has that hold an instant, and the sum of their wall offsets.
 fn intervals(file: &[u8], id: &[u8]) -> (usize, i64) {
     let all = nzd::intervals(file, id, nzd::FIRST_INSTANT, Mark::ThisIsAll, Edition::Two).filter_map(Result::ok);
@@ -354,7 +246,7 @@ fn intervals(file: &[u8], id: &[u8]) -> (usize, i64) {
 fn peer_intervals(file: &[u8], id: &[u8]) -> (usize, i64) {
     let (mut number, mut sum, mut ticks) = (0, 0, nzd::FIRST_INSTANT);
     while let Ok(interval) = peer::ask(file, id, ticks, false, false) {
-        (number, sum, ticks) = (number + 1, sum + i64::from(interval.wall_offset_ms), interval.end);
+        (number, sum, ticks) = (number + 1, sum + interval.wall_offset_ms, interval.end);
     }
     (number, sum)
 }
@@ -436,8 +328,9 @@ fn peer_countries(file: &[u8], field: u8) -> (usize, usize) {
     all.fold((0, 0), |(number, bytes), (name, code)| (number + 1, bytes + name.len() + code.len()))
 }
 
+/// What is given is lent to the black box, since handing it over would be a copy.
 pub fn piece<'a, T>(mut work: impl FnMut() -> T + 'a) -> Piece<'a> {
     Box::new(move || {
-        black_box(work());
+        black_box(&work());
     })
 }

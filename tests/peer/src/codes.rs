@@ -70,6 +70,11 @@ impl<'a> Cursor<'a> {
     #[inline]
     pub fn size(&mut self) -> Result<u32, u8> {
         match *self.rest {
+            // No data: the next field's place waits for no sum.
+            [0, ref rest @ ..] => {
+                self.rest = rest;
+                Ok(0)
+            }
             [first, ref rest @ ..] if first < 0x80 => {
                 self.rest = rest;
                 Ok(first.into())

@@ -38,8 +38,10 @@ pub fn difference(
 fn stretches(one: &Zone, two: &Zone, first: i64, last: i64, list: &mut [(i64, i64)]) -> usize {
     let same_name = |name, other| one.pool.string(name) == two.pool.string(other);
     // Tails that are the same never differ.
-    let last = match (&one.tail, &two.tail) {
-        (Some(tail), Some(other)) if tail.same(other, same_name) => last.min(one.listed_end.max(two.listed_end)),
+    let last = match (&one.kept.tail, &two.kept.tail) {
+        (Some(tail), Some(other)) if tail.same(other, same_name) => {
+            last.min(one.kept.listed_end.max(two.kept.listed_end))
+        }
         _ => last,
     };
     let mut count = 0;
@@ -49,7 +51,7 @@ fn stretches(one: &Zone, two: &Zone, first: i64, last: i64, list: &mut [(i64, i6
         }
         count += 1;
     };
-    let (mut steps, mut other_steps) = (one.steps(first), two.steps(first));
+    let (mut steps, mut other_steps) = (one.kept.steps(first), two.kept.steps(first));
     // Where the open stretch began.
     let mut since = None;
     let mut at = first;

@@ -12,6 +12,12 @@ use crate::{find_zone, Answer, Refusal, END_OF_TIME, FIRST, LAST, START_OF_TIME}
 /// A zone of a file that is all there.
 pub struct Zone<'a> {
     pub(crate) pool: Pool<'a>,
+    pub(crate) kept: Kept<'a>,
+}
+
+/// What is kept of a zone's data.
+pub(crate) struct Kept<'a> {
+    pool_count: u32,
     first: Interval,
     /// The name of the first interval under edition 1: of a fixed zone its ID.
     first_name: u32,
@@ -23,7 +29,7 @@ pub struct Zone<'a> {
 }
 
 /// What a zone's check finds.
-struct Shape {
+pub(crate) struct Shape {
     first: Interval,
     first_name: u32,
     count: u32,
@@ -31,6 +37,20 @@ struct Shape {
     left: usize,
     end: i64,
     tail: Option<Tail>,
+}
+
+impl Shape {
+    pub(crate) fn new() -> Shape {
+        let first = Interval { start: START_OF_TIME, name: 0, wall: 0, savings: 0 };
+        Shape { first, first_name: 0, count: 0, left: 0, end: END_OF_TIME, tail: None }
+    }
+
+    /// What is kept of the zone in `data`, once it is read.
+    pub(crate) fn keep(self, data: &[u8], pool_count: u32) -> Kept<'_> {
+        let Shape { first, first_name, count, left, end, tail } = self;
+        let listed = Cursor::new(&data[data.len() - left..]);
+        Kept { pool_count, first, first_name, count, listed, listed_end: end, tail }
+    }
 }
 
 impl Visit for Shape {
@@ -69,12 +89,10 @@ impl Visit for Shape {
 impl<'a> Zone<'a> {
     /// Finds the zone `id`.
     pub fn find(file: &'a [u8], id: &[u8]) -> Result<Zone<'a>, Refusal> {
-        let first = Interval { start: START_OF_TIME, name: 0, wall: 0, savings: 0 };
-        let mut shape = Shape { first, first_name: 0, count: 0, left: 0, end: END_OF_TIME, tail: None };
+        let mut shape = Shape::new();
         let found = find_zone(file, id, false, &mut shape)?;
-        let Shape { first, first_name, count, left, end, tail } = shape;
-        let listed = Cursor::new(&found.data[found.data.len() - left..]);
-        Ok(Zone { pool: found.pool, first, first_name, count, listed, listed_end: end, tail })
+        let kept = shape.keep(found.zone.data, found.pool.count());
+        Ok(Zone { pool: found.pool, kept })
     }
 
     /// The interval that holds `ticks`, as [`ask`](crate::ask) gives it.
@@ -82,24 +100,33 @@ impl<'a> Zone<'a> {
         if !(FIRST..=LAST).contains(&ticks) {
             return Err(Refusal { number: INSTANT_RANGE, place: 0 });
         }
+        let (held, end) = self.kept.at(ticks, first_edition);
+        Ok(held.answer(end, self.pool.string(held.name)))
+    }
+
+    /// The instants that read as the local time `local`, as [`map_local`](crate::map_local) gives them.
+    pub fn map_local(&self, local: i64) -> Result<LocalInstants, Refusal> {
+        let Kept { pool_count, first, count, mut listed, listed_end, tail, .. } = self.kept;
+        let mut found = Count::new(local);
+        found.interval(first);
+        // The zone was read to its end before.
+        let read = read_intervals(&mut listed, 1..count, pool_count, &mut found);
+        debug_assert!(read.is_ok());
+        found.end(listed_end, tail.as_ref());
+        found.instants().ok_or(Refusal { number: NO_INSTANT, place: 0 })
+    }
+}
+
+impl<'a> Kept<'a> {
+    /// The interval that holds `ticks`, and its end.
+    #[inline]
+    pub(crate) fn at(&self, ticks: i64, first_edition: bool) -> (Interval, i64) {
         let (held, end) = match &self.tail {
             Some(tail) if self.listed_end <= ticks => tail.at(self.listed_end, ticks),
             _ => self.steps(ticks).here(),
         };
         let name = if first_edition && held.start == START_OF_TIME { self.first_name } else { held.name };
-        Ok(Interval { name, ..held }.answer(end, &self.pool))
-    }
-
-    /// The instants that read as the local time `local`, as [`map_local`](crate::map_local) gives them.
-    pub fn map_local(&self, local: i64) -> Result<LocalInstants, Refusal> {
-        let mut found = Count::new(local);
-        found.interval(self.first);
-        let mut listed = self.listed;
-        // The zone was read to its end before.
-        let read = read_intervals(&mut listed, 1..self.count, self.pool.count(), &mut found);
-        debug_assert!(read.is_ok());
-        found.end(self.listed_end, self.tail.as_ref());
-        found.instants().ok_or(Refusal { number: NO_INSTANT, place: 0 })
+        (Interval { name, ..held }, end)
     }
 
     /// A walk over the intervals that begins at an instant.
@@ -114,7 +141,7 @@ impl<'a> Zone<'a> {
 
 /// A walk over the intervals of a zone.
 pub(crate) struct Steps<'a> {
-    zone: &'a Zone<'a>,
+    zone: &'a Kept<'a>,
     cursor: Cursor<'a>,
     /// The number of the interval held, from 0; the last listed one's in the tail.
     number: u32,
@@ -154,7 +181,7 @@ impl Steps<'_> {
         while self.end <= ticks && self.number + 1 < self.zone.count {
             let most = self.zone.count - self.number - 2;
             let mut last = Last { stop: ticks, held: self.next };
-            let (read, _) = read_run(&mut self.cursor, self.next.start, self.zone.pool.count(), most, &mut last);
+            let (read, _) = read_run(&mut self.cursor, self.next.start, self.zone.pool_count, most, &mut last);
             (self.number, self.held) = (self.number + 1 + read, last.held);
             self.read_next();
         }
@@ -163,7 +190,7 @@ impl Steps<'_> {
     /// The end of the listed interval held.
     #[inline]
     fn read_next(&mut self) {
-        let (number, previous, pool_count) = (self.number + 1, self.held.start, self.zone.pool.count());
+        let (number, previous, pool_count) = (self.number + 1, self.held.start, self.zone.pool_count);
         self.end = self.zone.listed_end;
         if number < self.zone.count {
             // The zone was read to its end before.

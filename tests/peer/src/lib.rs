@@ -1,8 +1,8 @@
 //! A quick reader of `.nzd` files in safe Rust: the peer that the proved reader's speed is measured against.
 //!
 //! It makes the same checks in the same order, over slices and in one pass, and has every shortcut that the proved
-//! reader has. Beyond those, a found zone keeps the pool's index and its tail and is not checked again, so that a question reads
-//! no more of it than it needs; a local time reads the intervals within a day of it in the walk that passes over the others; four bytes
+//! reader has. A found zone is a plain value ([`Places`]), whose zone each question checks, or one that keeps the pool's index and its
+//! tail and is not checked again ([`Zone`]). Beyond the shortcuts of the proved reader, a local time reads the intervals within a day of it in the walk that passes over the others; four bytes
 //! of an interval are tested at once, where the proved reader compares three with those two before; a difference keeps the first
 //! stretches while it counts them; and closing up a pool counts its strings' uses in the check.
 //!
@@ -22,6 +22,7 @@ mod local;
 mod locations;
 mod normalize;
 mod older;
+mod places;
 mod pool;
 mod receiver;
 mod replay;
@@ -41,12 +42,13 @@ pub use local::LocalInstants;
 pub use locations::{location, Countries, Location};
 pub use normalize::normalize;
 pub use older::{ask_named_old, old_dictionary};
+pub use places::Places;
 pub use receiver::{unfinished, Receiver};
 pub use replay::replay;
 pub use starts::{find_start, interval_starts, Found};
 pub use whole::version_text;
 
-use fields::Fields;
+use fields::{Field, Fields};
 use pool::Pool;
 use zone::{read_rest, Find, Visit};
 
@@ -97,11 +99,11 @@ const END_OF_TIME: i64 = i64::MAX;
 #[derive(Clone, Copy, Debug, PartialEq, Eq)]
 pub struct Answer<'a> {
     /// Wall offset in milliseconds.
-    pub wall_offset_ms: i32,
+    pub wall_offset_ms: i64,
     /// Savings in milliseconds.
-    pub savings_ms: i32,
+    pub savings_ms: i64,
     /// Standard offset in milliseconds.
-    pub standard_offset_ms: i32,
+    pub standard_offset_ms: i64,
     /// The name, a part of the file.
     pub name: &'a [u8],
     /// First instant of the interval, or start of time.
@@ -131,7 +133,9 @@ pub fn map_local(file: &[u8], id: &[u8], local: i64) -> Result<LocalInstants, Re
 /// A zone that was found.
 struct FoundZone<'a> {
     pool: Pool<'a>,
-    data: &'a [u8],
+    /// Field 0, and the zone's own field.
+    field: Field<'a>,
+    zone: Field<'a>,
 }
 
 /// Checks the pool and the zones up to the one of `id`, and shows that one to `visit`.
@@ -147,9 +151,9 @@ fn find_zone<'a>(file: &'a [u8], id: &[u8], more: bool, visit: &mut impl Visit) 
         if field_id > 1 {
             return Err(Refusal { number: number::NOT_FOUND, place: fields.place() });
         }
-        let field = fields.field(field_id)?;
-        if zone_of(field.data, &pool, id, visit).map_err(|number| field.refuse(number))? {
-            return Ok(FoundZone { pool, data: field.data });
+        let zone = fields.field(field_id)?;
+        if zone_of(zone.data, &pool, id, visit).map_err(|number| zone.refuse(number))? {
+            return Ok(FoundZone { pool, field, zone });
         }
     }
     Err(Refusal { number: unseen, place: file.len() })

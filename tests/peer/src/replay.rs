@@ -104,8 +104,8 @@ impl<'a> Zones<'a> {
         let mut cursor = Cursor::new(data);
         let id = cursor.pool_number(self.pool.count()).ok()?;
         read_rest(cursor, id, self.pool.count(), &mut find).ok()?;
-        let answer = find.answer(&self.pool);
-        Some(Shown { name, start: answer.start, end: answer.end, wall: answer.wall_offset_ms })
+        let (held, end) = find.held();
+        Some(Shown { name, start: held.start, end, wall: held.wall })
     }
 
     /// Reads on to the zone of an ID.

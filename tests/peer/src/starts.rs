@@ -10,12 +10,12 @@ use std::hint::select_unpredictable;
 /// The starts of the zone's listed intervals, put in `table`; how many there are.
 pub fn interval_starts(file: &[u8], id: &[u8], table: &mut [i64]) -> Result<usize, Refusal> {
     let mut count = Count(0);
-    let zone = find_zone(file, id, false, &mut count)?;
+    let found = find_zone(file, id, false, &mut count)?;
     let room = table.get_mut(..count.0).ok_or(TOO_SHORT)?;
     let mut fill = Fill { entries: room.iter_mut() };
     // The zone was read to its end before.
-    let mut cursor = Cursor::new(zone.data);
-    let read = cursor.pool_number(zone.pool.count()).and_then(|id| read_rest(cursor, id, zone.pool.count(), &mut fill));
+    let (mut cursor, pool_count) = (Cursor::new(found.zone.data), found.pool.count());
+    let read = cursor.pool_number(pool_count).and_then(|id| read_rest(cursor, id, pool_count, &mut fill));
     debug_assert_eq!(read, Ok(()));
     Ok(count.0)
 }

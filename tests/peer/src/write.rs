@@ -22,6 +22,12 @@ impl Write<'_> {
 
     #[inline]
     pub fn bytes(&mut self, bytes: &[u8]) {
+        // Three at once, the details of an interval, take no call.
+        if let &[one, two, three] = bytes {
+            self.out[self.at..][..3].copy_from_slice(&[one, two, three]);
+            self.at += 3;
+            return;
+        }
         self.out[self.at..][..bytes.len()].copy_from_slice(bytes);
         self.at += bytes.len();
     }

@@ -22,10 +22,10 @@ pub struct Interval {
 impl Interval {
     /// The answer of an instant that it holds.
     #[inline]
-    pub fn answer<'a>(&self, end: i64, pool: &Pool<'a>) -> Answer<'a> {
-        let Interval { start, name, wall, savings } = *self;
-        let (standard_offset_ms, name) = (wall - savings, pool.string(name));
-        Answer { wall_offset_ms: wall, savings_ms: savings, standard_offset_ms, name, start, end }
+    pub fn answer<'a>(&self, end: i64, name: &'a [u8]) -> Answer<'a> {
+        let Interval { start, wall, savings, .. } = *self;
+        let [wall_offset_ms, savings_ms, standard_offset_ms] = [wall, savings, wall - savings].map(i64::from);
+        Answer { wall_offset_ms, savings_ms, standard_offset_ms, name, start, end }
     }
 }
 
@@ -208,9 +208,14 @@ impl Find {
         Find { ticks, first_edition, held, end: END_OF_TIME }
     }
 
+    /// The interval found, once the zone is read, and its end.
+    pub fn held(&self) -> (Interval, i64) {
+        (self.held, self.end)
+    }
+
     /// The answer, once the zone is read.
     pub fn answer<'a>(&self, pool: &Pool<'a>) -> Answer<'a> {
-        self.held.answer(self.end, pool)
+        self.held.answer(self.end, pool.string(self.held.name))
     }
 }
 

@@ -39,13 +39,13 @@ struct Seen {
 }
 
 /// What an answer of the second reader carries, or its refusal.
-type Said = Result<(i32, i32, i32, Range<usize>, i64, i64), Pair>;
+type Said = Result<([i64; 3], Range<usize>, i64, i64), Pair>;
 
 fn expected(answer: Result<second_reader::Answer, Refusal>) -> Said {
     answer
         .map(|answer| {
             let (start, end) = (ticks_of(answer.start), ticks_of(answer.end));
-            (answer.wall, answer.savings, answer.standard, answer.name, start, end)
+            ([answer.wall, answer.savings, answer.standard].map(i64::from), answer.name, start, end)
         })
         .map_err(pair)
 }
@@ -56,7 +56,8 @@ fn given(file: &[u8], answer: Result<peer::Answer<'_>, peer::Refusal>) -> Said {
         .map(|answer| {
             let place = answer.name.as_ptr() as usize - file.as_ptr() as usize;
             let name = place..place + answer.name.len();
-            (answer.wall_offset_ms, answer.savings_ms, answer.standard_offset_ms, name, answer.start, answer.end)
+            let offsets = [answer.wall_offset_ms, answer.savings_ms, answer.standard_offset_ms];
+            (offsets, name, answer.start, answer.end)
         })
         .map_err(peer_pair)
 }
@@ -82,12 +83,29 @@ fn same_question(file: &[u8], id: &[u8], ticks: i64, seen: &mut Seen) {
         if !more && (FIRST..=LAST).contains(&ticks) {
             let ours = given(file, peer::Zone::find(file, id).and_then(|zone| zone.ask(ticks, first)));
             assert_eq!(ours, asked, "{shown:02x?}, {id:?} found and asked at {ticks}, {edition:?}");
+            same_places(file, id, ticks, first, &asked);
         }
         let named = expected(second_reader::ask_named(file, id, ticks, mark, edition));
         seen.named.insert(number_of(&named));
         let ours = given(file, peer::ask_named(file, id, ticks, more, first));
         assert_eq!(ours, named, "{shown:02x?}, the name {id:?} at {ticks}, {mark:?}, {edition:?}");
     }
+}
+
+/// The same of a plain value, and over tables of its answers.
+fn same_places(file: &[u8], id: &[u8], ticks: i64, first: bool, asked: &Said) {
+    let shown = &file[..file.len().min(2000)];
+    let found = peer::Places::find(file, id);
+    let ours = given(file, found.and_then(|places| places.ask(file, ticks, first)));
+    assert_eq!(&ours, asked, "{shown:02x?}, {id:?} found as places and asked at {ticks}");
+    let Ok(places) = found else { return };
+    let mut rows = [0; 3 * 7 + 6];
+    for from in [ticks, FIRST] {
+        let count = places.list(file, from, first, &mut rows).expect("rows");
+        let ours = given(file, places.ask_listed(file, &rows[..7 * count], ticks, first));
+        assert_eq!(&ours, asked, "{shown:02x?}, {id:?} over {count} rows from {from} at {ticks}");
+    }
+    assert_eq!(places.list(file, ticks, first, &mut rows[..6]), Err(peer::Refusal { number: 15, place: 0 }));
 }
 
 fn same_local(file: &[u8], id: &[u8], local: i64, seen: &mut Seen) {
@@ -98,6 +116,9 @@ fn same_local(file: &[u8], id: &[u8], local: i64, seen: &mut Seen) {
         peer::map_local(file, id, local).map(|found| (found.count, found.earliest, found.latest)).map_err(peer_pair);
     seen.local.insert(expected.as_ref().map_or_else(|refusal| refusal.0, |_| 0));
     assert_eq!(given, expected, "{:02x?}, {id:?} at local time {local}", &file[..file.len().min(2000)]);
+    let given = peer::Places::find(file, id).and_then(|places| places.map_local(file, local));
+    let given = given.map(|found| (found.count, found.earliest, found.latest)).map_err(peer_pair);
+    assert_eq!(given, expected, "{:02x?}, {id:?} found, at local time {local}", &file[..file.len().min(2000)]);
 }
 
 /// Local times of every zone, and of none.

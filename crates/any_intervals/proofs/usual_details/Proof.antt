@@ -6,7 +6,7 @@ use native.Mathlib.Omega.{arith}
 use Rattle.places.specs.Placed.{ofRead}
 use Rattle.places.proofs.PlaceLaws.{then-in, on, off, here, stands-if, stands-else, refuse, placed-got}
 use Rattle.places.proofs.ValueLaws.{sum-high}
-use Rattle.usual_sums.proofs.UsualLaws.{size-most, usual-stands}
+use Rattle.places.proofs.UsualLaws.{size-most, usual-stands}
 use Rattle.intervals.specs.Interval.{judgeStandard, afterWall, afterName, parseDetails}
 use borrow.Author.Needs.{needs}
 use Rattle.any_intervals.proofs.usual_details.Statement.{statement}

@@ -23,10 +23,10 @@ use Rattle.receivers.proofs.Receiver as T
 use Rattle.receivers.proofs.Receiver.Laws as T′
 use Rattle.receivers.proofs.Outcome as O
 use Rattle.receivers.proofs.Outcome.Laws as O′
-use Rattle.receivers.proofs.added as added
-use Rattle.receivers.proofs.added.Symbol as added-def
-use Rattle.receivers.proofs.added.Symbol.{name as #receivers·added}
-use Rattle.receivers.proofs.added.Met as added-thm
+use Rattle.receiver_steps.proofs.added as added
+use Rattle.receiver_steps.proofs.added.Symbol as added-def
+use Rattle.receiver_steps.proofs.added.Symbol.{name as #receiver_steps·added}
+use Rattle.receiver_steps.proofs.added.Met as added-thm
 use Rattle.capi.proofs.nzd_receiver_add.Key.{name as #capi·nzd_receiver_add}
 use Rattle.capi.proofs.nzd_receiver_add as add
 use Rattle.capi.proofs.nzd_receiver_add.Statement as stated
@@ -87,7 +87,7 @@ module _ {M : Type 1} (𝓤 : URA M) (H : Heap 𝓤) (A : Atoms 𝓤) (W : Given
       nothing ! $ nothing ! $ fjoin ! $ move ! (2 ∷ 0 ∷ []) $ fjoin ! $ move ! (1 ∷ 0 ∷ []) $ fjoin ! $
       owned ! u64 (Is u64) (uint-makes 𝓤 H A W w64) (r .number) _ (refl, fits) $ move ! (1 ∷ 0 ∷ []) $ done !
 
-  module _ (C : Calls 𝓤 H) (Λ : Loops 𝓤 H) (fm : FmC 𝓤 H (W .laws) C) (known : Triple 𝓤 (C #receivers·added) (Step 𝓤 H A at-mem run)) where
+  module _ (C : Calls 𝓤 H) (Λ : Loops 𝓤 H) (fm : FmC 𝓤 H (W .laws) C) (known : Triple 𝓤 (C #receiver_steps·added) (Step 𝓤 H A at-mem run)) where
     walk : Room u8 (length (d .now)) → Room u8 (length (p .now))
         → ent 𝓤 (onEntry 𝓤 H A add.signature (κ, (κ₁, (κ₂, tt))) (q, (q₁, (q₂, tt))) x at) (WpFn 𝓤 H C Λ code.function
         (vptr b o ∷ vd ∷ vp ∷ []) Post)
@@ -145,7 +145,7 @@ module _ {M : Type 1} (𝓤 : URA M) (H : Heap 𝓤) (A : Atoms 𝓤) (W : Given
         keep ! (0 ∷ 1 ∷ 2 ∷ 3 ∷ 4 ∷ []) $ by ! (exits r (zs .1 .0) e l (LL.owed O.the-type O′.the-laws r _ is .1 .0 .1))))))))))))))))))
 
 module _ {M : Type 1} (𝓤 : URA M) (H : Heap 𝓤) (A : Atoms 𝓤) (W : Given 𝓤 H A) (at-mem : Memory → SProp 𝓤) (run : Routine → Fun 𝓤) where
-  add-walks : (C : Calls 𝓤 H) (Λ : Loops 𝓤 H) → FmC 𝓤 H (W .laws) C → Triple 𝓤 (C #receivers·added) (Step 𝓤 H A at-mem run)
+  add-walks : (C : Calls 𝓤 H) (Λ : Loops 𝓤 H) → FmC 𝓤 H (W .laws) C → Triple 𝓤 (C #receiver_steps·added) (Step 𝓤 H A at-mem run)
       → Walks 𝓤 H A add.ended stayed (WpFn 𝓤 H C Λ code.function) (add.clauses 𝓤 H A at-mem run)
   add-walks C Λ fm known = walked 𝓤 H A add.ended stayed (add.clauses 𝓤 H A at-mem run) (WpFn 𝓤 H C Λ code.function) (λ κs. (
     ptr-vals,
@@ -167,7 +167,7 @@ module _ {M : Type 1} (𝓤 : URA M) (H : Heap 𝓤) (A : Atoms 𝓤) (W : Given
       (are .1 .1 .0 .0 .1)))
 
 add-meets : {M : Type 1} (𝓤 : URA M) (H : Heap 𝓤) (A : Atoms 𝓤) → Given 𝓤 H A → (at-mem : Memory → SProp 𝓤) (run : Routine
-    → Fun 𝓤) (𝓣 : Tables 𝓤 H) → Triple 𝓤 (𝓣 .C #receivers·added) (Step 𝓤 H A at-mem run)
+    → Fun 𝓤) (𝓣 : Tables 𝓤 H) → Triple 𝓤 (𝓣 .C #receiver_steps·added) (Step 𝓤 H A at-mem run)
     → Meets 𝓤 H A add.signature (WpFn 𝓤 H (𝓣 .C) (𝓣 .Λ) code.function) (add.spec 𝓤 H A at-mem run)
 add-meets 𝓤 H A W at-mem run 𝓣 known =
     walk-meets 𝓤 H A add.ended stayed W (
@@ -186,5 +186,5 @@ nzd-receiver-add-spec 𝓤 H 𝓜 𝓖 𝓡 =
     entered 𝓤 H (tripleOf 𝓤 H (𝓖 .A) add.signature (add.spec 𝓤 H (𝓖 .A) (𝓜 .mem) (𝓡 .run)))
     (tables 𝓤 H 𝓜 𝓡 code.env .C) (tables 𝓤 H 𝓜 𝓡 code.env .Λ) #capi·nzd_receiver_add code.function (code.unfolded 𝓤 H 𝓜 𝓡)
     (add-meets 𝓤 H (𝓖 .A) (givenOf 𝓤 H 𝓜 𝓖) (𝓜 .mem) (𝓡 .run) (tablesOf 𝓤 H 𝓜 (tables 𝓤 H 𝓜 𝓡 code.env))
-    (cited 𝓤 H (Step 𝓤 H (𝓖 .A) (𝓜 .mem) (𝓡 .run)) 𝓜 𝓡 code.env #receivers·added added-def.routine code.calls-receivers·added
+    (cited 𝓤 H (Step 𝓤 H (𝓖 .A) (𝓜 .mem) (𝓡 .run)) 𝓜 𝓡 code.env #receiver_steps·added added-def.routine code.calls-receiver-steps·added
     (added-thm.met 𝓤 H 𝓜 𝓖 𝓡)))

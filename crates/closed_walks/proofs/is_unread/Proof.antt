@@ -1,7 +1,7 @@
 use mathlib.Core.Path.{sym, ap}
 use Prim.Native.Nat.{_-_}
 use Rattle.closed_files.specs.File.{unreadId}
-use Rattle.closed_walks.proofs.UnreadLaws.{unread-other}
+use Rattle.closed_walks.proofs.CountLaws.{unread-other}
 use Rattle.closed_walks.proofs.is_unread.Statement.{statement}
 use Rattle.closed_walks.proofs.is_unread.Tie as tie
 

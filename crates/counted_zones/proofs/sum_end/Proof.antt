@@ -13,22 +13,22 @@ returns : tie.Need-returns
 returns c = sum-1 _ _ (c .if1 .taken)
 
 add-result-2 : tie.Need-add-result-2
-add-result-2 c = omega (arith, sum-2 (c .before .before .before .args .s .now) (c .before .before .before .args .at) (c .before .if1 .left) (c .if2 .taken), c .before .before .before .pre, c .before .before .before .good)
+add-result-2 c = omega (arith, sum-2 (c .before .before .before .before .args .s .now) (c .before .before .before .before .args .at) (c .before .before .if1 .left) (c .if3 .taken), c .before .before .before .before .pre, c .before .before .before .before .good)
 
 returns-2 : tie.Need-returns-2
-returns-2 c = sum-2 _ _ (c .before .if1 .left) (c .if2 .taken)
+returns-2 c = sum-2 _ _ (c .before .before .if1 .left) (c .if3 .taken)
 
 add-result-3 : tie.Need-add-result-3
-add-result-3 c = omega (arith, sum-3 (c .before .before .before .before .args .s .now) (c .before .before .before .before .args .at) (c .before .if2 .left) (c .if3 .taken), c .before .before .before .before .pre, c .before .before .before .before .good)
+add-result-3 c = omega (arith, sum-3 (c .before .before .before .before .args .s .now) (c .before .before .before .before .args .at) (c .if3 .left) (c .before .if2 .taken), c .before .before .before .before .pre, c .before .before .before .before .good)
 
 returns-3 : tie.Need-returns-3
-returns-3 c = sum-3 _ _ (c .before .if2 .left) (c .if3 .taken)
+returns-3 c = sum-3 _ _ (c .if3 .left) (c .before .if2 .taken)
 
 add-result-4 : tie.Need-add-result-4
-add-result-4 c = omega (arith, sum-4 (c .before .before .before .before .args .s .now) (c .before .before .before .before .args .at) (c .if3 .left), c .before .before .before .before .pre, c .before .before .before .before .good)
+add-result-4 c = omega (arith, sum-4 (c .before .before .before .args .s .now) (c .before .before .before .args .at) (c .if2 .left), c .before .before .before .pre, c .before .before .before .good)
 
 returns-4 : tie.Need-returns-4
-returns-4 c = sum-4 _ _ (c .if3 .left)
+returns-4 c = sum-4 _ _ (c .if2 .left)
 
 pub sum-end-spec : {M : Type 1} → statement M
 sum-end-spec =

@@ -18,32 +18,32 @@ abbrev μ-loop : tie.MeasureT-loop
 μ-loop pool starts order from to id lo₀ hi₀ back₀ lo hi back = hi - lo
 
 loop-holds : tie.Need-loop-holds Inv-loop μ-loop
-loop-holds c = halving-start _ _ _ _ _ (c .before .before .before .pre .1 .order)
+loop-holds c = halving-start _ _ _ _ _ (c .before .before .before .before .pre .1 .order)
 
 -- the place to look at, seen from within the loop's body
-mid : (c : tie.In-loop Inv-loop μ-loop) → Middle (c .before .before .before .before .before .args .from) (c .before .before .before .before .before .args .to) (c .before .loop .lo) (c .before .loop .hi) (c .before .loop .back)
+mid : (c : tie.In-loop Inv-loop μ-loop) → Middle (c .before .before .before .before .before .before .args .from) (c .before .before .before .before .before .before .args .to) (c .before .loop .lo) (c .before .loop .hi) (c .before .loop .back)
 mid c = middle _ _ _ _ _ _ _ _ (c .before .loop .inv) (c .loop-test .taken)
 
-mid-room : (c : tie.In-loop Inv-loop μ-loop) → c .before .loop .hi - c .before .loop .back < 8320
-mid-room c = omega (arith, mid c .inside, c .before .before .before .before .before .pre .1 .inside)
+mid-room : (c : tie.In-loop Inv-loop μ-loop) → c .before .loop .hi - c .before .loop .back < 8449
+mid-room c = omega (arith, mid (c) .inside, c .before .before .before .before .before .before .pre .1 .inside)
 
 sub-mid : tie.Need-sub-mid Inv-loop μ-loop
-sub-mid c = mid c .back-room
+sub-mid c = mid (c) .back-room
 
 mul-j : tie.Need-mul-j Inv-loop μ-loop
-mul-j c = omega (arith, mid-room c)
+mul-j c = omega (arith, mid-room (c))
 
-element-copy-out-j : tie.Need-element-copy-out-j Inv-loop μ-loop
-element-copy-out-j c = omega (arith, mid-room c)
+shared-slice-read-j : tie.Need-shared-slice-read-j Inv-loop μ-loop
+shared-slice-read-j c = omega (arith, mid (c .before) .inside, c .before .before .before .before .before .before .before .pre .1 .room)
 
 cast-j : tie.Need-cast-j Inv-loop μ-loop
-cast-j c = omega (arith, below (now (c .before .before .before .before .before .before .args .pool)) _ (c .before .before .before .before .before .before .pre .1 .known _ (mid (c .before) .from) (mid (c .before) .inside)))
+cast-j c = omega (arith, below (now (c .before .before .before .before .before .before .before .args .pool)) _ (c .before .before .before .before .before .before .before .pre .1 .known _ (mid (c .before) .from) (mid (c .before) .inside)))
 
 text-by-requires : tie.Need-text-by-requires Inv-loop μ-loop
-text-by-requires c κs = (c .before .before .before .before .before .before .pre .0, c .before .before .before .before .before .before .pre .1 .known _ (mid (c .before) .from) (mid (c .before) .inside))
+text-by-requires c κs = (c .before .before .before .before .before .before .before .pre .0, c .before .before .before .before .before .before .before .pre .1 .known _ (mid (c .before) .from) (mid (c .before) .inside))
 
 returns : tie.Need-returns Inv-loop μ-loop
-returns c = halving-seen _ _ _ _ _ _ _ _ (c .before .before .before .before .before .before .before .loop .inv) (c .before .before .before .before .before .before .loop-test .taken) _ (rw (part-from 0 (now (c .before .before .before .before .before .before .before .before .before .before .before .args .id))) at (c .before .before .compare .ensures) ∙ ap (λ t. ordering t (now (c .before .before .before .before .before .before .before .before .before .before .before .args .id))) (c .before .before .before .before .text-by .ensures)) (c .enum-told .given .1)
+returns c = halving-seen _ _ _ _ _ _ _ _ (c .before .before .before .before .before .before .before .loop .inv) (c .before .before .before .before .before .before .loop-test .taken) _ (rw (part-from 0 (now (c .before .before .before .before .before .before .before .before .before .before .before .before .args .id))) at (c .before .before .compare .ensures) ∙ ap (λ t. ordering t (now (c .before .before .before .before .before .before .before .before .before .before .before .before .args .id))) (c .before .before .before .before .text-by .ensures)) (c .enum-told .given .1)
 
 add-lo : tie.Need-add-lo Inv-loop μ-loop
 add-lo c = omega (arith, mid-room (c .before .before .before .before .before .before))
@@ -55,7 +55,7 @@ loop-less : tie.Need-loop-less Inv-loop μ-loop
 loop-less c = omega (arith, mid (c .before .before .before .before .before .before) .from-low, mid (c .before .before .before .before .before .before) .to-high)
 
 loop-again : tie.Need-loop-again Inv-loop μ-loop
-loop-again c = halving-up _ _ _ _ _ _ _ _ (c .before .before .before .before .before .before .before .loop .inv) (c .before .before .before .before .before .before .loop-test .taken) _ (rw (part-from 0 (now (c .before .before .before .before .before .before .before .before .before .before .before .args .id))) at (c .before .before .compare .ensures) ∙ ap (λ t. ordering t (now (c .before .before .before .before .before .before .before .before .before .before .before .args .id))) (c .before .before .before .before .text-by .ensures)) (c .before .before .before .before .before .before .before .before .before .before .before .pre .1) (c .enum-told2 .given .1)
+loop-again c = halving-up _ _ _ _ _ _ _ _ (c .before .before .before .before .before .before .before .loop .inv) (c .before .before .before .before .before .before .loop-test .taken) _ (rw (part-from 0 (now (c .before .before .before .before .before .before .before .before .before .before .before .before .args .id))) at (c .before .before .compare .ensures) ∙ ap (λ t. ordering t (now (c .before .before .before .before .before .before .before .before .before .before .before .before .args .id))) (c .before .before .before .before .text-by .ensures)) (c .before .before .before .before .before .before .before .before .before .before .before .before .pre .1) (c .enum-told2 .given .1)
 
 sub-back-2 : tie.Need-sub-back-2 Inv-loop μ-loop
 sub-back-2 c = mid (c .before .before .before .before .before .before) .from-low
@@ -67,7 +67,7 @@ loop-less-2 : tie.Need-loop-less-2 Inv-loop μ-loop
 loop-less-2 c = omega (arith, mid (c .before .before .before .before .before .before) .from-low, mid (c .before .before .before .before .before .before) .to-high)
 
 loop-again-2 : tie.Need-loop-again-2 Inv-loop μ-loop
-loop-again-2 c = halving-down _ _ _ _ _ _ _ _ (c .before .before .before .before .before .before .before .loop .inv) (c .before .before .before .before .before .before .loop-test .taken) _ (rw (part-from 0 (now (c .before .before .before .before .before .before .before .before .before .before .before .args .id))) at (c .before .before .compare .ensures) ∙ ap (λ t. ordering t (now (c .before .before .before .before .before .before .before .before .before .before .before .args .id))) (c .before .before .before .before .text-by .ensures)) (c .before .before .before .before .before .before .before .before .before .before .before .pre .1) (c .enum-told3 .given .1)
+loop-again-2 c = halving-down _ _ _ _ _ _ _ _ (c .before .before .before .before .before .before .before .loop .inv) (c .before .before .before .before .before .before .loop-test .taken) _ (rw (part-from 0 (now (c .before .before .before .before .before .before .before .before .before .before .before .before .args .id))) at (c .before .before .compare .ensures) ∙ ap (λ t. ordering t (now (c .before .before .before .before .before .before .before .before .before .before .before .before .args .id))) (c .before .before .before .before .text-by .ensures)) (c .before .before .before .before .before .before .before .before .before .before .before .before .pre .1) (c .enum-told3 .given .1)
 
 returns-2 : tie.Need-returns-2 Inv-loop μ-loop
 returns-2 c = halving-done _ _ _ _ _ _ _ _ (c .before .loop .inv) (c .loop-test .left)
@@ -81,7 +81,7 @@ find-spec =
     loop-holds
     sub-mid
     mul-j
-    element-copy-out-j
+    shared-slice-read-j
     cast-j
     text-by-requires
     (λ c. search needs)
@@ -93,7 +93,7 @@ find-spec =
     (λ c. search needs)
     add-lo
     sub-back
-    (λ c. omega arith)
+    (λ c. search needs)
     loop-less
     loop-again
     (λ c. search needs)

@@ -1,3 +1,4 @@
+use borrow.Author.Needs.{needs}
 use mathlib.Core.Path.{_≡_, subst}
 use denote.Ref.{now}
 use native.Mathlib.Omega.{arith}
@@ -22,8 +23,8 @@ sub-i c = omega arith
 mul-order : tie.Need-mul-order Inv-loop μ-loop
 mul-order c = omega arith
 
-element-copy-out-order : tie.Need-element-copy-out-order Inv-loop μ-loop
-element-copy-out-order c = omega arith
+slice-read-order : tie.Need-slice-read-order Inv-loop μ-loop
+slice-read-order c = omega (arith, c .before .before .loop .inv .2 .room)
 
 add-order : tie.Need-add-order Inv-loop μ-loop
 add-order c = omega arith
@@ -31,8 +32,8 @@ add-order c = omega arith
 mul-order-2 : tie.Need-mul-order-2 Inv-loop μ-loop
 mul-order-2 c = omega arith
 
-element-write-order : tie.Need-element-write-order Inv-loop μ-loop
-element-write-order c = omega arith
+slice-write-order : tie.Need-slice-write-order Inv-loop μ-loop
+slice-write-order c = omega (arith, c .before .before .loop .inv .2 .room)
 
 loop-less : tie.Need-loop-less Inv-loop μ-loop
 loop-less c = omega arith
@@ -52,10 +53,11 @@ shift-spec =
     loop-holds
     sub-i
     mul-order
-    element-copy-out-order
+    slice-read-order
     add-order
     mul-order-2
-    element-write-order
+    slice-write-order
     loop-less
     loop-again
+    (λ c. search needs)
     returns)

@@ -4,7 +4,7 @@ use mathlib.Core.Bool.{true}
 use Prim.Native.Nat.{_+_, _-_, _<_}
 use borrow.Author.Tests.{not-true}
 use Rattle.interval_runs.specs.Run.{runAt}
-use Rattle.long_starts.proofs.LongLaws.{size-most}
+use Rattle.places.proofs.LongLaws.{size-most}
 use Rattle.interval_runs.proofs.StepLaws.{Going, none-early, none-late, going-start, going-passed, ends-done, ends-cut, ends-two, ends-short, ends-other, ends-late, judged, going-unasked, going-next}
 use Rattle.interval_runs.proofs.read_run.Statement.{statement}
 use Rattle.interval_runs.proofs.read_run.Tie as tie

@@ -4,10 +4,7 @@ use Rattle.mention_runs.proofs.count_run.Statement.{statement}
 use Rattle.mention_runs.proofs.count_run.Tie as tie
 
 returns : tie.Need-returns
-returns c = counted-is _ _ _ _ _ _ _ _ (c .before .before .before .before .before .stage .given .1) (c .before .before .count-intervals .ensures)
-
-returns-2 : tie.Need-returns-2
-returns-2 c = counted-is _ _ _ _ _ _ _ _ (c .before .before .before .before .before .stage2 .given .1) (c .before .before .count-locations .ensures)
+returns c = counted-is _ _ _ _ _ _ _ _ (c .before .before .before .before .before .stage .given .1) (c .before .before .count-locations .ensures)
 
 pub count-run-spec : {M : Type 1} → statement M
 count-run-spec =
@@ -16,9 +13,5 @@ count-run-spec =
     (λ c. search needs)
     (λ c κs. search needs)
     (λ c. search needs)
-    (λ c κs. search needs)
-    (λ c. search needs)
     returns
-    (λ c. search needs)
-    returns-2
     (λ c. search needs))

@@ -4,8 +4,8 @@ use lib.ListN.{length}
 use borrow.Author.Needs.{needs}
 use Rattle.use_order.specs.Order.{newNumber}
 use Rattle.mentions.specs.Walk.{firstStage}
-use Rattle.renumbered_runs.specs.Run.{MeasuredRun}
-use Rattle.renumbered_runs.proofs.RenumberLaws.{measured-start, measured-bound, measured-on, measured-next, measured-most, measured-end}
+use Rattle.renumbering.specs.Run.{MeasuredRun}
+use Rattle.renumbering.proofs.RenumberLaws.{measured-start, measured-bound, measured-on, measured-next, measured-most, measured-end}
 use Rattle.renumbering.proofs.NextLaws.{next-none, next-some}
 use Rattle.renumbering.proofs.size.Statement.{statement}
 use Rattle.renumbering.proofs.size.Tie as tie

@@ -5,8 +5,8 @@ use borrow.Author.Needs.{needs}
 use Rattle.use_order.specs.Order.{newNumber}
 use Rattle.pieces.proofs.PutLaws.{copied, front-within, rest-room, both-sum, both-put, both-length}
 use Rattle.mentions.specs.Walk.{firstStage}
-use Rattle.renumbered_runs.specs.Run.{WrittenRun}
-use Rattle.renumbered_runs.proofs.RenumberLaws.{written-start, written-bound, written-left, written-on, written-two, written-next, written-end}
+use Rattle.renumbering.specs.Run.{WrittenRun}
+use Rattle.renumbering.proofs.RenumberLaws.{written-start, written-bound, written-left, written-on, written-two, written-next, written-end}
 use Rattle.renumbering.proofs.NextLaws.{next-none, next-some}
 use Rattle.renumbering.proofs.write.Statement.{statement}
 use Rattle.renumbering.proofs.write.Tie as tie

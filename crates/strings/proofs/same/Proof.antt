@@ -8,6 +8,7 @@ use denote.Ref.{now}
 use Rattle.base.specs.Pick.{pick}
 use Rattle.base.specs.Equal.{equal}
 use Rattle.base.proofs.EqualLaws.{lengths-differ, bytes-at, bytes-end}
+use Rattle.strings.proofs.SameLaws.{mark-tells}
 use borrow.Author.Needs.{needs}
 use Rattle.strings.proofs.same.Statement.{statement}
 use Rattle.strings.proofs.same.Tie as tie
@@ -27,7 +28,7 @@ loop-holds c = (omega arith, refl)
 loop-again : tie.Need-loop-again Inv-loop μ-loop
 loop-again c = (
   omega arith,
-  rw (c .larger .ensures, c .before .differ .ensures)
+  rw (c .larger .ensures, c .before .differ .ensures, mark-tells)
       (bytes-at (now (c .before .before .before .before .before .before .before .before .before .args .a)) (now (c .before .before .before .before .before .before .before .before .before .args .b)) (c .before .before .before .before .before .loop .i) (c .before .before .before .before .before .loop .m) (omega arith) (omega arith) ∙ c .before .before .before .before .before .loop .inv .1),
 )
 

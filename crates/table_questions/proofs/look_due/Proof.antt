@@ -13,7 +13,7 @@ look-requires c κs = (rw (toZ-ofZ (c .before .fits .ticks)) (c .before .pre .0)
 
 returns-2 : tie.Need-returns-2
 returns-2 c = (
-  rw (toZ-ofZ (c .before .before .fits .ticks)) at (c .look .ensures .stands),
+  rw (toZ-ofZ (c .before .before .fits .ticks)) at (c .look .ensures .seeks),
   due-next _ _ _ (c .before .before .pre .1 .0) _ (c .before .if1 .left) (c .look .ensures .least) (c .look .ensures .most),
 )
 

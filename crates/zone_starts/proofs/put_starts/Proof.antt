@@ -18,8 +18,8 @@ abbrev μ-loop : tie.MeasureT-loop
 loop-holds : tie.Need-loop-holds Inv-loop μ-loop
 loop-holds c = putting-start _ _ _ _ _ (c .before .pre .0 .inside)
 
-usual-start-requires : tie.Need-usual-start-requires Inv-loop μ-loop
-usual-start-requires c κs = putting-in _ _ _ _ _ _ _ _ _ _ (c .before .loop .inv)
+short-next-requires : tie.Need-short-next-requires Inv-loop μ-loop
+short-next-requires c κs = putting-in _ _ _ _ _ _ _ _ _ _ (c .before .loop .inv)
 
 mul-t16 : tie.Need-mul-t16 Inv-loop μ-loop
 mul-t16 c = omega (arith, putting-few _ _ _ _ _ _ _ _ _ _ (c .before .before .before .before .loop .inv) (c .before .before .before .loop-test .taken) (c .before .before .before .before .before .before .pre .1), c .before .before .before .before .before .before .pre .0 .most)
@@ -31,11 +31,11 @@ add-i : tie.Need-add-i Inv-loop μ-loop
 add-i c = omega (arith, putting-few _ _ _ _ _ _ _ _ _ _ (c .before .before .before .before .loop .inv) (c .before .before .before .loop-test .taken) (c .before .before .before .before .before .before .pre .1), c .before .before .before .before .before .before .pre .0 .most)
 
 add-place : tie.Need-add-place Inv-loop μ-loop
-add-place c = omega (arith, c .before .before .usual-start .ensures .room (c .before .if1 .taken), c .before .before .before .before .before .before .good .0 .0)
+add-place c = omega (arith, c .before .before .short-next .ensures .room (c .before .if1 .taken), c .before .before .before .before .before .before .good .0 .0)
 
 loop-again : tie.Need-loop-again Inv-loop μ-loop
 loop-again c =
-    putting-usual _ _ _ _ _ _ _ _ _ _ (c .before .before .before .before .loop .inv) (c .before .before .before .loop-test .taken) (c .before .before .before .before .before .before .pre .1) _ (c .before .before .usual-start .ensures) (c .before .if1 .taken) _
+    putting-usual _ _ _ _ _ _ _ _ _ _ (c .before .before .before .before .loop .inv) (c .before .before .before .loop-test .taken) (c .before .before .before .before .before .before .pre .1) _ (c .before .before .short-next .ensures) (c .before .if1 .taken) _
     (toZ-ofZ {w = w64} {z = c .ticks .result} (record { sfits = c .ticks .ok }) ∙ c .ticks .ensures)
 
 read-interval-requires : tie.Need-read-interval-requires Inv-loop μ-loop
@@ -79,7 +79,7 @@ put-starts-spec =
     Inv-loop
     μ-loop
     loop-holds
-    usual-start-requires
+    short-next-requires
     (λ c κs. search needs)
     mul-t16
     slice-set-from-out

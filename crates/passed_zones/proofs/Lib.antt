@@ -1,2 +1,0 @@
-pub mod NextLaws
-pub mod PassedLaws

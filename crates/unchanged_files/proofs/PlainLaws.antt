@@ -1,28 +1,24 @@
 -- A walk over fields whose sizes are in the shortest form. Assumes nothing.
 use mathlib.Core.Path.{_≡_, sym, ap, _∙_, subst}
 use mathlib.Core.Bool.{Bool, true, false}
-use mathlib.Core.List.{List, _∷_, _++_, append-assoc}
-use Prim.Native.Nat.{ℕ, suc, _+_, _-_, _≤_, _<_}
+use mathlib.Core.List.{List, _∷_, _++_}
+use Prim.Native.Nat.{ℕ, _+_, _-_, _≤_, _<_}
 use native.Mathlib.Omega.{arith}
-use native.Mathlib.Numerals.{add-one}
 use lib.Dec.{eqb}
-use lib.ListN.{length, getD, take, drop, take-append-drop, drop-of-length-le}
-use lib.Seq.{drop-drop, drop-cons}
+use lib.ListN.{length, drop, drop-of-length-le}
 use borrow.Author.Tests.{eqb-true}
 use Rattle.base.specs.All.{All, all-none, all-also}
 use Rattle.base.specs.Bytes.{Bytes}
 use Rattle.base.proofs.AllLaws.{all-head}
-use Rattle.base.proofs.ByteLaws.{drop-bytes}
 use Rattle.base.proofs.Tests.{clash}
 use Rattle.counts.specs.Count.{writeCount}
 use Rattle.pool.specs.Pool.{stringsOf}
 use Rattle.frames.specs.Frame.{Field}
 use Rattle.frames.specs.Fields.{FieldOf, fields}
 use Rattle.frames.specs.Covers.{Covers}
-use Rattle.frames.proofs.SizeLaws.{size-exact}
 use Rattle.sizes.specs.View.{IsField, partOf}
 use Rattle.sizes.specs.declared.Extent.{Extent}
-use Rattle.sizes.proofs.FieldLaws.{Turned, turned, none-left}
+use Rattle.sizes.proofs.FieldLaws.{Turned, turned, none-left, field-stands}
 use Rattle.closed_files.specs.File.{writeField}
 use Rattle.closed_fields.specs.View.{PoolChecked}
 use Rattle.closed_walks.specs.View.{Walkable}
@@ -32,20 +28,7 @@ use Rattle.unchanged_files.specs.View.{PoolHas, FirstStrings, PlainField
 module _ (f : List ℕ) (b : Bytes f) (g : Field) (o : FieldOf f g) where
   field-plain : o .used ≤ length (writeCount (length (g .body))) → writeField (g .id) (g .body) ++ drop (g .past) f ≡ drop (g .place) f
   unfolding writeField
-  field-plain h =
-      let n : ℕ = length (g .body) in
-      let w : List ℕ = writeCount n in
-      let p : ℕ = g .place in
-      let e₁ : drop (p + 1) f ≡ w ++ drop (o .used) (drop (p + 1) f) = size-exact (drop (p + 1) f) (drop-bytes (p + 1) f b) (sym (o .size)) h in
-      let e₂ : drop (o .used) (drop (p + 1) f) ≡ drop (g .start) f = drop-drop (o .used) (p + 1) f ∙ ap (λ (x : ℕ). drop x f) (sym (o .starts)) in
-      let e₃ : g .body ++ drop (g .past) f ≡ drop (g .start) f =
-      ap (λ (x : List ℕ). x ++ drop (g .past) f) (o .bytes)
-      ∙ ap (λ (x : List ℕ). take n (drop (g .start) f) ++ x) (ap (λ (x : ℕ). drop x f) (o .ends) ∙ sym (drop-drop n (g .start) f))
-      ∙ take-append-drop n (drop (g .start) f) in
-      let e₄ : drop p f ≡ getD f p 0 ∷ drop (suc p) f = drop-cons f p 0 (omega (arith, o .starts, o .ends, o .within)) in
-      ap (λ (x : List ℕ). g .id ∷ x) (append-assoc w (g .body) (drop (g .past) f) ∙ ap (λ (x : List ℕ). w ++ x) (e₃ ∙ sym e₂) ∙ sym e₁ ∙ ap (λ (x : ℕ). drop x f) (add-one p))
-      ∙ ap (λ (x : ℕ). x ∷ drop (suc p) f) (sym (o .id-byte))
-      ∙ sym e₄
+  field-plain h = field-stands f b g o h
 
 module _ (f : List ℕ) (n : ℕ) where
   abbrev Has : List Field → Type 0

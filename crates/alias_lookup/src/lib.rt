@@ -1,4 +1,6 @@
 // The lookup of a name in the alias dictionary: a zone's ID, or what the target of a key leads to.
+#![tactic(auto)]
+
 ghost use Rattle.std.specs.Prelude.{◌≡◌, ◌≤◌, length};
 ghost use Rattle.pool.specs.Pool.{strings_of};
 ghost use Rattle.pool.specs.Index.{Ready};
@@ -10,14 +12,14 @@ ghost use Rattle.alias_lookup.specs.View.{flagged, Sound, Listed, Points, Resolv
 use base::Read;
 
 // A pool string by its number, or none.
-#[derive(Drop)]
+#[derive(Clone, Copy)]
 pub enum Place {
     At(usize),
     Missing,
 }
 
 // What a name leads to: a zone's ID, by its pool number; what is neither a zone's ID nor a key; a key where no step is left.
-#[derive(Drop)]
+#[derive(Clone, Copy)]
 pub enum Target {
     Zone(usize),
     Unknown,

@@ -1,4 +1,6 @@
 // The alias dictionary, field 3: its check.
+#![tactic(auto)]
+
 ghost use Rattle.std.specs.Prelude.{◌≡◌, ◌≤◌, length, drop};
 ghost use Rattle.pool.specs.Pool.{strings_of};
 ghost use Rattle.pool.specs.Index.{Ready};
@@ -9,7 +11,7 @@ ghost use Rattle.aliases.specs.View.{verdict_of, Turned};
 use base::Read;
 
 // What the check of a dictionary gives.
-#[derive(Drop)]
+#[derive(Clone, Copy)]
 pub enum Verdict {
     Good,
     // The number of a refusal.
@@ -17,7 +19,7 @@ pub enum Verdict {
 }
 
 // What an entry comes to: the place behind it, or the number of a refusal.
-#[derive(Drop)]
+#[derive(Clone, Copy)]
 pub enum Turn {
     Next(usize),
     Bad(u8),

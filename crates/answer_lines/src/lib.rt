@@ -1,4 +1,6 @@
 // The lines of answers and refusals.
+#![tactic(auto)]
+
 ghost use Rattle.std.specs.Prelude.{◌≡◌, ◌+◌, ◌≤◌, length};
 ghost use Rattle.std.proofs.lemmas.List.Edits.{sets};
 ghost use Rattle.base.specs.Writing.{bytes, Writes};
@@ -101,5 +103,5 @@ fn put_bytes(s: &[u8], out: &mut [u8], at: usize) -> usize
     requires { at + length s.now ≤ length out.old }
     ensures { (result ≡ at + length s.now) × (out.new ≡ sets out.old at s.now) }
 {
-    at + bytes::copy(s, &mut out[at..])
+    at + slices::copy(s, &mut out[at..])
 }

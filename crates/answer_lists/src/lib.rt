@@ -1,4 +1,6 @@
 // The answers of a found zone's intervals one after the other, put in lent room: the first by the question, those behind it by later_answers.
+#![tactic(auto)]
+
 ghost use Rattle.answer_tables.specs.Lists.{ListsAnswers};
 
 use answer_tables::Listed;

@@ -1,4 +1,6 @@
 // What a question says: the answer of an interval, the mark's part in it, and the answer's name.
+#![tactic(auto)]
+
 ghost use Rattle.std.specs.Prelude.{◌≡◌, ◌+◌, ◌≤◌, ◌<◌, length};
 ghost use Rattle.pool.specs.Pool.{strings_of};
 ghost use Rattle.pool.specs.Index.{Ready};
@@ -9,7 +11,7 @@ use strings::Holder;
 use zones::Found as Interval;
 
 // Whether more bytes may come.
-#[derive(Drop)]
+#[derive(Clone, Copy)]
 pub enum Mark {
     More,
     All,
@@ -17,7 +19,7 @@ pub enum Mark {
 
 // An answer: offsets in milliseconds, the standard offset being wall minus savings, the place and the length of the name in the asked bytes, start and end in ticks since 1970; the
 // least i64 is start of time and the largest is end of time.
-#[derive(Drop)]
+#[derive(Clone, Copy)]
 pub struct Found {
     pub wall: i64,
     pub savings: i64,
@@ -29,14 +31,14 @@ pub struct Found {
 }
 
 // An answer, or the number and the place of a refusal.
-#[derive(Drop)]
+#[derive(Clone, Copy)]
 pub enum Answer {
     In(Found),
     Refused(u8, usize),
 }
 
 // What a walk comes to. Cut and End are the two ways of having too few bytes: inside the version or a field, and at the end of one.
-#[derive(Drop)]
+#[derive(Clone, Copy)]
 pub enum Outcome {
     Answered(Found),
     Refused(u8, usize),

@@ -1,4 +1,6 @@
 // An interval of a zone, code by code.
+#![tactic(auto)]
+
 ghost use Rattle.std.specs.Prelude.{◌≡◌, ◌+◌, ◌≤◌, length, drop};
 ghost use Rattle.base.specs.Parsed.{parse};
 ghost use Rattle.offsets.specs.Offset.{in_day};

@@ -1,4 +1,6 @@
 // The question that a line of the program asks.
+#![tactic(auto)]
+
 ghost use Rattle.std.specs.Prelude.{◌≡◌};
 ghost use Rattle.asked_lines.specs.Asked.{asked_by};
 

@@ -1,6 +1,8 @@
 // The answers that every small code gives, and the instants and marks as numbers.
 // What reading a code from the front of some bytes finds.
-#[derive(Drop)]
+#![tactic(auto)]
+
+#[derive(Clone, Copy)]
 pub enum Read {
     // The value, and how many bytes its code takes.
     Value(u64, usize),
@@ -9,7 +11,7 @@ pub enum Read {
 }
 
 // What writing a code gives.
-#[derive(Drop)]
+#[derive(Clone, Copy)]
 pub enum Wrote {
     // How many bytes were written.
     Length(usize),

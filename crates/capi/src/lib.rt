@@ -1,4 +1,6 @@
 // The functions for programs in C: thin over the proved ones, by numbers and slices alone. include/nzd.h says how they are called.
+#![tactic(auto)]
+
 ghost use Rattle.std.specs.Prelude.{◌≡◌};
 ghost use Rattle.counts.specs.Count.{read_count};
 ghost use Rattle.counts.specs.SignedCount.{read_signed_count, signed_count_form};

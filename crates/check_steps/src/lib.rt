@@ -1,4 +1,6 @@
 // What the whole-file check takes of a whole field, by its ID, and one step of its walk: the frame at a cursor.
+#![tactic(auto)]
+
 ghost use Rattle.std.specs.Prelude.{◌≤◌, ◌<◌, length, ◌≡◌};
 ghost use Rattle.pool.specs.Index.{room_of};
 ghost use Rattle.field_readers.specs.Remembered.{part, TookPool, TookText, Indexed, Ordered, TookZone, TookAliases, TookField, TookLocations, Wide};
@@ -157,7 +159,7 @@ pub fn take_field(
 }
 
 // A place between frames, the ID of the field before it, and what is remembered. A field came before it where it is past the version's end.
-#[derive(Drop)]
+#[derive(Clone, Copy)]
 pub struct Cursor {
     pub at: usize,
     pub prev: usize,
@@ -165,7 +167,7 @@ pub struct Cursor {
 }
 
 // What a frame comes to.
-#[derive(Drop)]
+#[derive(Clone, Copy)]
 pub enum Turn {
     Done(Conclusion),
     Next(Cursor),

@@ -1,4 +1,6 @@
 // The whole-file check and the version text, from one walk over the file.
+#![tactic(auto)]
+
 ghost use Rattle.std.specs.Prelude.{◌≡◌, ◌≤◌};
 ghost use Rattle.field_checks.specs.Check.{conclusion, check_of, version_of};
 ghost use Rattle.check_steps.specs.Room.{room_for, Started};

@@ -1,4 +1,6 @@
 // A field of a closed file: its length, and the writing of it.
+#![tactic(auto)]
+
 ghost use Rattle.std.specs.Prelude.{◌≡◌, ◌∷◌, ◌+◌, ◌≤◌, length};
 ghost use Rattle.counts.specs.Count.{write_count};
 ghost use Rattle.pieces.specs.View.{Put};
@@ -38,7 +40,7 @@ fn write_data(i: u8, d: &[u8], order: &[u64], table: &[u32], kept: bool, out: &m
         return closed_pools::write_pool(d, order, out);
     }
     if kept {
-        return bytes::copy(d, out);
+        return slices::copy(d, out);
     }
     renumbering::write(i, d, table, out)
 }

@@ -1,5 +1,7 @@
 // What closing up the pool of a file gives. The definitions and laws of the closed file stand here; the code is in the crates above.
-#[derive(Drop)]
+#![tactic(auto)]
+
+#[derive(Clone, Copy)]
 pub enum Closed {
     // The length of the closed file.
     Length(usize),

@@ -1,4 +1,6 @@
 // The pool of a closed file: its length, and the writing of it.
+#![tactic(auto)]
+
 ghost use Rattle.std.specs.Prelude.{◌≡◌, [], ◌≤◌, length, get_or, drop};
 ghost use Rattle.base.specs.declared.Read.TheVariants.{Value};
 ghost use Rattle.counts.specs.Count.{read_count};
@@ -104,7 +106,7 @@ fn write_text(t: &[u8], out: &mut [u8]) -> usize
     ensures { Put (write_text t.now) out.old result out.new }
 {
     let w = renumbering::write_number(t.len() as u64, out);
-    w + bytes::copy(t, &mut out[w..])
+    w + slices::copy(t, &mut out[w..])
 }
 
 // Writes the k-th string; the empty string where there is no such string.

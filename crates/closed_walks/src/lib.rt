@@ -1,5 +1,7 @@
 // The walks over the fields of a whole file whose pool is closed up: the closed file, its length and the writing of it; and what a walk over its
 // mentions does with a field.
+#![tactic(auto)]
+
 ghost use Rattle.std.specs.Prelude.{◌≡◌, ◌∷◌, ◌+◌, ◌≤◌, length};
 ghost use Rattle.frames.specs.Fields.{fields};
 ghost use Rattle.use_order.specs.Order.{mention_all};
@@ -128,6 +130,6 @@ pub fn write_file(
     requires { Closable s.now order.now table.now kept × (4 + length (closed_fields order.now table.now (fields s.now)) ≤ length out.old) × HasSizes sizes.now (sizes_of order.now table.now (fields s.now)) }
     ensures { Put (0 ∷ 0 ∷ 0 ∷ 0 ∷ closed_fields order.now table.now (fields s.now)) out.old result out.new }
 {
-    let w = bytes::copy(&s[..4], out);
+    let w = slices::copy(&s[..4], out);
     w + write_fields(s, order, table, kept, sizes, &mut out[w..])
 }

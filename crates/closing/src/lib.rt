@@ -1,5 +1,7 @@
 // Closing up the pool of a whole file: the file is checked, its mentions are counted and ordered, then its fields are written one behind the
 // other.
+#![tactic(auto)]
+
 ghost use Rattle.std.specs.Prelude.{◌≡◌, ◌<◌};
 ghost use Rattle.base.specs.All.{All};
 ghost use Rattle.frames.specs.Fields.{fields};

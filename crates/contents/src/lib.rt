@@ -1,5 +1,7 @@
 // A zone's data in their preferred form: how long they are, and the writing of them. Every transition is written in the writer's form, all else is
 // copied.
+#![tactic(auto)]
+
 ghost use Rattle.std.specs.Prelude.{◌≡◌, ◌++◌, ◌≤◌, ◌<◌, length};
 ghost use Rattle.base.specs.Moment.{end_of_time};
 ghost use Rattle.base.proofs.MomentLaws.{Moment};
@@ -67,7 +69,7 @@ fn write_piece(prev: u64, m: u64, s: &[u8], out: &mut [u8]) -> usize
     }
     match transition_writers::write_moment(prev, m, out) {
         Wrote::Refused(_) => 0,
-        Wrote::Length(n) => n + bytes::copy(s, &mut out[n..]),
+        Wrote::Length(n) => n + slices::copy(s, &mut out[n..]),
     }
 }
 
@@ -117,7 +119,7 @@ pub fn write_zone(s: &[u8], out: &mut [u8]) -> usize
     match pieces::read_head(s) {
         Read::Refused(_) => 0,
         Read::Value(n, a) => {
-            let k = bytes::copy(&s[..a], out);
+            let k = slices::copy(&s[..a], out);
             k + write_pieces(s, a, n, &mut out[k..])
         }
     }

@@ -1,4 +1,6 @@
 // Copying bytes, with the contract of `bytes::copy`.
+#![tactic(auto)]
+
 ghost use Rattle.std.specs.Prelude.{◌≡◌, ◌++◌, ◌≤◌, length, take, drop};
 
 // Copies at most 8,192 bytes by way of an array of its own, which overlaps neither side: so both copies are known to be plain ones, and the compiler
@@ -8,8 +10,8 @@ fn copy_block(src: &[u8], dst: &mut [u8])
     ensures { dst.new ≡ take (length src.now) src.now ++ drop (length src.now) dst.old }
 {
     let mut block = [0u8; 8192];
-    let n = bytes::copy(src, &mut block);
-    bytes::copy(&block[..n], dst);
+    let n = slices::copy(src, &mut block);
+    slices::copy(&block[..n], dst);
 }
 
 // Copies all of src to the front of dst, and returns its length. A loop over bytes takes few of them sooner than a call does.
@@ -19,7 +21,7 @@ pub fn copy(src: &[u8], dst: &mut [u8]) -> usize
     ensures dst_after { dst.new ≡ take (length src.now) src.now ++ drop (length src.now) dst.old }
 {
     if src.len() < 256 {
-        return bytes::copy(src, dst);
+        return slices::copy(src, dst);
     }
     let mut i: usize = 0;
     while 8192 < src.len() - i {

@@ -1,4 +1,6 @@
 // Counts, signed counts and numbers in a fixed number of bytes, read.
+#![tactic(auto)]
+
 ghost use Rattle.std.specs.Prelude.{◌≡◌, ◌+◌, ◌*◌, ◌^◌, ◌≤◌, ◌<◌, length, drop};
 ghost use Rattle.counts.specs.Groups.{any_groups, read_groups};
 ghost use Rattle.counts.specs.Count.{read_count};

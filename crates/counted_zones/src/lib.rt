@@ -1,4 +1,6 @@
 // The mentions in the data of a good zone, counted. The check has read its codes, so they are stepped over by their first bytes.
+#![tactic(auto)]
+
 ghost use Rattle.std.specs.Prelude.{◌≡◌, ◌+◌, ◌-◌, ◌*◌, ◌≤◌, ◌<◌, length, get_or};
 ghost use Rattle.use_order.specs.Order.{mention_all};
 ghost use Rattle.mention_runs.specs.Run.{Room};
@@ -148,7 +150,7 @@ fn fitting(n: u64, room: usize) -> u64
 }
 
 // Before so many intervals.
-#[derive(Drop)]
+#[derive(Clone, Copy)]
 pub struct Rows {
     pub place: usize,
     pub left: u64,

@@ -1,10 +1,12 @@
 // A view of one location, stepped through its countries: the field's data and a cursor in them. `step` has the work, on a slice and numbers.
+#![tactic(auto)]
+
 ghost use Rattle.std.specs.Prelude.{◌≡◌};
 ghost use Rattle.countries.specs.Step.{step_at};
 
 use base::Read;
 
-#[derive(Drop)]
+#[derive(Clone, Copy)]
 pub struct View<'a> {
     pub field: &'a [u8],
     pub at: usize,
@@ -12,14 +14,14 @@ pub struct View<'a> {
 }
 
 // What a step gives: the pool numbers of a country's name and code, or that there is none left.
-#[derive(Drop)]
+#[derive(Clone, Copy)]
 pub enum Item {
     Country(u64, u64),
     NoMore,
 }
 
 // What a step gives, and where the cursor stands then.
-#[derive(Drop)]
+#[derive(Clone, Copy)]
 pub struct Stepped {
     pub item: Item,
     pub at: usize,

@@ -1,4 +1,6 @@
 // The view of a location's countries: their texts by the view's numbers.
+#![tactic(auto)]
+
 ghost use Rattle.std.specs.Prelude.{◌≡◌};
 ghost use Rattle.location_lookup.specs.Country.{pair_of, next_of};
 

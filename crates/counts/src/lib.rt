@@ -1,1 +1,2 @@
 // Counts, signed counts, and numbers in a fixed number of bytes.
+#![tactic(auto)]

@@ -1,4 +1,6 @@
 // A cursor moved on to the interval that holds an instant: over the listed ones, and in the tail in one step.
+#![tactic(auto)]
+
 ghost use Rattle.std.specs.Prelude.{◌≤◌, ◌<◌, length};
 ghost use Rattle.base.specs.Moment.{Finite};
 ghost use Rattle.cursors.specs.Cursors.{Points, At};

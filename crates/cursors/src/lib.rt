@@ -1,12 +1,14 @@
 // The intervals of a zone one after the other: a cursor at one of them, moved on to the one that holds an instant. The zone is read once, and
 // each listed interval again as the cursor comes to it; the tail's intervals are found by its rules, without the list. The functions stand in
 // listed_cursors, cursor_steps and first_cursors.
+#![tactic(auto)]
+
 use intervals::Interval;
 use zones::{Found, ZoneEnd};
 
 // Where a walk over a zone's intervals stands: the interval held, how many listed ones are behind it, the next of them and the place of what
 // stands behind that. The zone's ending goes beside it: it stays the same, and is larger than all the rest.
-#[derive(Drop)]
+#[derive(Clone, Copy)]
 pub struct Cursor {
     pub held: Found,
     pub left: u64,
@@ -15,7 +17,7 @@ pub struct Cursor {
 }
 
 // A cursor at the zone's first interval and the zone's ending, or the number of the zone's fault.
-#[derive(Drop)]
+#[derive(Clone, Copy)]
 pub enum Opened {
     Cursor(Cursor, ZoneEnd),
     Refused(u8),

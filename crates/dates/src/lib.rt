@@ -1,5 +1,7 @@
 // The proleptic Gregorian calendar on unsigned numbers. A year k is counted from year -399, so year 1 is 400; a month is 1 to 12;
 // a day n is counted from 1 January of year -399. calendar/specs/Calendar.antt says why. The bounds leave room past year 9999.
+#![tactic(auto)]
+
 ghost use Rattle.std.specs.Prelude.{◌≡◌, ◌≤◌, ◌<◌};
 ghost use Rattle.calendar.specs.Calendar.{leap_day, month_length, days_before, year_start, day_number, weekday_of, year_of};
 

@@ -1,4 +1,6 @@
 // The stretches in which the two sides of a difference differ, put in a lent list.
+#![tactic(auto)]
+
 ghost use Rattle.std.specs.Prelude.{◌≡◌, length};
 ghost use Rattle.std.proofs.lemmas.List.Edits.{sets};
 ghost use Rattle.base.specs.Moment.{Finite};

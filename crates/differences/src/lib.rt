@@ -1,10 +1,12 @@
 // Where two whole files differ in one zone, over a window of instants: definitions and laws. The functions stand in difference_sides,
 // difference_lists and file_differences.
+#![tactic(auto)]
+
 use cursors::Cursor;
 use zones::ZoneEnd;
 
 // How many stretches there are, or the number and the place of a refusal.
-#[derive(Drop)]
+#[derive(Clone, Copy)]
 pub enum Listing {
     Listed(usize),
     Refused(u8, usize),
@@ -12,7 +14,7 @@ pub enum Listing {
 
 // The asked zone of a file: where the data of field 0 and those of the zone start and end, how many strings the pool has, the zone's
 // ending, and a cursor at the window's first instant.
-#[derive(Drop)]
+#[derive(Clone, Copy)]
 pub struct Side {
     pub pool: usize,
     pub past: usize,
@@ -24,7 +26,7 @@ pub struct Side {
 }
 
 // The asked zone, or a question's refusal.
-#[derive(Drop)]
+#[derive(Clone, Copy)]
 pub enum Asked {
     Zone(Side),
     Refused(u8, usize),

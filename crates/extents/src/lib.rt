@@ -1,5 +1,7 @@
 // How far the whole fields of some bytes go, from any place between two of them. A walk over heads alone: a step gives a number, and only the loop's
 // end an `Extent`, since what a call hands back as a struct goes through memory.
+#![tactic(auto)]
+
 ghost use Rattle.std.specs.Prelude.{◌≡◌, ◌≤◌, ◌<◌, length, eqb};
 ghost use Rattle.base.specs.Pick.{pick};
 ghost use Rattle.frames.specs.Frame.{order, read_size};
@@ -12,7 +14,7 @@ use frames::Frame;
 const LARGEST: usize = 4194304;
 
 // A place between frames, and the ID of the field before it, 0 where there is none.
-#[derive(Drop)]
+#[derive(Clone, Copy)]
 pub struct Extent {
     pub at: usize,
     pub prev: usize,

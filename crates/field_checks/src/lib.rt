@@ -1,11 +1,13 @@
 // What the whole-file check and the version text give, and the bytes of that text.
+#![tactic(auto)]
+
 ghost use Rattle.std.specs.Prelude.{◌≡◌};
 ghost use Rattle.field_checks.specs.VersionPart.{version_part};
 
 use strings::Holder;
 
 // What the walk over a file comes to.
-#[derive(Drop)]
+#[derive(Clone, Copy)]
 pub enum Conclusion {
     // The number and the place of a refusal.
     Refused(u8, usize),
@@ -16,7 +18,7 @@ pub enum Conclusion {
 }
 
 // What the whole-file check gives.
-#[derive(Drop)]
+#[derive(Clone, Copy)]
 pub enum Verdict {
     Good,
     // The number and the place of a refusal.
@@ -24,7 +26,7 @@ pub enum Verdict {
 }
 
 // What asking for the version text gives.
-#[derive(Drop)]
+#[derive(Clone, Copy)]
 pub enum VersionText {
     // The place of its first byte, and how many bytes it has.
     Part(usize, usize),

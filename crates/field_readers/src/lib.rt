@@ -1,4 +1,6 @@
 // What the whole-file check takes of each field: what is remembered of it, what is made of that, and the laws of both. The readers are in the crates above.
+#![tactic(auto)]
+
 ghost use Rattle.std.specs.Prelude.{◌≡◌};
 ghost use Rattle.field_checks.specs.Check.{concluded};
 ghost use Rattle.field_readers.specs.Remembered.{text_of};
@@ -9,7 +11,7 @@ use field_checks::Conclusion;
 // What is remembered of the fields seen, beside the arrays: where the pool's data starts and ends and how many strings it holds; how many
 // zones there were; where the bytes of the version text start, 0 where there was none, and how many they are. Every field here and in a cursor is as wide as a place, since
 // padding makes each copy slow.
-#[derive(Drop)]
+#[derive(Clone, Copy)]
 pub struct Kept {
     pub start: usize,
     pub end: usize,
@@ -20,7 +22,7 @@ pub struct Kept {
 }
 
 // What a whole field comes to: the number of a refusal, or what is remembered from there on.
-#[derive(Drop)]
+#[derive(Clone, Copy)]
 pub enum Taken {
     Refused(u8),
     Keep(Kept),

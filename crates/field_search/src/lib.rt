@@ -1,11 +1,13 @@
 // Where the field with a given ID stands in a file.
+#![tactic(auto)]
+
 ghost use Rattle.std.specs.Prelude.{◌≡◌, ◌≤◌, length};
 ghost use Rattle.field_search.specs.Search.{field_place, behind_version};
 
 use frames::Frame;
 
 // The place of a field's ID byte, and where its data start and end; or that there is none.
-#[derive(Drop)]
+#[derive(Clone, Copy)]
 pub enum FieldPlace {
     At(usize, usize, usize),
     Nowhere,

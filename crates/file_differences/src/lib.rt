@@ -1,5 +1,7 @@
 // Where two whole files differ in one zone, over a window of instants: the walk to the zone in each of them, and a cursor at the window's first
 // instant.
+#![tactic(auto)]
+
 ghost use Rattle.std.specs.Prelude.{◌≤◌, length};
 ghost use Rattle.base.specs.Moment.{Finite};
 ghost use Rattle.pool.specs.Pool.{parse_pool};

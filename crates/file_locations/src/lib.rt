@@ -1,4 +1,6 @@
 // A location of a whole file by field and number, all checked first.
+#![tactic(auto)]
+
 ghost use Rattle.std.specs.Prelude.{◌≡◌};
 ghost use Rattle.locations.specs.Content.{id_of};
 ghost use Rattle.location_lookup.specs.Location.{in_file, location_of};

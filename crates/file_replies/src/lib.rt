@@ -1,4 +1,6 @@
 // What the C functions on files share: the result of normalizing, and the numbers of an answer, of a mapping and of the version text.
+#![tactic(auto)]
+
 ghost use Rattle.std.specs.Prelude.{◌≡◌};
 ghost use Rattle.replies.specs.Reply.{Gives};
 ghost use Rattle.file_replies.specs.Functions.{rewritten_result, mark_of, answer_reply, mapping_reply, version_reply, edition_of};

@@ -1,4 +1,6 @@
 // The version and the head of field 0 of a file.
+#![tactic(auto)]
+
 ghost use Rattle.std.specs.Prelude.{◌≡◌, ◌≤◌, length};
 ghost use Rattle.frames.specs.declared.Frame.TheVariants.{Version};
 ghost use Rattle.locate.specs.View.{version_frame, FirstOf};

@@ -1,4 +1,6 @@
 // A zone found once, for repeated questions: the walk to it gives its places in the file, and a question on these reads that zone alone.
+#![tactic(auto)]
+
 ghost use Rattle.std.specs.Prelude.{◌≡◌, ◌≤◌, length};
 ghost use Rattle.base.specs.Moment.{Finite};
 ghost use Rattle.pool.specs.Pool.{parse_pool};
@@ -12,7 +14,7 @@ use locate::{First, Located};
 use zones::{Answer as ZoneAnswer, Edition, ZoneVerdict};
 
 // Where the data of field 0 and those of the zone start and end in the file, and the place of the zone's ID byte.
-#[derive(Drop)]
+#[derive(Clone, Copy)]
 pub struct FoundZone {
     pub pool: usize,
     pub past: usize,
@@ -22,7 +24,7 @@ pub struct FoundZone {
 }
 
 // The zone, or the number and the place of a question's refusal.
-#[derive(Drop)]
+#[derive(Clone, Copy)]
 pub enum Finding {
     Zone(FoundZone),
     Refused(u8, usize),

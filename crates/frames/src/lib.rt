@@ -1,7 +1,8 @@
 // The frames of a file: its version, and each field's ID, size and extent.
+#![tactic(auto)]
 
 // What stands at a place of a file.
-#[derive(Drop)]
+#[derive(Clone, Copy)]
 pub enum Frame {
     // Nothing: the bytes end there.
     End,

@@ -1,4 +1,6 @@
 // Lines out of blocks of input.
+#![tactic(auto)]
+
 ghost use Rattle.lines.specs.Splitting.{Keeps, Gathers};
 
 use lines::Gathered;
@@ -24,7 +26,7 @@ fn keep(s: &[u8], held: &mut [u8], n: usize) -> usize
     }
     let room = held.len() - n;
     if s.len() <= room {
-        return n + bytes::copy(s, &mut held[n..]);
+        return n + slices::copy(s, &mut held[n..]);
     }
-    n + bytes::copy(&s[..room], &mut held[n..])
+    n + slices::copy(&s[..room], &mut held[n..])
 }

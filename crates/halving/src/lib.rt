@@ -1,4 +1,6 @@
 // Halving a lent table of instants, for repeated lookups.
+#![tactic(auto)]
+
 ghost use Rattle.std.specs.Prelude.{◌≡◌, ◌*◌, ◌≤◌, ◌<◌, pos, length, get_or};
 ghost use Rattle.std.specs.Int.Signed.{le_z};
 ghost use Rattle.base.specs.Pick.{pick};
@@ -6,7 +8,7 @@ ghost use Rattle.halving.specs.Halving.{find_start};
 ghost use Rattle.halving.specs.Looks.{left_of, StandsAt, Looks, Near, Due};
 
 // The entry left and how many entries were looked at; or the number and the place of a refusal.
-#[derive(Drop)]
+#[derive(Clone, Copy)]
 pub enum Search {
     Entry(usize, usize),
     Refused(u8, usize),
@@ -21,7 +23,7 @@ fn keeps(table: &[i64], at: usize, instant: i64) -> usize
 }
 
 // The entries left are those from low on before high.
-#[derive(Drop)]
+#[derive(Clone, Copy)]
 pub struct Bounds {
     pub low: usize,
     pub high: usize,

@@ -1,4 +1,6 @@
 // What stands at a place of a file: its version, or a field by its ID and size.
+#![tactic(auto)]
+
 ghost use Rattle.std.specs.Prelude.{◌≡◌};
 ghost use Rattle.frames.specs.Frame.{once as once_of, order as order_of, version as version_of};
 ghost use Rattle.frames.specs.Frame.{field as field_of, frame};

@@ -3,6 +3,8 @@
 // number goes to a buffer of 128, with the place of the main list where it belongs; a full buffer is merged into the main list. So at most
 // 127 numbers and their places are moved for a string, and all numbers once for 128 strings. Both places are found by halving: first the one
 // in the buffer, whose neighbours there say between which places of the main list the other one is.
+#![tactic(auto)]
+
 ghost use Rattle.std.specs.Prelude.{◌≡◌, [], ◌+◌, ◌-◌, ◌≤◌, ◌<◌, length, get_or};
 ghost use Rattle.pool.specs.Pool.{strings_of};
 ghost use Rattle.pool.specs.Index.{Ready};
@@ -13,7 +15,7 @@ ghost use Rattle.ids.specs.Memory.{Roomy, Sorted, Finds, Added, Taken};
 use string_order::Ordering;
 
 // What looking for a string in a part of the array gives: it was seen, with its number, or the place where its number belongs.
-#[derive(Drop)]
+#[derive(Clone, Copy)]
 pub enum Place {
     Seen(usize),
     Free(usize),
@@ -21,7 +23,7 @@ pub enum Place {
 
 // What looking for a string gives: it is known, with its number, or new; then its number belongs behind so many of the main list and so many
 // of the buffer.
-#[derive(Drop)]
+#[derive(Clone, Copy)]
 pub enum Gap {
     Known(usize),
     New(usize, usize),

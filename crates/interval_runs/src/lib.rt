@@ -1,5 +1,7 @@
 // Listed intervals whose name and offsets take a byte each, the usual ones, read in a row: an instant needs only the last of them. Those of five
 // bytes, nearly all, have a loop of their own, and so have those in ticks where no forms are asked for.
+#![tactic(auto)]
+
 ghost use Rattle.std.specs.Prelude.{◌≡◌, ◌+◌, ◌≤◌, ◌-◌, ◌<◌, length, true, false};
 ghost use Rattle.intervals.specs.Short.{short_interval, short_ok};
 ghost use Rattle.base.specs.Moment.{Finite, last_instant};
@@ -40,7 +42,7 @@ pub fn short_interval(s: &[u8], at: usize, m: u64) -> Interval
 }
 
 // Where a run ends: how many intervals are left, the place behind it, and its last start.
-#[derive(Drop)]
+#[derive(Clone, Copy)]
 pub struct Run {
     pub left: u64,
     pub place: usize,

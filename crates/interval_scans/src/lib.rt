@@ -1,4 +1,6 @@
 // The listed intervals of a zone, read one after the other; what an instant needs of them is kept on the way.
+#![tactic(auto)]
+
 ghost use Rattle.std.specs.Prelude.{◌≡◌, ◌≤◌, length, drop};
 ghost use Rattle.base.specs.Pick.{both};
 ghost use Rattle.base.specs.Parsed.{many};

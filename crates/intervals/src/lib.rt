@@ -1,6 +1,7 @@
 // The listed intervals of a zone: what a walk over them keeps, and what its readers give.
+#![tactic(auto)]
 
-#[derive(Drop)]
+#[derive(Clone, Copy)]
 pub struct Interval {
     pub start: u64,
     pub name: u64,
@@ -10,7 +11,7 @@ pub struct Interval {
 
 // What a walk over intervals keeps: the interval that holds the instant so far, the first start after the instant (end of time while
 // there is none), and the last start.
-#[derive(Drop)]
+#[derive(Clone, Copy)]
 pub struct Scan {
     pub held: Interval,
     pub end: u64,
@@ -18,13 +19,13 @@ pub struct Scan {
 }
 
 // Each reader gives a value and the place behind it, or a refusal's number; the last also whether every start's code is in the writer's form.
-#[derive(Drop)]
+#[derive(Clone, Copy)]
 pub enum IntervalRead {
     Got(Interval, usize),
     Refused(u8),
 }
 
-#[derive(Drop)]
+#[derive(Clone, Copy)]
 pub enum ScanRead {
     Got(Scan, usize, bool),
     Refused(u8),

@@ -1,5 +1,7 @@
 // The answers of a found zone's intervals behind the first, put in lent room behind it: by a cursor over the zone, so that the time grows with the
 // zone and the rows and not with their product.
+#![tactic(auto)]
+
 ghost use Rattle.std.specs.Prelude.{◌≡◌, ◌+◌, ◌^◌, ◌≤◌, ◌<◌, length};
 ghost use Rattle.std.proofs.lemmas.List.Edits.{sets};
 ghost use Rattle.base.specs.Moment.{Finite};

@@ -1,4 +1,6 @@
 // The reply to one question line, from a file: 01, "One whole file".
+#![tactic(auto)]
+
 ghost use Rattle.std.specs.Prelude.{◌≡◌, ◌≤◌, length};
 ghost use Rattle.base.specs.Writing.{bytes, wrote, placed};
 ghost use Rattle.line_replies.specs.Output.{reply_of, line_of};

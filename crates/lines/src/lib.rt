@@ -1,8 +1,9 @@
 // The program's question lines (01, "One whole file"), and lines out of blocks of input: what their readers give. They
 // stand in parsed_lines and gathered_lines.
+#![tactic(auto)]
 
 // The mark of a question line.
-#[derive(Drop)]
+#[derive(Clone, Copy)]
 pub enum Kind {
     Plain,
     Part,
@@ -10,7 +11,7 @@ pub enum Kind {
 }
 
 // What a question line says.
-#[derive(Drop)]
+#[derive(Clone, Copy)]
 pub enum Line {
     // The length of the ID, which stands at the line's front, the ticks, and the mark.
     Ask(usize, i64, Kind),
@@ -18,7 +19,7 @@ pub enum Line {
 }
 
 // What a part of a block gives to the line that has begun.
-#[derive(Drop)]
+#[derive(Clone, Copy)]
 pub enum Gathered {
     // The line is whole: how many bytes of it are held, and how many of the part it took, its line feed among them.
     Whole(usize, usize),

@@ -1,4 +1,6 @@
 // A cursor at a listed interval of a zone, and at its first interval, all of the zone checked.
+#![tactic(auto)]
+
 ghost use Rattle.cursors.specs.Cursors.{IntervalsAt, FirstAt, OpenedAs, list_end, ListAt, Points, usual_cursor};
 ghost use Rattle.std.specs.Prelude.{◌≡◌, ◌+◌, ◌≤◌, length};
 ghost use Rattle.zones.specs.Intervals.{Holds};

@@ -1,4 +1,6 @@
 // How many instants of a whole zone read as a local time, the earliest and the latest.
+#![tactic(auto)]
+
 ghost use Rattle.std.specs.Prelude.{◌≡◌, ◌≤◌, length, drop};
 ghost use Rattle.base.specs.Parsed.{many};
 ghost use Rattle.base.specs.Moment.{end_of_time};

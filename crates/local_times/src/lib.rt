@@ -1,5 +1,7 @@
 // Wall time to instants, of one zone: the instants of a listed interval and of a tail that read as a local time, one and two at most, so no
 // years are searched.
+#![tactic(auto)]
+
 ghost use Rattle.std.specs.Prelude.{◌≡◌, ◌≤◌};
 ghost use Rattle.recurrence.specs.Tails.{TailOk};
 ghost use Rattle.local_times.specs.Instants.{candidate as candidate_of, tail_candidate};
@@ -10,7 +12,7 @@ use intervals::Interval;
 use recurrence::Tail;
 
 // How many instants, the earliest and the latest as moments; all 0 where there are none.
-#[derive(Drop)]
+#[derive(Clone, Copy)]
 pub struct Tally {
     pub count: u64,
     pub earliest: u64,
@@ -19,21 +21,21 @@ pub struct Tally {
 
 // What a walk over intervals keeps: the interval read last, the instants in those before it, and the last start (end of time while there
 // is none).
-#[derive(Drop)]
+#[derive(Clone, Copy)]
 pub struct LocalScan {
     pub held: Interval,
     pub tally: Tally,
     pub last: u64,
 }
 
-#[derive(Drop)]
+#[derive(Clone, Copy)]
 pub enum LocalScanRead {
     Got(LocalScan, usize),
     Refused(u8),
 }
 
 // The instants, or the number of the zone's fault.
-#[derive(Drop)]
+#[derive(Clone, Copy)]
 pub enum LocalAnswer {
     Instants(Tally),
     Refused(u8),

@@ -1,9 +1,10 @@
 // The walk to the asked zone of a file. Field 0 and every zone before that one are checked, and the walk stops there without reading it: a
 // question, and every other reader of a zone, goes on from the place that it gives. The functions stand in
 // first_fields and asked_zones.
+#![tactic(auto)]
 
 // The field of the asked zone: the place of its ID byte, where its data start and end, and how many strings the pool has.
-#[derive(Drop)]
+#[derive(Clone, Copy)]
 pub struct Spot {
     pub place: usize,
     pub start: usize,
@@ -12,7 +13,7 @@ pub struct Spot {
 }
 
 // What the walk comes to. Cut and End are the two ways of having too few bytes: inside the version or a field, and at the end of one.
-#[derive(Drop)]
+#[derive(Clone, Copy)]
 pub enum Located {
     Found(Spot),
     Refused(u8, usize),
@@ -21,7 +22,7 @@ pub enum Located {
 }
 
 // Where the data of field 0 start and end, or what the walk comes to before it.
-#[derive(Drop)]
+#[derive(Clone, Copy)]
 pub enum First {
     Pool(usize, usize),
     Refused(u8, usize),
@@ -30,7 +31,7 @@ pub enum First {
 }
 
 // What a zone says by its ID: it is the asked one, or another, or the number of its fault.
-#[derive(Drop)]
+#[derive(Clone, Copy)]
 pub enum Judged {
     Here,
     Keep,

@@ -1,4 +1,6 @@
 // A location in a field's data, by its number.
+#![tactic(auto)]
+
 ghost use Rattle.std.specs.Prelude.{◌≡◌, ◌≤◌};
 ghost use Rattle.signed.specs.Zigzag.{unzigzag_of};
 ghost use Rattle.pins.specs.Degrees.{pin_of};

@@ -1,5 +1,7 @@
 // A location of a file, and the view of its countries: what their readers give, and the parts and texts that they share. The readers stand in
 // location_fields, country_texts and file_locations.
+#![tactic(auto)]
+
 ghost use Rattle.std.specs.Prelude.{◌≡◌};
 ghost use Rattle.location_lookup.specs.Location.{lent_part, text_in};
 
@@ -8,7 +10,7 @@ use pool::Span;
 
 // A location: its pin, the places and lengths of its zone ID and its comment in the lent bytes, and the view of its countries: where the
 // field's data start and end, the place of the next country in them, and how many are left.
-#[derive(Drop)]
+#[derive(Clone, Copy)]
 pub struct Located {
     pub pin: Pin,
     pub zone: Span,
@@ -19,7 +21,7 @@ pub struct Located {
     pub left: usize,
 }
 
-#[derive(Drop)]
+#[derive(Clone, Copy)]
 pub enum LocationAnswer {
     Here(Located),
     // The number and the place of a refusal.
@@ -27,7 +29,7 @@ pub enum LocationAnswer {
 }
 
 // The places and lengths of a country's name and code in the lent bytes, and where the view stands behind it.
-#[derive(Drop)]
+#[derive(Clone, Copy)]
 pub struct Pair {
     pub name: Span,
     pub code: Span,
@@ -35,7 +37,7 @@ pub struct Pair {
     pub left: usize,
 }
 
-#[derive(Drop)]
+#[derive(Clone, Copy)]
 pub enum NextPair {
     Given(Pair),
     NoMore,

@@ -1,4 +1,6 @@
 // The locations of a field: one at a place, their check, and one by number. One walk from front to back serves both.
+#![tactic(auto)]
+
 ghost use Rattle.std.specs.Prelude.{◌≡◌, ◌≤◌, length, drop};
 ghost use Rattle.locations.specs.Content.{all_locations, parse_locations, parse_seconds, parse_number, parse_country, parse_countries, parse_texts, parse_location};
 ghost use Rattle.locations.specs.Find.{kept_by, sought_of, verdict_of, how_many, of_country, spots_of, of_spot};

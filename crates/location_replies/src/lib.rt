@@ -1,4 +1,6 @@
 // What the C functions say of a location and of its countries.
+#![tactic(auto)]
+
 ghost use Rattle.location_replies.specs.Locations.{GivesLocation, GivesCountry};
 ghost use Rattle.location_replies.specs.Small.{SmallLocation};
 

@@ -1,14 +1,15 @@
 // The data of fields 6 and 7, the locations of zones: what they say, and the laws of it. The code is in the crates above.
+#![tactic(auto)]
 
 // The two fields of locations: field 6, from zone.tab, and field 7, from zone1970.tab.
-#[derive(Drop)]
+#[derive(Clone, Copy)]
 pub enum LocationField {
     Zone,
     Zone1970,
 }
 
 // The pool numbers of a country's name and code.
-#[derive(Drop)]
+#[derive(Clone, Copy)]
 pub struct Country {
     pub name: u64,
     pub code: u64,
@@ -16,7 +17,7 @@ pub struct Country {
 
 // A location: seconds north and east, as the numbers of signed counts, the place of its first country in the field's data and how many countries there are, and the pool
 // numbers of its zone ID and its comment.
-#[derive(Drop)]
+#[derive(Clone, Copy)]
 pub struct Spot {
     pub latitude: u64,
     pub longitude: u64,
@@ -27,20 +28,20 @@ pub struct Spot {
 }
 
 // Each reader gives a value and the place behind it, or a refusal's number.
-#[derive(Drop)]
+#[derive(Clone, Copy)]
 pub enum CountryRead {
     Got(Country, usize),
     Refused(u8),
 }
 
-#[derive(Drop)]
+#[derive(Clone, Copy)]
 pub enum LocationRead {
     Got(Spot, usize),
     Refused(u8),
 }
 
 // What asking a field for a location by number gives.
-#[derive(Drop)]
+#[derive(Clone, Copy)]
 pub enum Sought {
     Here(Spot),
     Beyond,
@@ -48,7 +49,7 @@ pub enum Sought {
 }
 
 // What the check of a field gives.
-#[derive(Drop)]
+#[derive(Clone, Copy)]
 pub enum FieldVerdict {
     Good,
     Refused(u8),

@@ -1,5 +1,7 @@
 // What is kept of a whole zone that is read once, and the interval made of it that holds an instant, with the laws of both. The zone is read in the crates
 // above.
+#![tactic(auto)]
+
 ghost use Rattle.std.specs.Prelude.{◌≡◌};
 ghost use Rattle.base.specs.Moment.{Finite};
 ghost use Rattle.recurrence.specs.Tails.{TailOk};
@@ -12,7 +14,7 @@ use tails::NamedTail;
 use zones::{Edition, Found};
 
 // A whole zone, with what an instant needs of it, and whether its transitions are in the writer's form.
-#[derive(Drop)]
+#[derive(Clone, Copy)]
 pub enum ZoneRead {
     Fixed(u64, u64, u64, bool),
     Listed(u64, Scan, bool),
@@ -21,7 +23,7 @@ pub enum ZoneRead {
 }
 
 // A well-formed zone's ID, and whether its data are in their preferred form, or a refusal's number.
-#[derive(Drop)]
+#[derive(Clone, Copy)]
 pub enum ZoneForm {
     Good(u64, bool),
     Refused(u8),

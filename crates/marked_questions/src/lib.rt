@@ -1,4 +1,6 @@
 // The question with its mark, and the plain one.
+#![tactic(auto)]
+
 ghost use Rattle.std.specs.Prelude.{◌≡◌};
 ghost use Rattle.questions.specs.Question.{ask as ask_of, ask_plain};
 

@@ -1,4 +1,6 @@
 // Mentions counted in runs: names behind names, and names of locations.
+#![tactic(auto)]
+
 ghost use Rattle.std.specs.Prelude.{◌≡◌, ◌-◌, ◌≤◌, ◌<◌, length, get_or};
 ghost use Rattle.use_order.specs.Order.{mention as mention_of};
 ghost use Rattle.mentions.specs.declared.Stage.TheVariants.{Names};
@@ -18,7 +20,7 @@ pub fn mention(uses: &mut [u32], k: usize)
 }
 
 // Before so many names.
-#[derive(Drop)]
+#[derive(Clone, Copy)]
 pub struct Row {
     pub place: usize,
     pub left: u64,
@@ -60,7 +62,7 @@ fn count_names(
 }
 
 // Before so many names and so many locations.
-#[derive(Drop)]
+#[derive(Clone, Copy)]
 pub struct List {
     pub place: usize,
     pub left: u64,
@@ -128,7 +130,7 @@ fn count_locations(
 }
 
 // A place and the stage there.
-#[derive(Drop)]
+#[derive(Clone, Copy)]
 pub struct Stood {
     pub place: usize,
     pub stage: Stage,

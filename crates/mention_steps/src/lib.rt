@@ -1,4 +1,6 @@
 // From one mention of a field's data to the next: inside the alias dictionary and the locations, and in any field.
+#![tactic(auto)]
+
 ghost use Rattle.std.specs.Prelude.{◌≤◌, length, drop, ◌≡◌};
 ghost use Rattle.places.specs.Placed.{Stands, of_read};
 ghost use Rattle.mentions.specs.Walk.{numbered_names, location_names, before_names, before_pairs, before_locations, ahead_of, first_stage};

@@ -1,8 +1,9 @@
 // The mentions of pool strings in a field's data, one after the other from front to back: what a walk over them keeps and gives. The functions
 // stand in zone_mentions, list_mentions and mention_steps.
+#![tactic(auto)]
 
 // Where a walk over a field's data stands between two mentions.
-#[derive(Drop)]
+#[derive(Clone, Copy)]
 pub enum Stage {
     // At the front of a zone.
     Zone,
@@ -23,14 +24,14 @@ pub enum Stage {
 }
 
 // The stage behind the next mention, and the mention's place; the end of the data where there is none.
-#[derive(Drop)]
+#[derive(Clone, Copy)]
 pub enum Skipped {
     At(Stage, usize),
     Refused(u8),
 }
 
 // The next mention: the stage behind it, its number, its place and the place behind it; or that there is none.
-#[derive(Drop)]
+#[derive(Clone, Copy)]
 pub enum Mentioned {
     Here(Stage, u64, usize, usize),
     Nothing,

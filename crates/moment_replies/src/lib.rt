@@ -1,4 +1,6 @@
 // What the C functions share on transitions: moments and the numbers that stand for them.
+#![tactic(auto)]
+
 ghost use Rattle.std.specs.Prelude.{◌≡◌};
 ghost use Rattle.replies.specs.Reply.{Gives};
 ghost use Rattle.replies.specs.Functions.{moment_reply, previous_of, moment_of};

@@ -1,4 +1,6 @@
 // What the named question makes of the fields before the aliases.
+#![tactic(auto)]
+
 ghost use Rattle.std.specs.Prelude.{◌≡◌, ◌≤◌, length};
 ghost use Rattle.pool.specs.Pool.{strings_of};
 ghost use Rattle.pool.specs.Index.{Ready};

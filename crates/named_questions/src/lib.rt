@@ -1,4 +1,6 @@
 // The named question, on any bytes: the walk to the zone that a name leads to, by its ID or over aliases, and the answer there.
+#![tactic(auto)]
+
 ghost use Rattle.std.specs.Prelude.{◌≡◌, ◌≤◌, length, drop, [], true};
 ghost use Rattle.pool.specs.Pool.{strings_of, parse_pool};
 ghost use Rattle.pool.specs.Index.{Ready, starts_of, room_of};

@@ -1,4 +1,6 @@
 // The next interval of a list, for a reader that needs each of them: local times, starts, cursors.
+#![tactic(auto)]
+
 ghost use Rattle.std.specs.Prelude.{◌≤◌, length, drop};
 ghost use Rattle.places.specs.Placed.{Stands};
 ghost use Rattle.intervals.specs.Interval.{parse_interval};

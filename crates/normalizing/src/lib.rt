@@ -1,5 +1,7 @@
 // Normalizing a whole file. The file is checked, which also tells of each zone whether it is in its preferred form; then its preferred file is
 // written.
+#![tactic(auto)]
+
 ghost use Rattle.std.specs.Prelude.{◌≡◌, []};
 ghost use Rattle.rewrite.specs.Preferred.{rewrite_of, output_of};
 

@@ -1,4 +1,6 @@
 // Where a yearly rule falls in a year.
+#![tactic(auto)]
+
 ghost use Rattle.std.specs.Prelude.{◌≡◌, ◌≤◌, ◌<◌, min, max};
 ghost use Rattle.rules.specs.Rules.{RuleOk};
 ghost use Rattle.occurrences.specs.Rules.{month_day, moved, falls_on, occurrence, subtracted};

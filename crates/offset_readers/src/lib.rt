@@ -1,4 +1,6 @@
 // Offsets, read.
+#![tactic(auto)]
+
 ghost use Rattle.std.specs.Prelude.{◌≡◌, ◌+◌, ◌*◌, ◌≤◌, ◌<◌};
 ghost use Rattle.counts.specs.Fixed.{read_fixed};
 ghost use Rattle.offsets.specs.Offset.{offset_of, in_units, read_sum, read_offset};

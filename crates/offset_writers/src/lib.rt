@@ -1,4 +1,6 @@
 // Offsets, written.
+#![tactic(auto)]
+
 ghost use Rattle.std.specs.Prelude.{[], ◌∷◌, ◌+◌, ◌/◌, ◌<◌};
 ghost use Rattle.base.specs.Writing.{bytes, Writes};
 ghost use Rattle.counts.specs.Fixed.{fixed_bytes};

@@ -1,4 +1,6 @@
 // The older edition's count, read.
+#![tactic(auto)]
+
 ghost use Rattle.std.specs.Prelude.{◌≡◌, ◌^◌, ◌≤◌, ◌<◌};
 ghost use Rattle.counts.specs.Fixed.{read_fixed};
 ghost use Rattle.old_counts.specs.OldCount.{value_from, largest, read_old_count};

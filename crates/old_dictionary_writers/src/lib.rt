@@ -1,4 +1,6 @@
 // An older dictionary, written.
+#![tactic(auto)]
+
 ghost use Rattle.std.specs.Prelude.{◌++◌, ◌≤◌};
 ghost use Rattle.base.specs.Writing.{bytes, Writes};
 ghost use Rattle.old_counts.specs.OldCount.{write_old_count};
@@ -20,7 +22,7 @@ fn write_counted(n: u64, t: &[u8], out: &mut [u8]) -> Wrote
         return Wrote::Refused(15);
     }
     old_count_writers::write_count(n, out);
-    bytes::copy(t, &mut out[a..]);
+    slices::copy(t, &mut out[a..]);
     Wrote::Length(a + t.len())
 }
 

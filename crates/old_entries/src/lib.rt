@@ -1,4 +1,6 @@
 // The entries of an older dictionary, whose keys mostly stand in the order of their bytes.
+#![tactic(auto)]
+
 ghost use Rattle.std.specs.Prelude.{◌≡◌, [], ◌≤◌, length, drop};
 ghost use Rattle.string_order.specs.Order.{ordering};
 ghost use Rattle.old_dictionaries.specs.OldDictionary.{parse_entries, found_of, read_old_dictionary};

@@ -1,4 +1,6 @@
 // The named question over an older dictionary, of a whole file that is checked first.
+#![tactic(auto)]
+
 ghost use Rattle.std.specs.Prelude.{◌≡◌};
 ghost use Rattle.std.proofs.Math.Option.{none};
 ghost use Rattle.base.specs.Moment.{Finite};

@@ -1,4 +1,6 @@
 // The older edition's offset, read: milliseconds, to which 86,400,000 are added, so that the sum is unsigned.
+#![tactic(auto)]
+
 ghost use Rattle.std.specs.Prelude.{◌≡◌, ◌<◌};
 ghost use Rattle.counts.specs.Fixed.{read_fixed};
 ghost use Rattle.old_offsets.specs.OldOffset.{by_seconds, by_milliseconds, judged, read_old_sum, read_old_offset};

@@ -1,4 +1,6 @@
 // The older edition's offset, written.
+#![tactic(auto)]
+
 ghost use Rattle.base.specs.Writing.{Writes};
 ghost use Rattle.old_offsets.specs.OldOffset.{old_sum_form, old_offset_form};
 

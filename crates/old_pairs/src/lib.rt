@@ -1,4 +1,6 @@
 // A pair of strings of an older dictionary, and a key among the pairs before it.
+#![tactic(auto)]
+
 ghost use Rattle.std.specs.Prelude.{◌≡◌, ◌≤◌, length, drop};
 ghost use Rattle.old_dictionaries.specs.Pairs.{key_among};
 ghost use Rattle.old_dictionaries.specs.View.{PairAt};

@@ -1,4 +1,6 @@
 // What the C functions share of older dictionaries: the numbers of one that was read, and the length of one that was written.
+#![tactic(auto)]
+
 ghost use Rattle.std.specs.Prelude.{◌≡◌};
 ghost use Rattle.replies.specs.Reply.{Gives};
 ghost use Rattle.old_replies.specs.Functions.{dictionary_reply, number_of, length_left};

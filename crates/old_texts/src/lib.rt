@@ -1,4 +1,6 @@
 // The older edition's string: a length and that many bytes of UTF-8.
+#![tactic(auto)]
+
 ghost use Rattle.std.specs.Prelude.{◌≡◌, ◌≤◌, length};
 ghost use Rattle.base.specs.Writing.{bytes, Writes};
 ghost use Rattle.old_texts.specs.OldText.{read_old_text, write_old_text, old_text_form};
@@ -27,7 +29,7 @@ pub fn write_sized(t: &[u8], out: &mut [u8]) -> Wrote
         return Wrote::Refused(15);
     }
     old_count_writers::write_count(n as u64, out);
-    bytes::copy(t, &mut out[a..]);
+    slices::copy(t, &mut out[a..]);
     Wrote::Length(a + n)
 }
 

@@ -1,4 +1,6 @@
 // The used pool numbers in order, the most used first, ties by number; and the place of each in that order.
+#![tactic(auto)]
+
 ghost use Rattle.std.specs.Prelude.{◌≡◌, ◌≤◌, ◌<◌, length, set};
 ghost use Rattle.use_order.specs.Order.{numbers_of, numbered_from};
 ghost use Rattle.use_order.specs.Fill.{Put, Filled, Ordered};

@@ -1,4 +1,6 @@
 // The program's question lines, read (01, "One whole file").
+#![tactic(auto)]
+
 ghost use Rattle.std.specs.Prelude.{◌≡◌};
 ghost use Rattle.lines.specs.Question.{parse_line, ticks, digits, behind_digits, marked, ticks_of};
 

@@ -107,7 +107,7 @@ pub fn append(buf: &mut [u8], at: usize, part: &[u8]) -> usize
     if buf.len() - at < part.len() {
         return at;
     }
-    bytes::copy(part, &mut buf[at..]);
+    slices::copy(part, &mut buf[at..]);
     at + part.len()
 }
 

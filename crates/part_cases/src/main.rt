@@ -1,5 +1,7 @@
 // Runs the stored cases of parts of files, by functions that the archive doesn't have. The first word of a line says which, and the module of that
 // name has what the words behind it are and what is written: one line for each. One program for all of them, since the check of any takes in what they share.
+#![tactic(auto)]
+
 mod cases;
 mod hex;
 mod pin_cases;

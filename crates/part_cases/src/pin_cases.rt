@@ -23,7 +23,7 @@ fn pattern(x: f64) -> u64
     f64::to_bits(x)
 }
 
-#[derive(Drop)]
+#[derive(Clone, Copy)]
 struct Patterns {
     latitude: u64,
     longitude: u64,

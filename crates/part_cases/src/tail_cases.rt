@@ -10,7 +10,7 @@ use crate::{cases, hex};
 use recurrence::{Interval, Tail};
 
 // The fields of a rule, as in the file.
-#[derive(Drop)]
+#[derive(Clone, Copy)]
 struct Fields {
     byte: u64,
     month: u64,
@@ -18,7 +18,7 @@ struct Fields {
     time: u64,
 }
 
-#[derive(Drop)]
+#[derive(Clone, Copy)]
 struct Question {
     offset: u64,
     savings: u64,
@@ -28,7 +28,7 @@ struct Question {
     instant: u64,
 }
 
-#[derive(Drop)]
+#[derive(Clone, Copy)]
 enum Reply {
     In(Interval),
     Refused(u64),

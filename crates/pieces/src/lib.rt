@@ -1,4 +1,6 @@
 // A zone as the rewriter sees it: where its transitions and the bytes behind them lie.
+#![tactic(auto)]
+
 ghost use Rattle.std.specs.Prelude.{◌≡◌, ◌*◌, ◌-◌, ◌≤◌, length, drop};
 ghost use Rattle.base.specs.Pick.{both};
 ghost use Rattle.transitions.specs.Transition.{write_moment};

@@ -1,11 +1,13 @@
 // Pins on the map: latitude and longitude in degrees, from whole seconds.
+#![tactic(auto)]
+
 ghost use Rattle.std.specs.Prelude.{◌≡◌, ◌%◌, pos, nat_abs};
 ghost use Rattle.std.specs.Int.Signed.{quot_z};
 ghost use Rattle.pins.specs.Degrees.{degrees_of, pin_of, Sixteenfold};
 
 // A place on the map, in degrees north and east.
 #[repr(C)]
-#[derive(Drop)]
+#[derive(Clone, Copy)]
 pub struct Pin {
     pub latitude: f64,
     pub longitude: f64,

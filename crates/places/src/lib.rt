@@ -1,5 +1,7 @@
 // Small codes at a place of a field's data: a value and the place behind it, or a refusal's number. The usual ones are told by few tests; long starts of
 // intervals, and offsets, are read without a call.
+#![tactic(auto)]
+
 ghost use Rattle.std.specs.Prelude.{◌≡◌, ◌+◌, ◌≤◌, ◌<◌, length, get_or, drop};
 ghost use Rattle.places.specs.Usual.{usual_size, UsualAt};
 ghost use Rattle.base.specs.Moment.{Finite};

@@ -1,4 +1,6 @@
 // The check of field 0, and its index.
+#![tactic(auto)]
+
 ghost use Rattle.std.specs.Prelude.{◌≡◌, true, ◌+◌, ◌-◌, ◌≤◌, ◌<◌, length, drop, get_or, set};
 ghost use Rattle.std.proofs.lemmas.List.Edits.{sets};
 ghost use Rattle.pool.specs.Pool.{all_strings, parse_pool, checked};
@@ -8,7 +10,7 @@ use base::Read;
 use texts::Text;
 
 // What checking a pool gives.
-#[derive(Drop)]
+#[derive(Clone, Copy)]
 pub enum Checked {
     // How many strings it holds.
     Strings(usize),
@@ -177,7 +179,7 @@ pub fn check_pool(d: &[u8], starts: &mut [u32]) -> Checked
 }
 
 // Where a string's bytes lie in the pool's data: the place of the first, and how many there are.
-#[derive(Drop)]
+#[derive(Clone, Copy)]
 pub struct Span {
     pub at: usize,
     pub len: usize,

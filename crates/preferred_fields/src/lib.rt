@@ -1,4 +1,6 @@
 // A field in its preferred form: how long it is, and the writing of it.
+#![tactic(auto)]
+
 ghost use Rattle.std.specs.Prelude.{◌≡◌, ◌∷◌, ◌++◌, ◌+◌, ◌≤◌, length};
 ghost use Rattle.counts.specs.Count.{write_count};
 ghost use Rattle.pieces.specs.View.{HasContent, Put};

@@ -1,5 +1,7 @@
 // The walks over the fields of a well-formed file that is rewritten: the length of its preferred file, and the writing of it. Each field is written by
 // a callee that is lent the output from the present place on. A zone that is preferred is not read again.
+#![tactic(auto)]
+
 ghost use Rattle.std.specs.Prelude.{◌≡◌, [], ◌∷◌, ◌≤◌, length, leb};
 ghost use Rattle.pieces.specs.View.{Put};
 ghost use Rattle.rewrite.specs.Preferred.{content, print_fields, preferred};

@@ -1,4 +1,6 @@
 // The program of 01, "One whole file": question lines answered from a file.
+#![tactic(auto)]
+
 ghost use Rattle.std.specs.Prelude.{◌≤◌, length};
 
 use base::Wrote;

@@ -1,4 +1,6 @@
 // Asking one zone at one instant, on any bytes: the walk to the asked zone, the lookup there and the answer.
+#![tactic(auto)]
+
 ghost use Rattle.std.specs.Prelude.{◌≡◌, ◌≤◌, length};
 ghost use Rattle.base.specs.Moment.{Finite};
 ghost use Rattle.pool.specs.Pool.{parse_pool};

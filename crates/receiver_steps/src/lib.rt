@@ -1,4 +1,6 @@
 // A receiver of a file's bytes in pieces, over a buffer that its caller lends. Here it goes by value; capi changes it in place.
+#![tactic(auto)]
+
 ghost use Rattle.std.specs.Prelude.{◌≡◌};
 ghost use Rattle.extents.specs.Extent.{extent_of};
 ghost use Rattle.receivers.specs.Receive.{fresh, Adds};

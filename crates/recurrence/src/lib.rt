@@ -1,5 +1,7 @@
 // The yearly rules of a zone's tail, and the tail's intervals. A moment is a count of 100 ns ticks since 1 January of year -399, a
 // year is counted from there, and an offset is in milliseconds with 86,400,000 added, as in the file.
+#![tactic(auto)]
+
 ghost use Rattle.std.specs.Prelude.{◌≡◌, ◌≤◌};
 ghost use Rattle.base.specs.Moment.{Finite};
 ghost use Rattle.rules.specs.Rules.{RuleOk};
@@ -9,7 +11,7 @@ ghost use Rattle.recurrence.specs.Tails.{TailOk, lookup};
 
 use rules::Rule;
 
-#[derive(Drop)]
+#[derive(Clone, Copy)]
 pub struct Tail {
     // a moment
     pub start: u64,
@@ -21,7 +23,7 @@ pub struct Tail {
     pub daylight: Rule,
 }
 
-#[derive(Drop)]
+#[derive(Clone, Copy)]
 pub struct Interval {
     // daylight time is in force, else standard time
     pub daylight: bool,
@@ -32,7 +34,7 @@ pub struct Interval {
 }
 
 // The occurrences of a rule around an instant: the latest at or before it, the earliest after it.
-#[derive(Drop)]
+#[derive(Clone, Copy)]
 pub struct Occurrences {
     pub last: u64,
     pub next: u64,

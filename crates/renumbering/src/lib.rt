@@ -1,4 +1,6 @@
 // The mentions of a field counted, and its data with new pool numbers: how long they are, and the writing of them.
+#![tactic(auto)]
+
 ghost use Rattle.std.specs.Prelude.{◌≡◌, ◌++◌, ◌≤◌, length, drop};
 ghost use Rattle.counts.specs.Count.{write_count};
 ghost use Rattle.pieces.specs.View.{Put};
@@ -22,7 +24,7 @@ pub fn renumber(table: &[u32], k: usize) -> u64
 }
 
 // Behind the name of an interval: its start, how many follow, and the length of what is renumbered.
-#[derive(Drop)]
+#[derive(Clone, Copy)]
 pub struct SizedRun {
     pub place: usize,
     pub start: u64,
@@ -77,7 +79,7 @@ fn size_intervals(s: &[u8], at: usize, start: u64, left: u64, table: &[u32]) -> 
 }
 
 // Before so many names, with the length of what is renumbered.
-#[derive(Drop)]
+#[derive(Clone, Copy)]
 pub struct SizedRow {
     pub place: usize,
     pub left: u64,
@@ -124,7 +126,7 @@ fn size_names(
 }
 
 // A place and the stage there, with the length of what is renumbered.
-#[derive(Drop)]
+#[derive(Clone, Copy)]
 pub struct SizedStage {
     pub place: usize,
     pub stage: Stage,
@@ -177,7 +179,7 @@ pub fn write_mention(s: &[u8], v: u64, out: &mut [u8]) -> usize
     requires { (v ≤ 2147483647) × (length (s.now ++ write_count v) ≤ length out.old) }
     ensures { Put (s.now ++ write_count v) out.old result out.new }
 {
-    let k = bytes::copy(s, out);
+    let k = slices::copy(s, out);
     k + write_number(v, &mut out[k..])
 }
 
@@ -373,7 +375,7 @@ pub fn write(i: u8, s: &[u8], table: &[u32], out: &mut [u8]) -> usize
         let m = mention_steps::next(s, place, behind_run);
         match m {
             Mentioned::Nothing => {
-                return w + bytes::copy(&s[place..], &mut out[w..]);
+                return w + slices::copy(&s[place..], &mut out[w..]);
             }
             Mentioned::Here(behind, v, p, e) => {
                 let k = renumber(table, v as usize);

@@ -1,4 +1,6 @@
 // Replaying a phone's trace: the first record that a file contradicts.
+#![tactic(auto)]
+
 ghost use Rattle.std.specs.Prelude.{◌≡◌, ◌+◌, ◌*◌, ◌≤◌, ◌<◌, length};
 ghost use Rattle.pool.specs.Pool.{strings_of};
 ghost use Rattle.pool.specs.Index.{room_of, Ready};
@@ -14,7 +16,7 @@ use pool::Checked;
 use trace_records::{Kept, PassedZones, ReachedZone};
 
 // The number of the first such record, from 0, or none; or the number and the place of a refusal.
-#[derive(Drop)]
+#[derive(Clone, Copy)]
 pub enum Report {
     Record(u64),
     Nothing,

@@ -1,4 +1,6 @@
 // What the C functions share: number and place in one result, and the numbers of a small code in an output of fixed size.
+#![tactic(auto)]
+
 ghost use Rattle.std.specs.Prelude.{◌≡◌, ◌≤◌};
 ghost use Rattle.base.specs.Writing.{Writes};
 ghost use Rattle.replies.specs.Reply.{refusal as refusal_of, written_of, Gives};

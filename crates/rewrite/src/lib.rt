@@ -1,7 +1,8 @@
 // The preferred form of a whole file: what it is, and the laws of it. The code is in the crates above.
+#![tactic(auto)]
 
 // What normalizing gives.
-#[derive(Drop)]
+#[derive(Clone, Copy)]
 pub enum Rewritten {
     // The length of the preferred file.
     Length(usize),

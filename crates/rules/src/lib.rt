@@ -1,9 +1,11 @@
 // A yearly rule from its fields in the file, each judged as soon as it is read.
+#![tactic(auto)]
+
 ghost use Rattle.std.specs.Prelude.{◌≡◌, true, ◌≤◌, ◌<◌};
 ghost use Rattle.rules.specs.Rules.{most_day};
 ghost use Rattle.rules.specs.Fields.{byte_ok, month_ok, day_ok, time_ok, sum_ok, rule_of};
 
-#[derive(Drop)]
+#[derive(Clone, Copy)]
 pub struct Rule {
     // 0 UTC, 1 wall, 2 standard
     pub mode: u64,

@@ -1,4 +1,6 @@
 // The edge between signed numbers, as callers use them, and the unsigned ones that all else computes with.
+#![tactic(auto)]
+
 ghost use Rattle.std.specs.Prelude.{◌≡◌, ◌<◌, nat_abs};
 ghost use Rattle.base.specs.Moment.{Finite};
 ghost use Rattle.signed.specs.Instant.{instant_of, ticks_of, moment_of, from_raw, raw_of};
@@ -6,7 +8,7 @@ ghost use Rattle.signed.specs.OffsetSum.{sum_of, milliseconds_of};
 ghost use Rattle.signed.specs.Zigzag.{zigzag_of, unzigzag_of};
 
 // What reading a code with a signed value finds.
-#[derive(Drop)]
+#[derive(Clone, Copy)]
 pub enum Number {
     // The value, and how many bytes its code takes.
     Value(i64, usize),

@@ -1,4 +1,6 @@
 // A field's size, and the whole field by it; the fields of a file whose fields are whole, one by one.
+#![tactic(auto)]
+
 ghost use Rattle.std.specs.Prelude.{◌<◌, ◌+◌, length, ◌≡◌, ltb};
 ghost use Rattle.sizes.specs.View.{IsField};
 ghost use Rattle.frames.specs.Frame.{largest, read_size, sized as sized_of};
@@ -57,7 +59,7 @@ pub fn sized(r: &[u8], at: usize, i: u8) -> Frame
 }
 
 // A field's ID, and where its data start and end.
-#[derive(Drop)]
+#[derive(Clone, Copy)]
 pub struct Extent {
     pub id: u8,
     pub start: usize,

@@ -1,4 +1,6 @@
 // The table of starts of a zone in a whole file: the walk to the asked zone, and its listed interval starts.
+#![tactic(auto)]
+
 ghost use Rattle.std.specs.Prelude.{◌≡◌, ◌≤◌, length};
 ghost use Rattle.pool.specs.Pool.{parse_pool};
 ghost use Rattle.pool.specs.Index.{room_of};
@@ -9,7 +11,7 @@ use locate::{First, Located};
 use zone_starts::ZoneStarts;
 
 // How many entries were put; or the number and the place of a refusal.
-#[derive(Drop)]
+#[derive(Clone, Copy)]
 pub enum Filling {
     Filled(usize),
     Refused(u8, usize),

@@ -1,4 +1,6 @@
 // Stretches of instants, put in a lent list as they end: two numbers each, the first instant and the end, in ticks since 1970.
+#![tactic(auto)]
+
 ghost use Rattle.std.specs.Prelude.{◌≡◌, ◌+◌, ◌*◌, ◌≤◌, length, set};
 ghost use Rattle.std.proofs.lemmas.List.Edits.{sets};
 ghost use Rattle.stretches.specs.Stretches.{closed, numbers_of};

@@ -1,9 +1,11 @@
 // The order of byte strings.
+#![tactic(auto)]
+
 ghost use Rattle.std.specs.Prelude.{◌≡◌, [], ◌∷◌, ◌≤◌, ◌+◌, ◌*◌, ◌<◌, min, length, drop};
 ghost use Rattle.string_order.specs.Order.{ordering};
 
 // Where one string stands to another.
-#[derive(Drop)]
+#[derive(Clone, Copy)]
 pub enum Ordering {
     Less,
     Equal,

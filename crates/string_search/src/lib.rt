@@ -1,4 +1,6 @@
 // A string of a pool by its number, without an index: the strings before it are stepped over by their lengths.
+#![tactic(auto)]
+
 ghost use Rattle.std.specs.Prelude.{◌≡◌, ◌≤◌, length, drop};
 ghost use Rattle.places.specs.Placed.{Stands, of_read};
 ghost use Rattle.string_search.specs.Search.{parse_string, nth_string, string_span};

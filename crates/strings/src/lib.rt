@@ -1,4 +1,6 @@
 // The strings of a pool by number, through its index, and texts that lie in the pool or in a field.
+#![tactic(auto)]
+
 ghost use Rattle.std.specs.Prelude.{◌≡◌, [], max, ◌<◌, length, get_or, eqb};
 ghost use Rattle.base.specs.Pick.{pick};
 ghost use Rattle.pool.specs.Pool.{strings_of};
@@ -36,7 +38,7 @@ pub fn text_by<'a>(d: &'a [u8], starts: &[u32], k: usize) -> &'a [u8]
 }
 
 // Which slice holds a text, the pool's or the field's: the place of its first byte there, and how many bytes it has.
-#[derive(Drop)]
+#[derive(Clone, Copy)]
 pub enum Holder {
     InPool(usize, usize),
     InField(usize, usize),

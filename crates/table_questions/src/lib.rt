@@ -1,4 +1,6 @@
 // A question over a table of answers: the row that holds the tick, found by halving, without the file; or the question on the zone.
+#![tactic(auto)]
+
 ghost use Rattle.std.specs.Prelude.{◌≡◌, ◌*◌, ◌/◌, ◌≤◌, ◌<◌, length};
 ghost use Rattle.halving.specs.Looks.{Near, Due};
 ghost use Rattle.answer_tables.specs.Table.{natural, kept_row, ask_listed};
@@ -20,7 +22,7 @@ fn count_of(z: i64) -> usize
 }
 
 // The rows left: the place of the first of them in the table, and how many there are.
-#[derive(Drop)]
+#[derive(Clone, Copy)]
 pub struct Rows {
     pub at: usize,
     pub left: usize,

@@ -1,4 +1,6 @@
 // From when on two zones cannot differ: where both are in tails that are the same but for their starts.
+#![tactic(auto)]
+
 ghost use Rattle.std.specs.Prelude.{◌≡◌, ◌<◌, length};
 ghost use Rattle.base.specs.Pick.{both as both_of};
 ghost use Rattle.pool.specs.Pool.{strings_of};

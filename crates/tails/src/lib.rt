@@ -1,4 +1,6 @@
 // The tail of a zone: two yearly rules and their names.
+#![tactic(auto)]
+
 ghost use Rattle.std.specs.Prelude.{◌≡◌, true, ◌≤◌, length, drop};
 ghost use Rattle.rules.specs.Fields.{month_ok};
 ghost use Rattle.places.specs.Placed.{Stands};
@@ -10,7 +12,7 @@ use recurrence::Tail;
 use rules::Rule;
 
 // A tail with the pool numbers of its two names.
-#[derive(Drop)]
+#[derive(Clone, Copy)]
 pub struct NamedTail {
     pub tail: Tail,
     pub standard: u64,
@@ -18,7 +20,7 @@ pub struct NamedTail {
 }
 
 // The first half of a tail: its start, and the standard offset, name and rule.
-#[derive(Drop)]
+#[derive(Clone, Copy)]
 pub struct Standard {
     pub start: u64,
     pub offset: u64,
@@ -27,19 +29,19 @@ pub struct Standard {
 }
 
 // Each reader gives a value and the place behind it, or a refusal's number.
-#[derive(Drop)]
+#[derive(Clone, Copy)]
 pub enum RuleRead {
     Got(Rule, usize),
     Refused(u8),
 }
 
-#[derive(Drop)]
+#[derive(Clone, Copy)]
 pub enum StandardRead {
     Got(Standard, usize),
     Refused(u8),
 }
 
-#[derive(Drop)]
+#[derive(Clone, Copy)]
 pub enum TailRead {
     Got(NamedTail, usize),
     Refused(u8),

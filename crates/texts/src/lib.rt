@@ -1,4 +1,6 @@
 // Texts: a length and that many bytes of UTF-8.
+#![tactic(auto)]
+
 ghost use Rattle.std.specs.Prelude.{◌≡◌, ◌+◌, ◌≤◌, ◌<◌, length, take, true};
 ghost use Rattle.base.specs.Writing.{bytes, Writes};
 ghost use Rattle.utf8.specs.Utf8.{utf8};
@@ -9,7 +11,7 @@ ghost use Rattle.texts.specs.Text.{text_sized, read_text, text_bytes, write_text
 use base::{Read, Wrote};
 
 // What reading a text from the front of some bytes finds.
-#[derive(Drop)]
+#[derive(Clone, Copy)]
 pub enum Text {
     // The place of its first byte, behind the length, and how many bytes it has.
     Part(usize, usize),
@@ -82,7 +84,7 @@ fn write_sized(t: &[u8], out: &mut [u8]) -> Wrote
         return Wrote::Refused(15);
     }
     count_writers::write_count(n as u64, out);
-    bytes::copy(t, &mut out[a..]);
+    slices::copy(t, &mut out[a..]);
     Wrote::Length(a + n)
 }
 

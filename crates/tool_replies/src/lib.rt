@@ -1,5 +1,7 @@
 // What the C functions of Ask 14 share: the numbers of a search, of a report, of a table of starts and of a difference, and the result of
 // closing up a pool.
+#![tactic(auto)]
+
 ghost use Rattle.std.specs.Prelude.{◌≡◌};
 ghost use Rattle.replies.specs.Reply.{Gives};
 ghost use Rattle.tool_replies.specs.Functions.{search_reply, report_reply, filling_reply, listing_reply, closed_result};

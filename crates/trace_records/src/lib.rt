@@ -1,6 +1,8 @@
 // One record of a phone's trace. The zone found for its name is kept, so that the file isn't walked over again for another record of that name.
 // The zones that were passed on the way to it are kept, too: the walk to a further zone goes on where the last one stopped, so that no zone is checked
 // twice. The numbers of their IDs stand in the order of the IDs' bytes, and by these numbers the places of each first zone of an ID.
+#![tactic(auto)]
+
 ghost use Rattle.std.specs.Prelude.{◌≡◌, false, ◌≤◌, ◌<◌, ◌+◌, length};
 ghost use Rattle.pool.specs.Pool.{strings_of};
 ghost use Rattle.pool.specs.Index.{Ready};
@@ -21,7 +23,7 @@ use ids::Gap;
 use zones::{Answer as ZoneAnswer, Edition, ZoneVerdict};
 
 // The place behind the last zone that was passed, the ID of its field, and how many IDs were seen.
-#[derive(Drop)]
+#[derive(Clone, Copy)]
 pub struct PassedZones {
     pub at: usize,
     pub prev: usize,
@@ -29,7 +31,7 @@ pub struct PassedZones {
 }
 
 // Where the data of the asked zone start and end, and the zones passed then. An end of 0 is no zone: the walk is refused or finds none.
-#[derive(Drop)]
+#[derive(Clone, Copy)]
 pub struct ReachedZone {
     pub start: usize,
     pub end: usize,
@@ -37,7 +39,7 @@ pub struct ReachedZone {
 }
 
 // The zone of the next field: the field's ID, where its data start and end, and the number of its own ID. Or the walk ends there.
-#[derive(Drop)]
+#[derive(Clone, Copy)]
 pub enum NextField {
     Zone(usize, usize, usize, usize),
     Nothing,
@@ -159,7 +161,7 @@ pub fn reach(
 
 // The zone found for a name: where the name starts among the names and its length, and where the data of field 0 and those of the zone start and
 // end in the file. An end of 0 is no zone. With it the last wall offset that it gave, at each instant of `from` to before `to`.
-#[derive(Drop)]
+#[derive(Clone, Copy)]
 pub struct Kept {
     pub name: u32,
     pub len: u32,
@@ -173,7 +175,7 @@ pub struct Kept {
 }
 
 // A wall offset, at each instant of `from` to before `to`; of none, where both are 0.
-#[derive(Drop)]
+#[derive(Clone, Copy)]
 pub struct Lasting {
     pub from: u64,
     pub to: u64,
@@ -181,7 +183,7 @@ pub struct Lasting {
 }
 
 // Whether a record agrees with the file, and the zone kept for its name.
-#[derive(Drop)]
+#[derive(Clone, Copy)]
 pub struct Taken {
     pub agrees: bool,
     pub kept: Kept,

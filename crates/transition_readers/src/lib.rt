@@ -1,4 +1,6 @@
 // Transitions, read.
+#![tactic(auto)]
+
 ghost use Rattle.std.specs.Prelude.{◌≡◌, ◌≤◌, ◌<◌};
 ghost use Rattle.base.specs.Moment.{first_instant};
 ghost use Rattle.counts.specs.Fixed.{read_fixed};

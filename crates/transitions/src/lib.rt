@@ -1,4 +1,5 @@
 // The transition code: marks, hours after the previous transition, minutes since 1800, and ticks.
+#![tactic(auto)]
 
 // An hour and a minute in ticks, and 1800-01-01T00:00Z as an instant.
 pub const HOUR: u64 = 36000000000;

@@ -1,5 +1,7 @@
 // The mentions of all fields counted, and whether a file is its own closed file: its uses descend, all its strings are used, and its sizes are in the
 // shortest form.
+#![tactic(auto)]
+
 ghost use Rattle.std.specs.Prelude.{◌≡◌, ◌≤◌, length};
 ghost use Rattle.pool.specs.Pool.{strings_of};
 ghost use Rattle.renumbering.specs.Table.{Fits};
@@ -114,7 +116,7 @@ fn is_plain(before: bool, i: u8, h: usize, d: &[u8], strings: usize) -> bool
 }
 
 // The place of the first field that isn't read; or that mentions are counted, and whether all fields are plain.
-#[derive(Drop)]
+#[derive(Clone, Copy)]
 pub enum Walked {
     Unread(usize),
     Counted(bool),

@@ -1,5 +1,7 @@
 // The entries of an older dictionary whose keys don't stand in the order of their bytes. Where the first keys lie is remembered, up to 8,192, and
 // their numbers in the order of the keys.
+#![tactic(auto)]
+
 ghost use Rattle.std.specs.Prelude.{◌≡◌, [], ◌+◌, ◌-◌, ◌≤◌, ◌<◌, length, get_or, drop};
 ghost use Rattle.ids.specs.Layout.{buffer_size, low_of, high_of};
 ghost use Rattle.ids.specs.Parts.{Run, Located};
@@ -14,7 +16,7 @@ use string_order::Ordering;
 use texts::Text;
 
 // What an entry comes to: the place behind it, or the number of a refusal.
-#[derive(Drop)]
+#[derive(Clone, Copy)]
 pub enum Step {
     Next(usize),
     Bad(u8),

@@ -1,11 +1,13 @@
 // UTF-8, and its part that is ASCII.
+#![tactic(auto)]
+
 ghost use Rattle.std.specs.Prelude.{◌≡◌, true, ◌+◌, ◌≤◌, ◌<◌, length, take, drop, ltb, leb};
 ghost use Rattle.base.specs.Pick.{pick, both};
 ghost use Rattle.utf8.specs.Utf8.{lead as lead_of, chars, utf8, size_of};
 ghost use Rattle.utf8.specs.Ascii.{ascii, ascii_front};
 
 // What is due after a byte: how many more bytes of its character, and the range of the first of them. Or the bytes are not UTF-8.
-#[derive(Drop)]
+#[derive(Clone, Copy)]
 pub enum Due {
     Follow(u8, u8, u8),
     Never,

@@ -1,4 +1,6 @@
 // Wall time to instants, of a zone in a whole file: the walk to the asked zone, the instants there, and their ticks.
+#![tactic(auto)]
+
 ghost use Rattle.std.specs.Prelude.{◌≡◌, ◌≤◌, length};
 ghost use Rattle.pool.specs.Pool.{parse_pool};
 ghost use Rattle.pool.specs.Index.{room_of};
@@ -13,7 +15,7 @@ use local_times::{LocalAnswer, Tally};
 use locate::{First, Located};
 
 // How many instants, the earliest and the latest in ticks since 1970; or the number and the place of a refusal.
-#[derive(Drop)]
+#[derive(Clone, Copy)]
 pub enum Mapping {
     Instants(u64, i64, i64),
     Refused(u8, usize),

@@ -1,4 +1,6 @@
 // Where two zones differ in offset, savings or name, over a window of instants: one step for each interval of either that meets the window.
+#![tactic(auto)]
+
 ghost use Rattle.std.specs.Prelude.{◌≡◌, ◌<◌, length};
 ghost use Rattle.std.proofs.lemmas.List.Edits.{sets};
 ghost use Rattle.pool.specs.Pool.{strings_of};

@@ -1,4 +1,6 @@
 // What stands behind the intervals of a zone, to the end of its data. Nothing is copied.
+#![tactic(auto)]
+
 ghost use Rattle.std.specs.Prelude.{◌≤◌, length, drop};
 ghost use Rattle.zones.specs.Parse.{parse_tailed, after_tail_byte, after_intervals};
 ghost use Rattle.zones.specs.View.{EndOf};

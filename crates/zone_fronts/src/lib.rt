@@ -1,4 +1,6 @@
 // A zone up to its intervals, which every reader of a zone starts with. Nothing is copied.
+#![tactic(auto)]
+
 ghost use Rattle.std.specs.Prelude.{◌≤◌, ◌≡◌, [], length, drop};
 ghost use Rattle.base.specs.Parsed.{got, bind, parse};
 ghost use Rattle.counts.specs.Count.{read_count};

@@ -1,4 +1,6 @@
 // The interval of a zone that holds an instant.
+#![tactic(auto)]
+
 ghost use Rattle.std.specs.Prelude.{◌≡◌};
 ghost use Rattle.base.specs.Moment.{Finite};
 ghost use Rattle.zones.specs.Parse.{parse_zone};

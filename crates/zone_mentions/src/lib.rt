@@ -1,4 +1,6 @@
 // From a stage inside a zone to the next mention.
+#![tactic(auto)]
+
 ghost use Rattle.std.specs.Prelude.{◌≡◌, ◌+◌, ◌≤◌, length, drop};
 ghost use Rattle.places.specs.Placed.{Stands};
 ghost use Rattle.places.specs.Short.{half_hours};
@@ -177,7 +179,7 @@ pub fn short_start(s: &[u8], at: usize, prev: u64) -> u64
 }
 
 // The start of an interval and the place behind it, where its name stands.
-#[derive(Drop)]
+#[derive(Clone, Copy)]
 pub struct Start {
     pub start: u64,
     pub place: usize,

@@ -1,4 +1,6 @@
 // A whole zone, read once from front to back: its check, which keeps nothing of its intervals, and the reading, which keeps what an instant needs.
+#![tactic(auto)]
+
 ghost use Rattle.std.specs.Prelude.{◌≡◌, suc, ◌≤◌, length, drop};
 ghost use Rattle.base.specs.Pick.{both};
 ghost use Rattle.base.specs.Moment.{end_of_time};

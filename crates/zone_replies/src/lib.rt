@@ -1,4 +1,6 @@
 // What the C functions say of a zone found once: its five numbers, the zone that five numbers stand for, and how many rows a table of its answers has.
+#![tactic(auto)]
+
 ghost use Rattle.std.specs.Prelude.{◌≡◌};
 ghost use Rattle.replies.specs.Reply.{Gives};
 ghost use Rattle.zone_replies.specs.Zones.{GivesZone, zone_by, listed_reply};

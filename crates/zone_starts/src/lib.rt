@@ -1,4 +1,6 @@
 // The listed interval starts of one zone, put in a lent table in ticks since 1970. The zone is checked first, so that a refusal writes nothing.
+#![tactic(auto)]
+
 ghost use Rattle.std.specs.Prelude.{◌≡◌, ◌≤◌, length};
 ghost use Rattle.zones.specs.Parse.{parse_zone};
 ghost use Rattle.zone_starts.specs.Starts.{Fills};
@@ -9,7 +11,7 @@ use intervals::IntervalRead;
 use zones::{ZoneFront, ZoneVerdict};
 
 // How many starts there are; or that the table is too short; or the number of the zone's fault.
-#[derive(Drop)]
+#[derive(Clone, Copy)]
 pub enum ZoneStarts {
     Filled(usize),
     Short,

@@ -1,4 +1,6 @@
 // Wall time to instants, of a zone found once: the zone alone is read.
+#![tactic(auto)]
+
 ghost use Rattle.std.specs.Prelude.{◌≡◌};
 ghost use Rattle.zone_wall_times.specs.ZoneMapping.{MapsZone};
 

@@ -1,8 +1,10 @@
 // The data of field 1, a zone: what the readers of its front and its end give, which every reader of a zone shares.
+#![tactic(auto)]
+
 use tails::NamedTail;
 
 // The interval that holds an instant: offsets with 86,400,000 added, the name's pool number, start and end as moments.
-#[derive(Drop)]
+#[derive(Clone, Copy)]
 pub struct Found {
     pub wall: u64,
     pub savings: u64,
@@ -12,20 +14,20 @@ pub struct Found {
 }
 
 // Of Noda Time: the first ignores a fixed zone's name and shows its ID.
-#[derive(Drop)]
+#[derive(Clone, Copy)]
 pub enum Edition {
     One,
     Two,
 }
 
 // A well-formed zone's ID, or a refusal's number.
-#[derive(Drop)]
+#[derive(Clone, Copy)]
 pub enum ZoneVerdict {
     Good(u64),
     Refused(u8),
 }
 
-#[derive(Drop)]
+#[derive(Clone, Copy)]
 pub enum Answer {
     In(Found),
     Refused(u8),
@@ -33,7 +35,7 @@ pub enum Answer {
 
 // A zone up to its intervals: ID, offset and name of a fixed one, which is whole, or the ID of a listed one, how many intervals it has
 // and where they stand.
-#[derive(Drop)]
+#[derive(Clone, Copy)]
 pub enum ZoneFront {
     Fixed(u64, u64, u64),
     Listed(u64, u64, usize),
@@ -41,7 +43,7 @@ pub enum ZoneFront {
 }
 
 // What stands behind the intervals of a zone, to the end of its data.
-#[derive(Drop)]
+#[derive(Clone, Copy)]
 pub enum ZoneEnd {
     Untailed,
     Tailed(NamedTail),

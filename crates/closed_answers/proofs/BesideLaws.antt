@@ -1,6 +1,6 @@
 -- TWO JOBS SIDE BY SIDE, over two files whose fields go together one by one: where what they make of two such fields is the same as far as what they
 -- remember and answer is related, so is what they come to, places aside. Assumes nothing.
-use mathlib.Core.Path.{◌≡◌, refl, ap, subst⁻¹}
+use mathlib.Core.Path.{◌≡◌, refl, ap, subst, subst⁻¹, sym}
 use mathlib.Core.Bool.{Bool, true, false}
 use mathlib.Core.List.{List, [], ◌∷◌}
 use mathlib.Core.Option.{Option, none, some}
@@ -126,4 +126,5 @@ module _ {M N A B : Type 0} (R : M → N → Type 0) (Q : A → B → Type 0) (F
       let p = pass-beside R Q (λ g k. F g k × (g.id ≤ l)) J.content K.content (λ m n g k u. each m n g k u.0 u.1) _ _ m' n'
       (up_to-pairs F b.ids l b.others b.others' b.pairs) r in
       rw (walk-fields J m f (length f) b.whole, walk-fields K n h (length h) b.whole', b.splits, b.splits', alike, low, low', e, e')
-      (follow-beside _ _ _ _ p (above-pairs F b.ids l b.others b.others' b.pairs))
+      (subst (λ (k : ℕ). SameOut R Q (follow (pass J.content m' (up_to l b.others)) (outcome (stop_at (first_above l b.others) (end_at (length f))))) (follow (pass K.content n' (up_to k b.others')) (outcome (stop_at (first_above k b.others') (end_at (length h))))))
+      (sym alike) (follow-beside _ _ _ _ p (above-pairs F b.ids l b.others b.others' b.pairs)))

@@ -28,7 +28,7 @@ use Rattle.closed_files.specs.Again.{ClosedAs, closed_none, closed-also}
 use Rattle.closed_files.specs.declared.Closed.TheVariants.{Length, Refused}
 use Rattle.closed_files.proofs.AgainLaws.{mentions-renumbered, total_kept, closed-again}
 use Rattle.closed_answers.specs.Closed.{ClosesAsBefore, Closes}
-use Rattle.closed_answers.proofs.FieldsLaws.{closed_from, closed-fields}
+use Rattle.closed_answers.proofs.FieldsLaws.{closed_at, closed_from, closed-fields}
 use Rattle.closed_answers.proofs.SameLaws.{SameFiles}
 use Rattle.closed_answers.proofs.QuestionLaws.{ask-same, maps-same}
 use Rattle.closed_answers.proofs.NamedLaws.{named-same}
@@ -41,7 +41,7 @@ use Rattle.closed_answers.proofs.ClosedLaws.{strings, closed_strings, renumbers,
 closed-as : (order table : List ℕ) (at : ℕ) (gs : List Field) → ClosedAs order table gs (closed_from order table at gs)
 unfolding closed_from
 closed-as order table at [] = closed_none
-closed-as order table at (g ∷ gs) = closed-also refl refl (closed-as order table _ gs)
+closed-as order table at (g ∷ gs) = closed-also refl refl (closed-as order table (closed_at order table at g).past gs)
 
 -- they are all read where those of the file are
 unread-closed : {order table : List ℕ} (gs hs : List Field) → ClosedAs order table gs hs → first_unread gs ≡ none → first_unread hs ≡ none

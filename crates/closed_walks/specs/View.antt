@@ -25,7 +25,7 @@ pub record Walkable (f : List ℕ) : Type 0 where
 
 -- where kept holds, each number of an order stands at its own place
 pub record InPlace (kept : Bool) (order : List ℕ) : Type 0 where
-  pub at-place : kept ≡ true → (j : ℕ) → j < length order → get_or order j 0 ≡ j
+  pub at_place : kept ≡ true → (j : ℕ) → j < length order → get_or order j 0 ≡ j
 
 -- an order of pool numbers and a table of new ones, for a file whose closed file is no larger than a file may be; and whether the file's mentions
 -- keep their numbers

@@ -1,10 +1,10 @@
 -- Lists copied to the front of others, by way of a third and part by part. Assumes nothing.
-use mathlib.Core.Path.{◌≡◌, refl, sym, ap, ap₂, ◌∙◌}
+use mathlib.Core.Path.{◌≡◌, sym, ap, ap₂, ◌∙◌}
 use mathlib.Core.List.{List, ◌++◌, append_assoc}
 use Prim.Native.Nat.{ℕ, ◌+◌, ◌-◌, ◌≤◌}
 use native.Mathlib.Omega.{arith}
 use lib.ListN.{length, take, drop, length-append, length-take, length-drop}
-use lib.Seq.{take_all, take-add, take-length, take-append_seam, drop-append_seam, drop-drop, length-take-le}
+use lib.Seq.{take-add, take-length, take-append_seam, drop-append_seam, drop-drop, length-take-le}
 use borrow.Rule.Slice.PartMut.{put_mid}
 use Rattle.base.proofs.Parts.{part-from, put-from}
 

@@ -1,4 +1,4 @@
-// Copying bytes, with the contract of `bytes::copy`.
+// Copying bytes, with the contract of `slices::copy`.
 #![tactic(auto)]
 
 ghost use Rattle.std.specs.Prelude.{◌≡◌, ◌++◌, ◌≤◌, length, take, drop};

@@ -32,7 +32,7 @@ use Rattle.frames.proofs.PartLaws.{walk-ended, walk-answer}
 use Rattle.answers.specs.Answers.{number_of, Pool, no_pool, answered}
 use Rattle.answers.proofs.NameLaws.{Located, name-is}
 use Rattle.locate.specs.Asked.{says}
-use Rattle.questions.specs.Question.{answer_at, question, finish}
+use Rattle.questions.specs.Question.{answer_at, question, finish, plain_mark}
 use Rattle.signed.proofs.IntegerLaws.{instant-finite}
 use Rattle.field_checks.specs.Check.{Memory, start, job, judged, WellFormed, file_pool, HasId}
 use Rattle.field_checks.proofs.ZoneIdLaws.{each-zone}
@@ -90,9 +90,9 @@ right ed f id z g w a h =
     let l = lookup-holds (length ts) t zone ok fin in
     let same : strings_of y.body ≡ ts = sym u.2.alike.same ∙ zone-pool ts id ed t q.0 p.0 y u.2.alike g a.has p.1 in
     record {
-      number_is = ap number_of (asks f id z _ ed h ∙ ap (finish _) o);
+      number_is = ap number_of (asks f id z plain_mark ed h ∙ ap (finish plain_mark) o);
       given = answered y i;
-      plain = asks f id z _ ed h ∙ ap (finish _) o;
+      plain = asks f id z plain_mark ed h ∙ ap (finish plain_mark) o;
       marked = λ mark. asks f id z mark ed h ∙ ap (finish mark) o;
       interval = i;
       of-zone = l.0;

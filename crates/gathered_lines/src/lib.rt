@@ -9,7 +9,7 @@ use lines::Gathered;
 pub fn gather(s: &[u8], held: &mut [u8], n: usize) -> Gathered
     ensures { Gathers held.old n s.now result held.new }
 {
-    let k = bytes::scan::find(s, 0, s.len(), b'\n');
+    let k = byte_search::find(s, 0, s.len(), b'\n');
     let m = keep(&s[..k], held, n);
     if k < s.len() {
         return Gathered::Whole(m, k + 1);

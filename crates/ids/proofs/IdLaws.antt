@@ -20,6 +20,7 @@ among-true x (y ∷ ys) e = go (equal y x) refl e (among-true x ys)
 
 pub among_in : (x : List ℕ) (ys : List (List ℕ)) → In x ys → among x ys ≡ true
 unfolding among
+among_in x [] i = elim i [ ]
 among_in x (y ∷ ys) (here ys') = rw (equal-refl x)
 among_in x (y ∷ ys) (there y' ys' i) = rw (among_in x ys i) (pick_same (equal y x) true)
 

@@ -1,4 +1,4 @@
--- "a second zone with the same ID bytes": whether a string is among those seen, as a test. among-true and among-in in proofs/IdLaws.antt
+-- "a second zone with the same ID bytes": whether a string is among those seen, as a test. among-true and among_in in proofs/IdLaws.antt
 -- say that it is membership. To be believed.
 use Rattle.std.specs.Prelude.{ℕ, List, [], ◌∷◌, Bool, true, false}
 use Rattle.base.specs.Pick.{pick}

@@ -1,5 +1,5 @@
 -- Intervals in a row whose name and offsets take a byte each, of which an instant needs only the last. The code's way, tied to the scan of the
--- intervals by `run_Ran` (proofs/RunLaws.antt).
+-- intervals by `run_ran` (proofs/RunLaws.antt).
 use Rattle.std.specs.Prelude.{ℕ, zero, suc, ◌+◌, ◌-◌, ◌*◌, ◌≤◌, ◌<◌, ◌≡◌, Bool, true, false, List, ltb, leb, eqb, length, drop}
 use Rattle.base.specs.Pick.{pick, both}
 use Rattle.base.specs.Moment.{Finite, finite, last_instant, end_of_time}

@@ -3,7 +3,7 @@ use mathlib.Core.Path.{◌≡◌, refl}
 use mathlib.Core.List.{List, [], ◌∷◌}
 use Prim.Native.Nat.{ℕ}
 use lib.IntN.{pos, negsuc}
-use Rattle.bytes.specs.Bytes.{index_of, index_after}
+use Rattle.byte_search.specs.Bytes.{index_of, index_after}
 use Rattle.answer_lines.specs.Decimal.{decimal_in, decimal, signed}
 use Rattle.base.specs.Equal.{equal}
 use Rattle.lines.specs.Question.{ticks_of, marked, behind_digits, digits, ticks, parse_line}

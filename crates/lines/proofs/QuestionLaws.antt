@@ -14,7 +14,7 @@ use mir.Syntax.{w64}
 use mir.Val.{to_z, of_z, SFits}
 use mir.Facts.{to_z-of_z, to_z_pos}
 use borrow.Author.Tests.{lt-ltb, le-ltb, le-leb, lt-leb, eq-eqb, ne_eqb}
-use Rattle.bytes.specs.Bytes.{index_of, index_after, slice}
+use Rattle.byte_search.specs.Bytes.{index_of, index_after, slice}
 use Rattle.base.specs.Equal.{equal}
 use Rattle.base.specs.Pick.{both}
 use Rattle.base.proofs.Tests.{pick-holds}

@@ -9,7 +9,7 @@ use lib.ListN.{length, take, drop, length-append, length-take, length-drop}
 use lib.Seq.{take_all, take-nil, take-length, drop-length, length-take-le, take-append_seam, take-append-le, take-append-add, take-take, drop-drop}
 use borrow.Author.Tests.{lt-ltb, le-ltb, ltb-true}
 use borrow.Rule.Slice.PartMut.{put_mid}
-use Rattle.bytes.specs.Bytes.{index_of, index_after}
+use Rattle.byte_search.specs.Bytes.{index_of, index_after}
 use Rattle.base.specs.Pick.{pick}
 use Rattle.base.proofs.Tests.{by_order, clash}
 use Rattle.base.proofs.Parts.{part-from, put-from}

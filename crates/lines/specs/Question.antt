@@ -2,7 +2,7 @@
 -- bits), and optionally a space and `part` or `all`"; "a line above 2,048 bytes gives 16". A line stands without its line feed.
 -- To be believed.
 use Rattle.std.specs.Prelude.{ℕ, zero, suc, ◌+◌, ◌*◌, ◌-◌, ◌^◌, Bool, true, false, List, [], ◌∷◌, ltb, leb, eqb, ℤ, pos, negsuc, length, drop}
-use Rattle.bytes.specs.Bytes.{index_of}
+use Rattle.byte_search.specs.Bytes.{index_of}
 use Rattle.base.specs.Pick.{pick, both}
 use Rattle.base.specs.Equal.{equal}
 use Rattle.answer_lines.specs.Decimal.{digit}

@@ -1,6 +1,6 @@
 -- The lines of the input, and the lines as a reader of blocks gathers them. `lines_of` is to be believed; the blocks are the code's way, tied to it by `lines-in-blocks` (proofs/SplitLaws.antt).
 use Rattle.std.specs.Prelude.{ℕ, zero, suc, ◌+◌, ◌≡◌, List, [], ◌∷◌, ◌++◌, ltb, eqb, length, take, drop}
-use Rattle.bytes.specs.Bytes.{index_of}
+use Rattle.byte_search.specs.Bytes.{index_of}
 use Rattle.base.specs.Pick.{pick}
 use Rattle.lines.specs.declared.Gathered.{Gathered}
 use Rattle.lines.specs.declared.Gathered.TheVariants.{Whole, Begun}

@@ -16,7 +16,7 @@ pub fn parse_line(line: &[u8]) -> Line
     if LONGEST < line.len() {
         return Line::Unclear;
     }
-    let n = bytes::scan::find(line, 0, line.len(), b' ');
+    let n = byte_search::find(line, 0, line.len(), b' ');
     if n < line.len() {
         let a = n + 1;
         return parse_ticks(&line[a..], n);
@@ -77,10 +77,10 @@ fn parse_mark(s: &[u8], n: usize, t: i64) -> Line
     if s.len() == 0 {
         return Line::Ask(n, t, Kind::Plain);
     }
-    if check::same(s, b" part") {
+    if s == b" part".as_slice() {
         return Line::Ask(n, t, Kind::Part);
     }
-    if check::same(s, b" all") {
+    if s == b" all".as_slice() {
         return Line::Ask(n, t, Kind::All);
     }
     Line::Unclear

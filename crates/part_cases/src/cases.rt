@@ -1,46 +1,45 @@
 // What the cases share: numbers that a line spells, bytes that it spells in parts, and what is written.
-ghost use Rattle.std.specs.Prelude.{◌<◌};
-ghost use Rattle.io.specs.Counts.{IsPrefixLen};
+ghost use Rattle.std.specs.Prelude.{◌≡◌, ◌<◌, ◌≤◌, length, take};
 
 use crate::hex;
-use libc::STDOUT_FILENO;
+use std::io::Write;
 
-pub fn say(word: &[u8]) {
-    io::write_all(STDOUT_FILENO, word);
+pub fn say<W: Write>(to: &mut W, word: &[u8]) {
+    let _ = to.write_all(word);
 }
 
-pub fn say_number(n: u64) {
-    io::print_decimal(STDOUT_FILENO, n);
+pub fn say_number<W: Write>(to: &mut W, n: u64) {
+    let _ = write!(to, "{n}");
 }
 
-pub fn say_integer(z: i64) {
+pub fn say_integer<W: Write>(to: &mut W, z: i64) {
     if z < 0 {
-        say(b"-");
+        say(to, b"-");
     }
-    say_number(signed::magnitude(z));
+    say_number(to, signed::magnitude(z));
 }
 
 // The integer a - b.
-pub fn say_difference(a: u64, b: u64) {
+pub fn say_difference<W: Write>(to: &mut W, a: u64, b: u64) {
     if a < b {
-        say(b"-");
-        say_number(b - a);
+        say(to, b"-");
+        say_number(to, b - a);
         return;
     }
-    say_number(a - b);
+    say_number(to, a - b);
 }
 
 // A moment, in ticks since 1970.
-pub fn say_moment(m: u64) {
+pub fn say_moment<W: Write>(to: &mut W, m: u64) {
     if m == 0 {
-        say(b"start");
+        say(to, b"start");
         return;
     }
     if m == 3281606784000000000 {
-        say(b"end");
+        say(to, b"end");
         return;
     }
-    say_difference(m, 747583776000000000);
+    say_difference(to, m, 747583776000000000);
 }
 
 // v with one digit behind it, where there is room.
@@ -110,7 +109,8 @@ pub fn size(line: &[u8], k: usize) -> usize
 // Puts what the words of line from the k-th on spell into buf: a front, a unit as many times as the word behind it says, and an end.
 pub fn build(line: &[u8], k: usize, buf: &mut [u8]) -> usize
     requires { k < 256 }
-    ensures { IsPrefixLen result buf.new }
+    ensures bound { result ≤ length buf.new }
+    ensures taken { result ≡ length (take result buf.new) }
 {
     let mut part = [0u8; 2048];
     let f = hex::word(line, k, &mut part);

@@ -1,8 +1,7 @@
 // Hexadecimal text and the bytes that it spells.
-ghost use Rattle.std.specs.Prelude.{◌≤◌, ◌<◌, length};
-ghost use Rattle.io.specs.Counts.{IsPrefixLen};
+ghost use Rattle.std.specs.Prelude.{◌≡◌, ◌≤◌, ◌<◌, length, take};
 
-use libc::STDOUT_FILENO;
+use std::io::Write;
 
 // The place of the first b in s from a place on, or s's end.
 pub fn find(s: &[u8], from: usize, b: u8) -> usize
@@ -52,7 +51,8 @@ pub fn least(a: usize, b: usize) -> usize
 
 // Puts the bytes that text spells, two digits each, at the start of out, as many as have room, and gives their number.
 fn decode(text: &[u8], out: &mut [u8]) -> usize
-    ensures { IsPrefixLen result out.new }
+    ensures bound { result ≤ length out.new }
+    ensures taken { result ≡ length (take result out.new) }
 {
     let n = least(text.len() / 2, out.len());
     let mut i: usize = 0;
@@ -85,16 +85,17 @@ pub fn behind<'a>(line: &'a [u8]) -> &'a [u8] {
 // Puts the bytes that the k-th word of line spells at the start of out, and gives their number. A word that is not there, or is `-`,
 // spells none.
 pub fn word(line: &[u8], k: usize, out: &mut [u8]) -> usize
-    ensures { IsPrefixLen result out.new }
+    ensures bound { result ≤ length out.new }
+    ensures taken { result ≡ length (take result out.new) }
 {
     decode(text(line, k), out)
 }
 
 // Writes two digits for each byte of s.
-pub fn print(s: &[u8]) {
+pub fn print<W: Write>(to: &mut W, s: &[u8]) {
     let mut i: usize = 0;
     while i < s.len() {
-        io::print_hex(STDOUT_FILENO, s[i] as u64, 2);
+        let _ = write!(to, "{:02x}", s[i]);
         i += 1;
     }
 }

@@ -3,7 +3,7 @@ ghost use Rattle.std.specs.Prelude.{◌≡◌, not, ◌≤◌, T, nat_abs};
 ghost use Rattle.std.specs.Float.Ieee.{is_nan};
 
 use crate::{cases, hex};
-use libc::STDOUT_FILENO;
+use std::io::Write;
 
 // So many seconds, or as many below 0.
 fn seconds(below: bool, n: u64) -> i32
@@ -56,21 +56,21 @@ fn digest(first: u64, last: u64) -> u64
     d
 }
 
-fn say_patterns(p: Patterns) {
-    io::print_hex(STDOUT_FILENO, p.latitude, 16);
-    cases::say(b" ");
-    io::print_hex(STDOUT_FILENO, p.longitude, 16);
+fn say_patterns<W: Write>(to: &mut W, p: Patterns) {
+    let _ = write!(to, "{:016x}", p.latitude);
+    cases::say(to, b" ");
+    let _ = write!(to, "{:016x}", p.longitude);
 }
 
 // Sixteen times the degrees, where that is a whole number.
-fn say_sixteenths(below: bool, n: u64)
+fn say_sixteenths<W: Write>(to: &mut W, below: bool, n: u64)
     requires { n ≤ 2147483647 }
 {
     if n % 225 == 0 {
-        cases::say_integer(pins::sixteenths(seconds(below, n)) as i64);
+        cases::say_integer(to, pins::sixteenths(seconds(below, n)) as i64);
         return;
     }
-    cases::say(b"-");
+    cases::say(to, b"-");
 }
 
 fn first(s: &[u8]) -> u8 {
@@ -95,22 +95,25 @@ fn signed_seconds(s: &[u8]) -> i32 {
     seconds(first(s) == b'-', number(s))
 }
 
-fn run_range(from: u64, to: u64) {
-    if to > 648000 {
+fn run_range<W: Write>(to: &mut W, from: u64, last: u64) {
+    if last > 648000 {
         return;
     }
-    cases::say_number(digest(from, to));
+    cases::say_number(to, digest(from, last));
 }
 
-pub fn run_line(line: &[u8]) {
+pub fn run_line<W: Write>(to: &mut W, line: &[u8]) {
     let kind = first(line);
     let one = hex::text(line, 1);
     if kind == b'p' {
-        say_patterns(pin_patterns(signed_seconds(one), signed_seconds(hex::text(line, 2))));
+        say_patterns(
+            to,
+            pin_patterns(signed_seconds(one), signed_seconds(hex::text(line, 2))),
+        );
     } else if kind == b's' {
-        say_sixteenths(first(one) == b'-', number(one));
+        say_sixteenths(to, first(one) == b'-', number(one));
     } else {
-        run_range(number(one), number(hex::text(line, 2)));
+        run_range(to, number(one), number(hex::text(line, 2)));
     }
-    cases::say(b"\n");
+    cases::say(to, b"\n");
 }

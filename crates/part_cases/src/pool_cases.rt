@@ -9,89 +9,107 @@ ghost use Rattle.pool.specs.Index.{Ready};
 
 use crate::{cases, hex};
 use pool::Checked;
+use std::io::Write;
 use strings::Holder;
 
-fn show_string<'a>(d: &'a [u8], field: &'a [u8], starts: &[u32], k: usize, id: &[u8])
+fn show_string<'a, W: Write>(
+    to: &mut W,
+    d: &'a [u8],
+    field: &'a [u8],
+    starts: &[u32],
+    k: usize,
+    id: &[u8],
+)
     requires { Ready d.now starts.now × (k < length (strings_of d.now)) }
 {
     let s = strings::span_by(d, starts, k);
-    cases::say(b" ");
-    cases::say_number(s.at as u64);
-    cases::say(b":");
-    cases::say_number(s.len as u64);
-    cases::say(b":");
-    hex::print(strings::text_of(d, field, Holder::InPool(s.at, s.len)));
+    cases::say(to, b" ");
+    cases::say_number(to, s.at as u64);
+    cases::say(to, b":");
+    cases::say_number(to, s.len as u64);
+    cases::say(to, b":");
+    hex::print(to, strings::text_of(d, field, Holder::InPool(s.at, s.len)));
     if strings::has_id(d, starts, k, id) {
-        cases::say(b"*");
+        cases::say(to, b"*");
     }
 }
 
-fn show_strings<'a>(d: &'a [u8], field: &'a [u8], starts: &[u32], n: usize, id: &[u8])
+fn show_strings<'a, W: Write>(
+    to: &mut W,
+    d: &'a [u8],
+    field: &'a [u8],
+    starts: &[u32],
+    n: usize,
+    id: &[u8],
+)
     requires { Ready d.now starts.now × (n ≡ length (strings_of d.now)) }
 {
     let m = hex::least(n, 4);
     let mut k: usize = 0;
     while k < m {
-        show_string(d, field, starts, k, id);
+        show_string(to, d, field, starts, k, id);
         k += 1;
     }
     if 4 < n {
-        show_string(d, field, starts, n - 1, id);
+        show_string(to, d, field, starts, n - 1, id);
     }
 }
 
 // The field's bytes behind its first.
-fn show_field<'a>(d: &'a [u8], field: &'a [u8]) {
+fn show_field<'a, W: Write>(to: &mut W, d: &'a [u8], field: &'a [u8]) {
     if field.len() == 0 {
         return;
     }
-    cases::say(b" ");
-    hex::print(strings::text_of(d, field, Holder::InField(1, field.len() - 1)));
+    cases::say(to, b" ");
+    hex::print(
+        to,
+        strings::text_of(d, field, Holder::InField(1, field.len() - 1)),
+    );
 }
 
-fn show_place(p: u32) {
+fn show_place<W: Write>(to: &mut W, p: u32) {
     if p == 4294967295 {
-        cases::say(b" -");
+        cases::say(to, b" -");
         return;
     }
-    cases::say(b" ");
-    cases::say_number(p as u64);
+    cases::say(to, b" ");
+    cases::say_number(to, p as u64);
 }
 
-fn show_index(starts: &[u32; 8192]) {
-    cases::say(b" |");
-    show_place(starts[0]);
-    show_place(starts[1]);
-    show_place(starts[2]);
-    show_place(starts[3]);
-    show_place(starts[8191]);
+fn show_index<W: Write>(to: &mut W, starts: &[u32; 8192]) {
+    cases::say(to, b" |");
+    show_place(to, starts[0]);
+    show_place(to, starts[1]);
+    show_place(to, starts[2]);
+    show_place(to, starts[3]);
+    show_place(to, starts[8191]);
 }
 
-fn run_pool<'a>(d: &'a [u8], field: &'a [u8], id: &[u8]) {
+fn run_pool<'a, W: Write>(to: &mut W, d: &'a [u8], field: &'a [u8], id: &[u8]) {
     let mut starts = [4294967295u32; 8192];
     let c = pool::check_pool(d, &mut starts);
     match c {
         Checked::Refused(m) => {
-            cases::say(b"refused ");
-            cases::say_number(m as u64);
-            show_index(&starts);
+            cases::say(to, b"refused ");
+            cases::say_number(to, m as u64);
+            show_index(to, &starts);
         }
         Checked::Strings(n) => {
-            cases::say(b"strings ");
-            cases::say_number(n as u64);
-            show_strings(d, field, &starts, n, id);
-            show_field(d, field);
-            show_index(&starts);
+            cases::say(to, b"strings ");
+            cases::say_number(to, n as u64);
+            show_strings(to, d, field, &starts, n, id);
+            show_field(to, d, field);
+            show_index(to, &starts);
         }
     }
-    cases::say(b"\n");
+    cases::say(to, b"\n");
 }
 
-pub fn run_line(line: &[u8], buf: &mut [u8]) {
+pub fn run_line<W: Write>(to: &mut W, line: &[u8], buf: &mut [u8]) {
     let mut id = [0u8; 2048];
     let mut field = [0u8; 2048];
     let n = cases::build(line, 0, buf);
     let i = hex::word(line, 4, &mut id);
     let f = hex::word(line, 5, &mut field);
-    run_pool(&buf[..n], &field[..f], &id[..i]);
+    run_pool(to, &buf[..n], &field[..f], &id[..i]);
 }

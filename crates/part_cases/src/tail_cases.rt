@@ -8,6 +8,7 @@ ghost use Rattle.rules.specs.Fields.{FieldsOk};
 
 use crate::{cases, hex};
 use recurrence::{Interval, Tail};
+use std::io::Write;
 
 // The fields of a rule, as in the file.
 #[derive(Clone, Copy)]
@@ -120,29 +121,29 @@ fn answer(q: Question) -> Reply {
     Reply::In(recurrence::look_up(tail, q.instant))
 }
 
-fn show(r: Reply) {
+fn show<W: Write>(to: &mut W, r: Reply) {
     match r {
         Reply::In(x) => {
-            cases::say_number(x.start);
-            cases::say(b" ");
-            cases::say_number(x.end);
-            cases::say(b" ");
-            cases::say_number(x.wall);
-            cases::say(b" ");
-            cases::say_number(x.savings);
+            cases::say_number(to, x.start);
+            cases::say(to, b" ");
+            cases::say_number(to, x.end);
+            cases::say(to, b" ");
+            cases::say_number(to, x.wall);
+            cases::say(to, b" ");
+            cases::say_number(to, x.savings);
             if x.daylight {
-                cases::say(b" D\n");
+                cases::say(to, b" D\n");
             } else {
-                cases::say(b" S\n");
+                cases::say(to, b" S\n");
             }
         }
         Reply::Refused(n) => {
-            cases::say_number(n);
-            cases::say(b"\n");
+            cases::say_number(to, n);
+            cases::say(to, b"\n");
         }
     }
 }
 
-pub fn run_line(line: &[u8]) {
-    show(answer(read_question(line)));
+pub fn run_line<W: Write>(to: &mut W, line: &[u8]) {
+    show(to, answer(read_question(line)));
 }

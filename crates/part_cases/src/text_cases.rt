@@ -3,53 +3,54 @@
 // The stored output comes from tests/make/text_cases.py.
 use crate::{cases, hex};
 use base::Wrote;
+use std::io::Write;
 use texts::Text;
 
-fn run_utf8(s: &[u8]) {
+fn run_utf8<W: Write>(to: &mut W, s: &[u8]) {
     if utf8::is_utf8(s) {
-        cases::say(b"yes");
+        cases::say(to, b"yes");
         return;
     }
-    cases::say(b"no");
+    cases::say(to, b"no");
 }
 
 // The place and the length, and the bytes that the text function hands out.
-fn run_read(s: &[u8]) {
+fn run_read<W: Write>(to: &mut W, s: &[u8]) {
     let t = texts::read_text(s);
     match t {
         Text::Part(a, n) => {
-            cases::say(b"part ");
-            cases::say_number(a as u64);
-            cases::say(b" ");
-            cases::say_number(n as u64);
+            cases::say(to, b"part ");
+            cases::say_number(to, a as u64);
+            cases::say(to, b" ");
+            cases::say_number(to, n as u64);
         }
         Text::Refused(k) => {
-            cases::say(b"refused ");
-            cases::say_number(k as u64);
+            cases::say(to, b"refused ");
+            cases::say_number(to, k as u64);
         }
     }
-    cases::say(b" ");
-    hex::print(texts::text_bytes(s));
+    cases::say(to, b" ");
+    hex::print(to, texts::text_bytes(s));
 }
 
 // The length, and what the output holds then.
-fn run_write(t: &[u8], out: &mut [u8]) {
+fn run_write<W: Write>(to: &mut W, t: &[u8], out: &mut [u8]) {
     let w = texts::write_text(t, out);
     match w {
         Wrote::Length(n) => {
-            cases::say(b"length ");
-            cases::say_number(n as u64);
+            cases::say(to, b"length ");
+            cases::say_number(to, n as u64);
         }
         Wrote::Refused(k) => {
-            cases::say(b"refused ");
-            cases::say_number(k as u64);
+            cases::say(to, b"refused ");
+            cases::say_number(to, k as u64);
         }
     }
-    cases::say(b" ");
-    hex::print(out);
+    cases::say(to, b" ");
+    hex::print(to, out);
 }
 
-pub fn run_line(line: &[u8]) {
+pub fn run_line<W: Write>(to: &mut W, line: &[u8]) {
     if line.len() == 0 {
         return;
     }
@@ -59,11 +60,11 @@ pub fn run_line(line: &[u8]) {
     let m = hex::word(line, 2, &mut second);
     let op = line[0];
     if op == b'u' {
-        run_utf8(&first[..n]);
+        run_utf8(to, &first[..n]);
     } else if op == b'r' {
-        run_read(&first[..n]);
+        run_read(to, &first[..n]);
     } else {
-        run_write(&first[..n], &mut second[..m]);
+        run_write(to, &first[..n], &mut second[..m]);
     }
-    cases::say(b"\n");
+    cases::say(to, b"\n");
 }

@@ -6,45 +6,46 @@
 // The stored output comes from tests/make/zone_cases.py.
 use crate::{cases, hex};
 use base::{END, FIRST};
+use std::io::Write;
 use zones::{Answer, Edition, Found, ZoneVerdict};
 
 // An offset, in milliseconds.
-fn offset(sum: u64) {
-    cases::say(b" ");
-    cases::say_difference(sum, 86400000);
+fn offset<W: Write>(to: &mut W, sum: u64) {
+    cases::say(to, b" ");
+    cases::say_difference(to, sum, 86400000);
 }
 
-fn show_verdict(v: ZoneVerdict) {
+fn show_verdict<W: Write>(to: &mut W, v: ZoneVerdict) {
     match v {
         ZoneVerdict::Good(id) => {
-            cases::say(b"0 ");
-            cases::say_number(id);
+            cases::say(to, b"0 ");
+            cases::say_number(to, id);
         }
-        ZoneVerdict::Refused(k) => cases::say_number(k as u64),
+        ZoneVerdict::Refused(k) => cases::say_number(to, k as u64),
     }
 }
 
-fn show_answer(a: Answer) {
+fn show_answer<W: Write>(to: &mut W, a: Answer) {
     match a {
-        Answer::In(x) => show_found(x),
+        Answer::In(x) => show_found(to, x),
         Answer::Refused(k) => {
-            cases::say(b" ");
-            cases::say_number(k as u64);
+            cases::say(to, b" ");
+            cases::say_number(to, k as u64);
         }
     }
 }
 
-fn show_found(x: Found) {
-    offset(x.wall);
-    offset(x.savings);
-    cases::say(b" ");
-    cases::say_difference(x.wall, x.savings);
-    cases::say(b" ");
-    cases::say_number(x.name);
-    cases::say(b" ");
-    cases::say_moment(x.start);
-    cases::say(b" ");
-    cases::say_moment(x.end);
+fn show_found<W: Write>(to: &mut W, x: Found) {
+    offset(to, x.wall);
+    offset(to, x.savings);
+    cases::say(to, b" ");
+    cases::say_difference(to, x.wall, x.savings);
+    cases::say(to, b" ");
+    cases::say_number(to, x.name);
+    cases::say(to, b" ");
+    cases::say_moment(to, x.start);
+    cases::say(to, b" ");
+    cases::say_moment(to, x.end);
 }
 
 fn is_dash(s: &[u8]) -> bool {
@@ -55,25 +56,30 @@ fn is_dash(s: &[u8]) -> bool {
 }
 
 // The answer for an instant of the range.
-fn look_up(s: &[u8], pool: u64, t: u64) {
+fn look_up<W: Write>(to: &mut W, s: &[u8], pool: u64, t: u64) {
     if t < FIRST {
         return;
     }
     if END <= t {
         return;
     }
-    show_answer(zone_lookups::find(s, pool, t, Edition::Two));
+    show_answer(to, zone_lookups::find(s, pool, t, Edition::Two));
 }
 
-fn run_zone(s: &[u8], pool: u64, text: &[u8]) {
-    show_verdict(zone_reads::check(s, pool));
+fn run_zone<W: Write>(to: &mut W, s: &[u8], pool: u64, text: &[u8]) {
+    show_verdict(to, zone_reads::check(s, pool));
     if !is_dash(text) {
-        look_up(s, pool, signed::instant(cases::integer(text)));
+        look_up(to, s, pool, signed::instant(cases::integer(text)));
     }
-    cases::say(b"\n");
+    cases::say(to, b"\n");
 }
 
-pub fn run_line(line: &[u8], buf: &mut [u8]) {
+pub fn run_line<W: Write>(to: &mut W, line: &[u8], buf: &mut [u8]) {
     let n = cases::build(line, 2, buf);
-    run_zone(&buf[..n], cases::size(line, 1) as u64, hex::text(line, 0));
+    run_zone(
+        to,
+        &buf[..n],
+        cases::size(line, 1) as u64,
+        hex::text(line, 0),
+    );
 }

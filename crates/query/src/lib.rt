@@ -5,32 +5,57 @@ ghost use Rattle.std.specs.Prelude.{◌≤◌, length};
 
 use base::Wrote;
 use lines::Gathered;
+use std::io::{Read, Write};
+use std::rt::Files;
+use std::{fs, str};
 
-// Reads the file at `path` as far as there is room, and gives how many bytes came. A missing file counts as no bytes.
-fn read_file(path: &[u8], room: &mut [u8]) -> usize
+// Reads until there is no more room, the input ends or a read fails, and gives how many bytes came.
+fn read_full<R: Read>(from: &mut R, room: &mut [u8]) -> usize
     ensures { result ≤ length room.new }
 {
-    let fd = os::open_read(path);
-    if fd < 0 {
-        return 0;
+    let mut n = 0;
+    while n < room.len() {
+        let m = read_block(from, &mut room[n..]);
+        if m == 0 {
+            return n;
+        }
+        n += m;
     }
-    let n = io::read_full(fd, room);
-    libc::close(fd);
     n
 }
 
-// Writes the reply to a question line. `out` has room for every reply.
-fn answer(s: &[u8], line: &[u8], out: &mut [u8], to: i32) {
+// Reads the file at `path` as far as there is room, and gives how many bytes came. A missing file counts as no bytes.
+fn read_file<F: Files>(files: &F, path: &[u8], room: &mut [u8]) -> usize
+    ensures { result ≤ length room.new }
+{
+    match str::from_utf8(path) {
+        Ok(name) => match fs::open(files, name) {
+            Ok(mut file) => read_full(&mut file, room),
+            Err(_) => 0,
+        },
+        Err(_) => 0,
+    }
+}
+
+// Writes the reply to a question line, as far as `to` takes it. `out` has room for every reply.
+fn answer<W: Write>(s: &[u8], line: &[u8], out: &mut [u8], to: &mut W) {
     match line_replies::reply(s, line, out) {
         Wrote::Length(n) => {
-            io::write_all(to, &out[..n]);
+            let _ = to.write_all(&out[..n]);
         }
         Wrote::Refused(_) => {}
     }
 }
 
 // Answers the lines that end in a block, behind the n bytes that are held, and gives how many bytes are held then.
-fn answer_block(s: &[u8], block: &[u8], held: &mut [u8], n: usize, out: &mut [u8], to: i32) -> usize
+fn answer_block<W: Write>(
+    s: &[u8],
+    block: &[u8],
+    held: &mut [u8],
+    n: usize,
+    out: &mut [u8],
+    to: &mut W,
+) -> usize
     requires { n ≤ length held.old }
     ensures { result ≤ length held.new }
 {
@@ -49,16 +74,18 @@ fn answer_block(s: &[u8], block: &[u8], held: &mut [u8], n: usize, out: &mut [u8
     begun
 }
 
-// Reads a block, and gives how many bytes came: none where the input has ended.
-fn read_block(from: i32, block: &mut [u8]) -> usize
+// Reads a block, and gives how many bytes came: none where the input has ended or the read fails.
+fn read_block<R: Read>(from: &mut R, block: &mut [u8]) -> usize
     ensures { result ≤ length block.new }
 {
-    let got = libc::read(from, block);
-    io::count(got, block)
+    match from.read(block) {
+        Ok(n) => n,
+        Err(_) => 0,
+    }
 }
 
 // Answers the last line, where the input ends without a line feed.
-fn answer_last(s: &[u8], held: &[u8], n: usize, out: &mut [u8], to: i32)
+fn answer_last<W: Write>(s: &[u8], held: &[u8], n: usize, out: &mut [u8], to: &mut W)
     requires { n ≤ length held.now }
 {
     if 0 < n {
@@ -67,7 +94,14 @@ fn answer_last(s: &[u8], held: &[u8], n: usize, out: &mut [u8], to: i32)
 }
 
 // Answers all lines that come from `from`. A proved loop has to end, so this one counts its turns down from a number that no run uses up.
-fn answer_blocks(s: &[u8], block: &mut [u8], held: &mut [u8], out: &mut [u8], from: i32, to: i32) {
+fn answer_blocks<R: Read, W: Write>(
+    s: &[u8],
+    block: &mut [u8],
+    held: &mut [u8],
+    out: &mut [u8],
+    from: &mut R,
+    to: &mut W,
+) {
     let mut n = 0;
     let mut turns = u64::MAX;
     while 0 < turns {
@@ -83,9 +117,9 @@ fn answer_blocks(s: &[u8], block: &mut [u8], held: &mut [u8], out: &mut [u8], fr
 
 // Answers the question lines that come from `from` with the file at `path`, and writes the replies to `to`.
 // A byte more than the largest file tells a longer one, 2,049 bytes tell a line that is too long, and 65,605 hold every reply.
-pub fn answer_all(path: &[u8], from: i32, to: i32) {
+pub fn answer_all<F: Files, R: Read, W: Write>(files: &F, path: &[u8], from: &mut R, to: &mut W) {
     let mut file = [0u8; 65537];
-    let n = read_file(path, &mut file);
+    let n = read_file(files, path, &mut file);
     let mut block = [0u8; 4096];
     let mut held = [0u8; 2049];
     let mut out = [0u8; 65605];

@@ -1,6 +1,6 @@
 -- The rules repeat after 400 years: where the count of years starts makes no difference. Assumes nothing.
 use mathlib.Core.Path.{◌≡◌, ap}
-use Prim.Native.Nat.{ℕ, ◌+◌, ◌-◌, ◌≤◌}
+use Prim.Native.Nat.{ℕ, ◌+◌, ◌≤◌}
 use native.Mathlib.Omega.{arith}
 use Rattle.calendar.proofs.Years.{year-low}
 use Rattle.calendar.proofs.Months.{month-400}

@@ -16,8 +16,7 @@ use Rattle.counts.specs.Groups.{read_groups, more}
 use Rattle.counts.specs.Count.{read_count}
 use Rattle.counts.proofs.CountLaws.{byte-count}
 use Rattle.pool.specs.Pool.{strings_of}
-use Rattle.pool.specs.Index.{Ready, span_in, span_at, span_of, starts_of}
-use Rattle.pool.specs.declared.Span.{Span}
+use Rattle.pool.specs.Index.{Ready, span_in, span_at, span_of}
 use Rattle.pool.proofs.StringLaws.{Found, string-found, start_is}
 
 refused : {n a k : ℕ} {A : Type 0} → Refused k ≡ Value n a → A

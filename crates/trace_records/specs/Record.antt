@@ -9,7 +9,7 @@ use Rattle.answers.specs.declared.Answer.TheVariants.{In, Refused as Denied}
 use Rattle.questions.specs.Question.{ask}
 use Rattle.traces.specs.Trace.{instant_at, shown_at, name_at}
 
--- equal integers (same-one and same-self in proofs/ShownLaws.antt)
+-- equal integers (same-one and same_self in proofs/ShownLaws.antt)
 unfoldable pub same_as : ℤ → ℤ → Bool
 same_as a b = pick (lt_z a b) false (pick (lt_z b a) false true)
 

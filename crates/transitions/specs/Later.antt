@@ -1,4 +1,4 @@
--- An instant after another, where one stands at the front of some bytes. The code's way, tied to `read_moment` by `Later-of` (proofs/LaterLaws.antt).
+-- An instant after another, where one stands at the front of some bytes. The code's way, tied to `read_moment` by `later_of` (proofs/LaterLaws.antt).
 use Rattle.std.specs.Prelude.{ℕ, ◌<◌, ◌≡◌, List, eqb, ltb}
 use Rattle.base.specs.Pick.{pick, both}
 use Rattle.base.specs.Moment.{Finite, finite}

@@ -66,8 +66,8 @@ listed (suc i) j (u ∷ l) w = go (ltb 0 u) (listed i (suc j) l (omega arith))
 
     go : (t : Bool) → times (suc j + i) (numbers_of (keys_from (suc j) l)) ≡ pick (ltb 0 (get_or l i 0)) 1 0
         → times (j + suc i) (numbers_of (pick t (key_of u j ∷ keys_from (suc j) l) (keys_from (suc j) l))) ≡ pick (ltb 0 (get_or l i 0)) 1 0
-    go true e = rw (key-number u j (omega arith), ne_eqb j (j + suc i) (λ q. omega arith), zero-add, ← same) e
-    go false e = rw (← same) e
+    go true e = rw (key-number u j (omega arith), ne_eqb j (j + suc i) (λ q. omega arith), zero-add) (subst (λ (n : ℕ). times n (numbers_of (keys_from (suc j) l)) ≡ pick (ltb 0 (get_or l i 0)) 1 0) same e)
+    go false e = subst (λ (n : ℕ). times n (numbers_of (keys_from (suc j) l)) ≡ pick (ltb 0 (get_or l i 0)) 1 0) same e
 
 pub each-once : (uses : List ℕ) → length uses ≤ 8192 → (k : ℕ) → times k (order_of uses) ≡ pick (ltb 0 (get_or uses k 0)) 1 0
 unfolding order_of

@@ -7,9 +7,9 @@ use Rattle.utf8.specs.declared.Due.TheVariants.{Follow, Never}
 
 -- a character's first byte: how many bytes follow it, and the range of the first of them, a line for each line of the table
 --   UTF8-1      = %x00-7F
---   UTF8-2      = %x_c2-DF UTF8-tail
---   UTF8-3      = %x_e0 %x_a0-BF UTF8-tail / %x_e1-EC 2( UTF8-tail ) / %x_ed %x80-9F UTF8-tail / %x_ee-EF 2( UTF8-tail )
---   UTF8-4      = %x_f0 %x90-BF 2( UTF8-tail ) / %x_f1-F3 3( UTF8-tail ) / %x_f4 %x80-8F 2( UTF8-tail )
+--   UTF8-2      = %xC2-DF UTF8-tail
+--   UTF8-3      = %xE0 %xA0-BF UTF8-tail / %xE1-EC 2( UTF8-tail ) / %xED %x80-9F UTF8-tail / %xEE-EF 2( UTF8-tail )
+--   UTF8-4      = %xF0 %x90-BF 2( UTF8-tail ) / %xF1-F3 3( UTF8-tail ) / %xF4 %x80-8F 2( UTF8-tail )
 abbrev pub lead : ℕ → Due
 lead b =
     pick (ltb b 0x80) (Follow 0 0x80 0xbf)

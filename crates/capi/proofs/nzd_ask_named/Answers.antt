@@ -1,0 +1,19 @@
+use mathlib.Core.Path.{◌≡◌, ap, subst⁻¹}
+use native.Mathlib.Omega.{arith}
+use mir.Facts.{to_z-of_z}
+use Rattle.named_fields.specs.Named.{ask_named}
+use Rattle.replies.proofs.ReplyLaws.{gives_as}
+use Rattle.file_replies.specs.Small.{SmallAnswer}
+use Rattle.file_replies.specs.Functions.{mark_of, edition_of, answer_reply}
+use Rattle.capi.proofs.SmallLaws.{named_small}
+use Rattle.capi.proofs.nzd_ask_named.Goals as goal
+use Rattle.capi.proofs.nzd_ask_named.Goals.{After-give_answer-arg-1}
+
+asked : (c : goal.After-give_answer-arg-1) → c.ask_named-a.result ≡ ask_named c.args.file.now c.args.name.now c.args.ticks (mark_of c.args.more) (edition_of c.args.first)
+asked c = rw (to_z-of_z c.ranges.ticks, c.mark_of-mark.ensures, c.edition_of-edition.ensures) at c.ask_named-a.ensures
+
+pub give_answer-requires : goal.give_answer-requires
+give_answer-requires c = subst⁻¹ SmallAnswer (asked c) (named_small _ _ _ _ _ (omega (arith, c.well_formed.0.1)))
+
+pub returns : goal.returns
+returns c = gives_as _ _ _ _ _ (ap answer_reply (asked (goal.at.returns c).After-give_answer-arg-1)) c.give_answer.ensures

@@ -1,0 +1,18 @@
+use Rattle.base.proofs.Parts.{Bytes}
+use native.Mathlib.Omega.{arith}
+use mathlib.Core.Path.{sym, ◌∙◌}
+use Rattle.closing.proofs.CloseLaws.{walkable, below, close-refused, close-good as good-closed}
+use Rattle.closing.proofs.close_pool.Goals as goal
+use Rattle.closing.proofs.close_pool.Goals.{After-slice_known-1}
+
+bytes : (c : goal.After-slice_known-1) → Bytes c.args.s.now
+bytes c i = omega (arith, c.shared_slice_known-1.given i)
+
+pub close_good-requires : goal.close_good-requires
+close_good-requires c = let e = sym c.check.ensures ∙ c.in-Good.is in (walkable _ e (bytes (goal.at.close_good-requires c).After-slice_known-1), below _ e (bytes (goal.at.close_good-requires c).After-slice_known-1))
+
+pub returns-in-Refused : goal.returns-in-Refused
+returns-in-Refused c = close-refused _ _ _ c.check.ensures _ _ c.in-Refused.is
+
+pub returns-in-Good : goal.returns-in-Good
+returns-in-Good c = good-closed _ _ _ c.check.ensures c.in-Good.is _ _ c.close_good.ensures

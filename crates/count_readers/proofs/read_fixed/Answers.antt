@@ -1,0 +1,11 @@
+use borrow.Author.Tests.{le-leb, lt-leb}
+use mathlib.Core.Path.{ap}
+use Rattle.base.specs.declared.Read.TheVariants.{Value}
+use Prim.Native.Nat.{ℕ}
+use Rattle.count_readers.proofs.read_fixed.Goals as goal
+
+pub returns-then-s-n : goal.returns-then-s-n
+returns-then-s-n c = rw (lt-leb _ _ c.if-s-n.true)
+
+pub returns : goal.returns
+returns c = rw (le-leb _ _ c.if-s-n.false) (ap (λ (v : ℕ). Value v c.args.n) c.fixed_from.ensures)

@@ -1,0 +1,17 @@
+use mathlib.Core.Path.{sym, ◌∙◌}
+use Rattle.file_locations.proofs.ByFieldLaws.{by-6, by-7, by-ill, by-none}
+use Rattle.file_locations.proofs.location_by.Goals as goal
+
+pub returns-then-field-eq6 : goal.returns-then-field-eq6
+returns-then-field-eq6 c = by-6 _ _ _ _ c.if-field-eq6.true c.location.ensures
+
+pub returns-then-field-eq7 : goal.returns-then-field-eq7
+returns-then-field-eq7 c = by-7 _ _ _ c.if-field-eq6.false _ c.if-field-eq7.true c.location-then-field-eq7.ensures
+
+pub returns-in-Refused : goal.returns-in-Refused
+returns-in-Refused c = by-ill _ _ _ c.if-field-eq6.false c.if-field-eq7.false _ _
+    (sym c.in-Refused.is ∙ c.check.ensures)
+
+pub returns-in-Good : goal.returns-in-Good
+returns-in-Good c = by-none _ _ _ c.if-field-eq6.false c.if-field-eq7.false
+    (sym c.in-Good.is ∙ c.check.ensures)

@@ -1,0 +1,16 @@
+use mathlib.Core.Path.{ap}
+use Rattle.places.specs.Placed.{of_read}
+use Rattle.places.proofs.PlaceLaws.{then-in, on, off}
+use Rattle.mentions.specs.Walk.{before_locations}
+use Rattle.mention_steps.proofs.before_locations.Goals as goal
+
+pub before_names-requires : goal.before_names-requires
+before_names-requires c = then-in c.count_at.ensures _ _ (ap of_read c.in-Value.is)
+
+pub returns-in-Refused : goal.returns-in-Refused
+unfolding before_locations
+returns-in-Refused c = off c.count_at.ensures _ _ (ap of_read c.in-Refused.is)
+
+pub returns-in-Value : goal.returns-in-Value
+unfolding before_locations
+returns-in-Value c = on c.count_at.ensures _ _ _ _ (ap of_read c.in-Value.is) c.before_names.ensures

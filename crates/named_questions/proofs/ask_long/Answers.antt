@@ -1,0 +1,9 @@
+use Rattle.pool.proofs.PoolLaws.{room_most}
+use Rattle.alias_lookup.proofs.FlagLaws.{unset}
+use Rattle.named_questions.proofs.ask_long.Goals as goal
+
+pub ask_with-requires : goal.ask_with-requires
+ask_with-requires c = (c.requires.0, room_most _, room_most _, record { none-set = unset 8192 }, c.requires.1)
+
+pub returns : goal.returns
+returns c = c.ask_with.ensures

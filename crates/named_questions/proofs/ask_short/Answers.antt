@@ -1,0 +1,8 @@
+use Rattle.alias_lookup.proofs.FlagLaws.{unset}
+use Rattle.named_questions.proofs.ask_short.Goals as goal
+
+pub ask_with-requires : goal.ask_with-requires
+ask_with-requires c = (c.requires.0, c.requires.1, c.requires.1, record { none-set = unset 256 }, c.requires.2)
+
+pub returns : goal.returns
+returns c = c.ask_with.ensures

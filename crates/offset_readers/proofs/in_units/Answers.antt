@@ -1,0 +1,34 @@
+use native.Mathlib.Omega.{arith}
+use mathlib.Core.Path.{ap, sym, ◌∙◌}
+use Prim.Native.Nat.{◌<◌}
+use Rattle.counts.proofs.FixedLaws.{FixedRead, fixed-read, fixed-between, width}
+use Rattle.offsets.specs.Offset.{in_units}
+use Rattle.offsets.proofs.OffsetLaws.{product}
+use Rattle.offset_readers.proofs.in_units.Goals as goal
+use Rattle.offset_readers.proofs.in_units.Goals.{In-Value}
+
+-- the number of the bytes that follow
+number : (c : goal.In-Value) → FixedRead c.args.n c.args.high
+    c.args.s.now c.in-Value.v c.in-Value.m
+number c = fixed-read _ _ _ (sym c.in-Value.is ∙ c.read_fixed.ensures)
+
+small : (c : goal.In-Value) → c.in-Value.v < 536870912
+small c =
+    let a = c.args in
+    let b = fixed-between a.n a.high a.s.now (λ i. omega (arith, c.shared_slice_known-1.given i)) (number c).within in
+    omega (arith, (number c).value, b.below, width a.n a.high 32 (omega arith) (omega arith))
+
+pub read_fixed-requires : goal.read_fixed-requires
+read_fixed-requires c = let a = c.args in omega (arith, width a.n a.high 32 (omega arith) (omega arith))
+
+pub overflow_add-m : goal.overflow_add-m
+overflow_add-m c = omega (arith, (number c).size)
+
+pub overflow_mul-v : goal.overflow_mul-v
+overflow_mul-v c = record { fits = product _ _ (small c) (omega arith) }
+
+pub returns-in-Value : goal.returns-in-Value
+returns-in-Value c = c.offset_of.ensures ∙ ap (in_units _ _) (sym c.in-Value.is ∙ c.read_fixed.ensures)
+
+pub returns-in-Refused : goal.returns-in-Refused
+returns-in-Refused c = ap (in_units _ _) (sym c.in-Refused.is ∙ c.read_fixed.ensures)

@@ -1,0 +1,18 @@
+use native.Mathlib.Omega.{arith}
+use Rattle.old_offsets.proofs.OldOffsetWriteLaws.{too_small, too_large, as-half-hours, as-seconds, as-milliseconds}
+use Rattle.old_offset_writers.proofs.write_sum.Goals as goal
+
+pub returns-then-sum-lt1 : goal.returns-then-sum-lt1
+returns-then-sum-lt1 c = too_small c.args.sum _ (omega arith)
+
+pub returns-then-sum-gt172799999 : goal.returns-then-sum-gt172799999
+returns-then-sum-gt172799999 c = too_large c.args.sum _ (omega arith) (omega arith)
+
+pub returns-then-sum-eq0 : goal.returns-then-sum-eq0
+returns-then-sum-eq0 c = as-half-hours c.args.sum (omega arith) (omega arith) _ _ _ (omega arith) c.write_prefixed.ensures
+
+pub returns-then-sum-eq0-2 : goal.returns-then-sum-eq0-2
+returns-then-sum-eq0-2 c = as-seconds c.args.sum (omega arith) (omega arith) _ _ _ c.if-sum-eq0.false (omega arith) c.write_prefixed-then-sum-eq0-2.ensures
+
+pub returns : goal.returns
+returns c = as-milliseconds c.args.sum (omega arith) (omega arith) _ _ _ c.if-sum-eq0.false c.if-sum-eq0-2.false c.write_prefixed-2.ensures

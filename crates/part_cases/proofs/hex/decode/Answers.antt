@@ -1,0 +1,7 @@
+use lib.Seq.{length-take-le}
+use mathlib.Core.Path.{sym}
+use native.Mathlib.Omega.{arith}
+use Rattle.part_cases.proofs.hex.decode.Goals as goal
+
+pub returns : goal.returns
+returns c = record { bound = omega arith; taken = sym (length-take-le _ _ (omega arith)) }

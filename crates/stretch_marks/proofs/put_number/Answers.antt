@@ -1,0 +1,6 @@
+use mathlib.Core.Path.{sym}
+use lib.Seq.{set_out}
+use Rattle.stretch_marks.proofs.put_number.Goals as goal
+
+pub returns-else-i-out : goal.returns-else-i-out
+returns-else-i-out c = sym (set_out _ _ _ c.if-i-out.false)

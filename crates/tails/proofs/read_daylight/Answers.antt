@@ -1,0 +1,36 @@
+use mathlib.Core.Path.{ap}
+use Rattle.places.specs.Placed.{of_read}
+use Rattle.places.proofs.PlaceLaws.{then-in, on, off}
+use Rattle.tails.specs.View.{of_rule}
+use Rattle.tails.specs.Tail.{after_daylight_name, parse_daylight}
+use Rattle.tails.proofs.read_daylight.Goals as goal
+
+pub name_at-requires : goal.name_at-requires
+name_at-requires c = c.requires.0
+
+pub read_rule-requires : goal.read_rule-requires
+read_rule-requires c = then-in c.name_at.ensures _ _ (ap of_read c.in-Value.is)
+
+pub read_savings-requires : goal.read_savings-requires
+read_savings-requires c = (
+  then-in c.read_rule.ensures _ _
+      (ap of_rule c.in-Got.is),
+  c.requires.1,
+)
+
+pub returns-in-Refused : goal.returns-in-Refused
+unfolding parse_daylight
+returns-in-Refused c = off c.name_at.ensures _ _ (ap of_read c.in-Refused.is)
+
+pub returns-in-Refused-read_rule : goal.returns-in-Refused-read_rule
+unfolding parse_daylight after_daylight_name
+returns-in-Refused-read_rule c = on c.name_at.ensures _ _ _ _
+    (ap of_read c.in-Value.is)
+    (off c.read_rule.ensures _ _ (ap of_rule c.in-Refused-read_rule.is))
+
+pub returns-in-Got : goal.returns-in-Got
+unfolding parse_daylight after_daylight_name
+returns-in-Got c = on c.name_at.ensures _ _ _ _
+    (ap of_read c.in-Value.is)
+    (on c.read_rule.ensures _ _ _ _ (ap of_rule c.in-Got.is)
+    c.read_savings.ensures)

@@ -24,11 +24,12 @@
  * No function keeps a pointer, allocates, or has state, so any number of threads may call them. A receiver's state is
  * yours.
  *
- * Stack, measured and not proved (tests/bench/stack/run): up to 323 KB for nzd_close_pool, 141 KB for nzd_replay, 82 KB for
- * nzd_ask_named_old, nzd_old_read_dictionary and nzd_old_write_dictionary, 75 KB for nzd_normalize, 68 KB for nzd_version_text,
- * nzd_location and nzd_difference, 58 KB for nzd_ask_named, 35 KB for nzd_map_local, nzd_ask, nzd_ask_plain, nzd_find_zone,
- * nzd_list_answers and nzd_interval_starts, as much for the same of a receiver, 2 KB for nzd_ask_zone, nzd_ask_listed and
- * nzd_map_zone_local, below 1 KB for nzd_find_start, nzd_receiver_add and a small code.
+ * Stack, measured (tests/bench/stack/run) on the archive of an older toolchain, rattle-kit-5b-plain, and not proved: up
+ * to 323 KB for nzd_close_pool, 141 KB for nzd_replay, 82 KB for nzd_ask_named_old, nzd_old_read_dictionary and
+ * nzd_old_write_dictionary, 75 KB for nzd_normalize, 68 KB for nzd_version_text, nzd_location and nzd_difference, 58 KB
+ * for nzd_ask_named, 35 KB for nzd_map_local, nzd_ask, nzd_ask_plain, nzd_find_zone, nzd_list_answers and
+ * nzd_interval_starts, as much for the same of a receiver, 2 KB for nzd_ask_zone, nzd_ask_listed and nzd_map_zone_local,
+ * below 1 KB for nzd_find_start, nzd_receiver_add and a small code.
  */
 #ifndef NZD_H
 #define NZD_H

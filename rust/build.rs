@@ -1,7 +1,7 @@
 //! Links the archive of the proved library.
 //!
-//! `NZD_ARCHIVE` is its path (`lib/libnzd.a` of an installed library); without that it is `target/staticlib/libcapi.a` of
-//! the repository, where `rt staticlib capi` writes it.
+//! `NZD_ARCHIVE` is its path (`lib/libnzd.a` of an installed library); without that it is `crates/capi/out/libcapi.a` of
+//! the repository, where `rt lib --cpu=x86-64` in `crates/capi` writes it.
 
 use std::path::{Path, PathBuf};
 use std::{env, fs, process};
@@ -10,7 +10,7 @@ const VARIABLE: &str = "NZD_ARCHIVE";
 
 fn main() {
     println!("cargo:rerun-if-env-changed={VARIABLE}");
-    let standard = Path::new(env!("CARGO_MANIFEST_DIR")).join("../target/staticlib/libcapi.a");
+    let standard = Path::new(env!("CARGO_MANIFEST_DIR")).join("../crates/capi/out/libcapi.a");
     let archive = env::var_os(VARIABLE).map_or(standard, PathBuf::from);
     println!("cargo:rerun-if-changed={}", archive.display());
     let [arch, os] = ["ARCH", "OS"].map(|part| env::var(format!("CARGO_CFG_TARGET_{part}")).unwrap_or_default());
@@ -20,7 +20,7 @@ fn main() {
     let found = archive.canonicalize().ok().filter(|path| path.is_file());
     let Some((folder, name)) = found.as_deref().and_then(|path| Some((path.parent()?, path.file_name()?.to_str()?)))
     else {
-        let makes = "run `rt staticlib capi` in the repository, or name an archive in";
+        let makes = "run `rt lib --cpu=x86-64` in the repository's crates/capi, or name an archive in";
         fail(&format!("no archive at {}: {makes} {VARIABLE}", archive.display()));
     };
     if !is_ours(&folder.join(name)) {

@@ -3,7 +3,7 @@
 
 The questions are asked of the second reader and, where it is built, of the proved program zone_query, as question lines. Both take files of up to
 65,536 bytes, so a file is asked in parts: its version, its pool and some of its zones, each field as it stands.
-The words of the command line are these programs; else the second reader is built, and zone_query is the one in target/bin. Where zoneinfo or those
+The words of the command line are these programs; else the second reader is built, and zone_query is the one in its crate's out/. Where zoneinfo or those
 zone files are missing, one line says so and nothing is compared.
 """
 import datetime
@@ -112,7 +112,7 @@ def main():
     except (ImportError, OtherFiles) as error:
         print("zoneinfo: not compared: %s" % error)
         return 0
-    proved = os.path.join(TOP, "target", "bin", "zone_query")
+    proved = os.path.join(TOP, "crates", "zone_query", "out", "zone_query")
     programs = [os.path.abspath(word) for word in sys.argv[1:]] or [Second.built()] + [proved] * os.path.isfile(proved)
     wanted = {}
     for id_, s in files.items():

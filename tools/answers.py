@@ -377,7 +377,6 @@ def turn(fn):
     for d in decls:
         if d[1] not in goal_of and d[1] not in inv_names and d is not spec and d[1] in taken:
             renamed[d[1]] = d[1] + "-fact"
-    # helpers under their new names
 
     def rename(text):
         return re.sub(r"(?<![\w'.₀-₉-])" + "(" + NAME + r")(?![\w'₀-₉-])", lambda m: renamed.get(m[1], m[1]), text)

@@ -1,4 +1,9 @@
 -- Finding a key among the entries of a field 3 that was found good. Assumes nothing.
+use Rattle.base.specs.declared.Refusal.{Refusal}
+use Rattle.base.specs.declared.Refusal.TheVariants.{SecondAlias}
+use Rattle.std.specs.declared.option.Option.TheVariants.{None, Some}
+use Rattle.std.specs.Prelude.{Err, Ok}
+use Rattle.base.specs.Coded.{Coded}
 use mathlib.Core.Path.{◌≡◌, refl, sym, ap, ◌∙◌}
 use mathlib.Core.Bool.{Bool, true, false}
 use mathlib.Core.List.{List, [], ◌∷◌, ◌++◌, append-nil, append_assoc}
@@ -8,8 +13,6 @@ use native.Mathlib.Omega.{arith}
 use lib.ListN.{length, drop, get_or}
 use Rattle.base.specs.Equal.{equal}
 use Rattle.base.specs.Parsed.{got, bad, bind, parse, ended}
-use Rattle.base.specs.declared.Read.{Read}
-use Rattle.base.specs.declared.Read.TheVariants.{Value, Refused}
 use Rattle.base.proofs.ParseLaws.{bad-got, got-value, bind-good, pick-bad, ended-good}
 use Rattle.counts.specs.Count.{read_count}
 use Rattle.places.specs.Placed.{at, Stands, of_read}
@@ -23,7 +26,6 @@ use Rattle.alias_lookup.specs.Lookup.{by_test}
 use Rattle.aliases.specs.Dictionary.{Entry, entry, Dictionary, keys, target_of}
 use Rattle.aliases.specs.Field.{after_key, parse_entry, parse_entries, all_entries, parse_aliases, entries_of}
 use Rattle.alias_lookup.specs.View.{Sound, Listed, Points}
-use Rattle.alias_lookup.specs.declared.Place.TheVariants.{At, Missing}
 use Rattle.aliases.proofs.EntryLaws.{name_below}
 use Rattle.alias_lookup.proofs.TargetLaws.{target-behind, target-here, target_past}
 
@@ -50,14 +52,14 @@ module _ (ts : List (List ℕ)) (d x : List ℕ) where
   looking-start n place l = record { inside = l.place; pre = []; none_yet = refl; rest = l.rest }
 
   module _ (left place : ℕ) (g : Looking ts d x left place) where
-    pub looking-done : left ≡ 0 → Points ts (target_of (entries_of ts d) x) Missing
+    pub looking-done : left ≡ 0 → Points ts (target_of (entries_of ts d) x) None
     unfolding parse_entries
     looking-done z =
         let e : g.pre ≡ entries_of ts d = got-value (rw z at g.rest) in
         record { means = sym (rw e at g.none_yet); within = tt }
 
     -- c is the count of the pool's strings
-    module _ (some_left : 0 < left) (c : ℕ) (all : c ≡ length ts) (r : Read) (first : Stands d (parse_name c (drop place d)) (of_read r)) where
+    module _ (some_left : 0 < left) (c : ℕ) (all : c ≡ length ts) (r : Coded ℕ) (first : Stands d (parse_name c (drop place d)) (of_read r)) where
       good : (l : ℕ) → 0 < l → parse_entries ts l g.pre (drop place d) ≡ got (entries_of ts d) []
           → (e : Entry) × (q : List ℕ) × (parse_entry ts g.pre (drop place d) ≡ got e q) × (parse_entries ts (l - 1) (g.pre ++ (e ∷ [])) q ≡ got (entries_of ts d) [])
       unfolding parse_entries
@@ -68,14 +70,14 @@ module _ (ts : List (List ℕ)) (d x : List ℕ) where
           (b.first, b.rest, b.is, rw o b.on)
 
       -- no number of an entry is refused
-      pub never-key : {G : Type 0} (n : ℕ) → r ≡ Refused n → G
+      pub never-key : {G : Type 0} (n : Refusal) → r ≡ Err n → G
       unfolding parse_entry
       never-key n e =
           let w = good left some_left g.rest in
           let z : parse_entry ts g.pre (drop place d) ≡ bad n = rw (← all) (then-bad first _ n (ap of_read e)) in
           bad-got (sym z ∙ w.2)
 
-      module _ (k b : ℕ) (e : r ≡ Value k b) where
+      module _ (k b : ℕ) (e : r ≡ Ok (k, b)) where
         pub key-inside : b ≤ length d
         key-inside = then-in first k b (ap of_read e)
 
@@ -87,15 +89,15 @@ module _ (ts : List (List ℕ)) (d x : List ℕ) where
         unfolding parse_entry after_key
         read-key w q h =
             let z : parse_entry ts g.pre (drop place d) ≡ after_key ts g.pre (get_or ts k []) (drop b d) = rw (← all) (then-got first _ k b (ap of_read e)) in
-            rw all (pick-bad (among (get_or ts k []) (keys g.pre)) _ 19 w q (sym z ∙ h)).1
+            rw all (pick-bad (among (get_or ts k []) (keys g.pre)) _ SecondAlias w q (sym z ∙ h)).1
 
-        module _ (s : Read) (second : Stands d (parse_name c (drop b d)) (of_read s)) where
-          pub never-target : {G : Type 0} (n : ℕ) → s ≡ Refused n → G
+        module _ (s : Coded ℕ) (second : Stands d (parse_name c (drop b d)) (of_read s)) where
+          pub never-target : {G : Type 0} (n : Refusal) → s ≡ Err n → G
           never-target n f =
               let w = good left some_left g.rest in
               bad-got (sym (then-bad second _ n (ap of_read f)) ∙ read-key w.0 w.1 w.2)
 
-          module _ (j z : ℕ) (f : s ≡ Value j z) (b' : Bool) (t : b' ≡ equal (get_or ts k []) x) where
+          module _ (j z : ℕ) (f : s ≡ Ok (j, z)) (b' : Bool) (t : b' ≡ equal (get_or ts k []) x) where
             abbrev one : Entry
             one = entry (get_or ts k []) (get_or ts j [])
 
@@ -107,7 +109,7 @@ module _ (ts : List (List ℕ)) (d x : List ℕ) where
                 let v : w.1 ≡ drop z d = cc in
                 rw (u, v) at w.3
 
-            pub looking-found : b' ≡ true → Points ts (target_of (entries_of ts d) x) (At j)
+            pub looking-found : b' ≡ true → Points ts (target_of (entries_of ts d) x) (Some j)
             looking-found h =
                 let m = entries-more ts (left - 1) (g.pre ++ (one ∷ [])) (drop z d) (entries_of ts d) [] on in
                 let i : target_of (entries_of ts d) x ≡ some (get_or ts j []) =
@@ -124,7 +126,7 @@ module _ (ts : List (List ℕ)) (d x : List ℕ) where
                 }
 
 -- a field 3 that was found good, behind its count
-pub listed_at : (ts : List (List ℕ)) (d : List ℕ) → Sound ts d → (r : Read) → Stands d (parse read_count d) (of_read r) → (n a : ℕ) → r ≡ Value n a → Listed ts d a n
+pub listed_at : (ts : List (List ℕ)) (d : List ℕ) → Sound ts d → (r : Coded ℕ) → Stands d (parse read_count d) (of_read r) → (n a : ℕ) → r ≡ Ok (n, a) → Listed ts d a n
 unfolding parse_aliases all_entries
 listed_at ts d w r s n a e =
     let z : parse_aliases ts d ≡ bind (parse_entries ts n [] (drop a d)) ended = then-got s _ n a (ap of_read e) in
@@ -132,19 +134,19 @@ listed_at ts d w r s n a e =
     let f = ended-good b.first (entries_of ts d) b.rest [] b.on in
     record { place = then-in s n a (ap of_read e); rest = rw (f.0, f.1) at b.is }
 
-pub never-count : {G : Type 0} (ts : List (List ℕ)) (d : List ℕ) → Sound ts d → (r : Read) → Stands d (parse read_count d) (of_read r) → (n : ℕ) → r ≡ Refused n → G
+pub never-count : {G : Type 0} (ts : List (List ℕ)) (d : List ℕ) → Sound ts d → (r : Coded ℕ) → Stands d (parse read_count d) (of_read r) → (n : Refusal) → r ≡ Err n → G
 unfolding parse_aliases
 never-count ts d w r s n e = bad-got (sym (then-bad s _ n (ap of_read e)) ∙ w.is)
 
 -- a string with a flag, by a search through all of them: r is what the comparison of the string j with x gave
 pub zone-found : (ts : List (List ℕ)) (fl x : List ℕ) (j : ℕ) → j < length ts → (get_or fl j 0 ≡ 0 → ⊥) → (r : Bool) → r ≡ equal (get_or ts j []) x
-    → r ≡ true → flagged_from j (drop j ts) fl x ≡ flagged ts fl x → Points ts (by_test (flagged ts fl) x) (At j)
+    → r ≡ true → flagged_from j (drop j ts) fl x ≡ flagged ts fl x → Points ts (by_test (flagged ts fl) x) (Some j)
 zone-found ts fl x j h f r e q i =
     let k : flagged ts fl x ≡ true = sym (flag-hit ts fl x j h f r e q ∙ i) in
     let s : get_or ts j [] ≡ x = equal-true (get_or ts j []) x (sym e ∙ q) in
     record { means = rw (k, s); within = h }
 
-pub zone-none : (ts : List (List ℕ)) (fl x : List ℕ) (j : ℕ) → length ts ≤ j → flagged_from j (drop j ts) fl x ≡ flagged ts fl x → Points ts (by_test (flagged ts fl) x) Missing
+pub zone-none : (ts : List (List ℕ)) (fl x : List ℕ) (j : ℕ) → length ts ≤ j → flagged_from j (drop j ts) fl x ≡ flagged ts fl x → Points ts (by_test (flagged ts fl) x) None
 zone-none ts fl x j h i =
     let k : flagged ts fl x ≡ false = sym i ∙ flagged-end ts fl x j h in
     record { means = rw k; within = tt }

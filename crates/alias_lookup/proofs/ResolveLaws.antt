@@ -1,4 +1,6 @@
 -- The lookup in the code, a law for each way out of it. Assumes nothing.
+use Rattle.std.specs.declared.option.Option.{Option as Maybe}
+use Rattle.std.specs.declared.option.Option.TheVariants.{None, Some}
 use mathlib.Core.Path.{◌≡◌, refl, ◌∙◌}
 use mathlib.Core.List.{List, []}
 use mathlib.Core.Option.{Option, none, some}
@@ -9,20 +11,18 @@ use Rattle.alias_lookup.specs.View.{flagged}
 use Rattle.aliases.specs.Dictionary.{Dictionary, target_of}
 use Rattle.alias_lookup.specs.Lookup.{here, unknown, lookup, by_test}
 use Rattle.alias_lookup.specs.View.{Points, Resolves}
-use Rattle.alias_lookup.specs.declared.Place.{Place}
-use Rattle.alias_lookup.specs.declared.Place.TheVariants.{At, Missing}
 use Rattle.alias_lookup.specs.declared.Target.{Target}
 use Rattle.alias_lookup.specs.declared.Target.TheVariants.{Zone, Unknown, Deep}
 
-module _ (ts : List (List ℕ)) (o : Option (List ℕ)) (r : Place) (p : Points ts o r) where
-  pub point_at : (k : ℕ) → r ≡ At k → (some (get_or ts k []) ≡ o) × (k < length ts)
+module _ (ts : List (List ℕ)) (o : Option (List ℕ)) (r : Maybe ℕ) (p : Points ts o r) where
+  pub point_at : (k : ℕ) → r ≡ Some k → (some (get_or ts k []) ≡ o) × (k < length ts)
   point_at k e = (rw e at p.means, rw e at p.within)
 
-  pub point-none : r ≡ Missing → none ≡ o
+  pub point-none : r ≡ None → none ≡ o
   point-none e = rw e at p.means
 
-module _ (ts : List (List ℕ)) (fl : List ℕ) (es : Dictionary) (n : ℕ) (x : List ℕ) (z : Place) (zone : Points ts (by_test (flagged ts fl) x) z) where
-  pub resolves-zone : (k : ℕ) → z ≡ At k → Resolves ts fl es n x (Zone k)
+module _ (ts : List (List ℕ)) (fl : List ℕ) (es : Dictionary) (n : ℕ) (x : List ℕ) (z : Maybe ℕ) (zone : Points ts (by_test (flagged ts fl) x) z) where
+  pub resolves-zone : (k : ℕ) → z ≡ Some k → Resolves ts fl es n x (Zone k)
   unfolding lookup
   resolves-zone k e =
       let w = point_at ts _ z zone k e in
@@ -32,8 +32,8 @@ module _ (ts : List (List ℕ)) (fl : List ℕ) (es : Dictionary) (n : ℕ) (x :
       go zero = rw (← (point_at ts _ z zone k e).0)
       go (suc m) = rw (← (point_at ts _ z zone k e).0)
 
-  module _ (no-zone : z ≡ Missing) (q : Place) (target : Points ts (target_of es x) q) where
-    pub resolves-unknown : q ≡ Missing → Resolves ts fl es n x Unknown
+  module _ (no-zone : z ≡ None) (q : Maybe ℕ) (target : Points ts (target_of es x) q) where
+    pub resolves-unknown : q ≡ None → Resolves ts fl es n x Unknown
     unfolding lookup
     resolves-unknown e = record { means = go n; within = tt }
       where
@@ -41,7 +41,7 @@ module _ (ts : List (List ℕ)) (fl : List ℕ) (es : Dictionary) (n : ℕ) (x :
         go zero = rw (← (point-none ts _ z zone no-zone), ← (point-none ts _ q target e))
         go (suc m) = rw (← (point-none ts _ z zone no-zone), ← (point-none ts _ q target e))
 
-    module _ (k : ℕ) (e : q ≡ At k) where
+    module _ (k : ℕ) (e : q ≡ Some k) where
       pub resolves-deep : n ≡ 0 → Resolves ts fl es n x Deep
       unfolding lookup
       resolves-deep s = record { means = rw (s, ← (point-none ts _ z zone no-zone), ← (point_at ts _ q target k e).0); within = tt }

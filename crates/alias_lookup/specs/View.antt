@@ -1,4 +1,6 @@
 -- What the code's results and the lent flags stand for. The code's way, tied to the lookup by `same_way` (proofs/LookupLaws.antt).
+use Rattle.std.specs.declared.option.Option.{Option as Maybe}
+use Rattle.std.specs.declared.option.Option.TheVariants.{None, Some}
 use Rattle.std.specs.Prelude.{ℕ, suc, ◌<◌, ◌≤◌, ◌≡◌, Bool, true, false, List, [], ◌∷◌, length, get_or, drop, eqb}
 use Rattle.std.proofs.Math.Option.{Option, none, some}
 use Rattle.base.specs.Pick.{pick}
@@ -7,8 +9,6 @@ use Rattle.base.specs.Parsed.{got}
 use Rattle.aliases.specs.Dictionary.{Dictionary}
 use Rattle.aliases.specs.Field.{parse_entries, parse_aliases, entries_of}
 use Rattle.alias_lookup.specs.Lookup.{Named, here, unknown, deep, lookup, by_test}
-use Rattle.alias_lookup.specs.declared.Place.{Place}
-use Rattle.alias_lookup.specs.declared.Place.TheVariants.{At, Missing}
 use Rattle.alias_lookup.specs.declared.Target.{Target}
 use Rattle.alias_lookup.specs.declared.Target.TheVariants.{Zone, Unknown, Deep}
 
@@ -32,16 +32,16 @@ pub record Listed (ts : List (List ℕ)) (d : List ℕ) (from n : ℕ) : Type 0 
   pub rest : parse_entries ts n [] (drop from d) ≡ got (entries_of ts d) []
 
 -- a string by its pool number
-abbrev pub string_at : List (List ℕ) → Place → Option (List ℕ)
-string_at ts (At k) = some (get_or ts k [])
-string_at ts Missing = none
+abbrev pub string_at : List (List ℕ) → Maybe ℕ → Option (List ℕ)
+string_at ts (Some k) = some (get_or ts k [])
+string_at ts None = none
 
-abbrev pub PlaceIn : List (List ℕ) → Place → Type 0
-PlaceIn ts (At k) = k < length ts
-PlaceIn ts Missing = Unit {0}
+abbrev pub PlaceIn : List (List ℕ) → Maybe ℕ → Type 0
+PlaceIn ts (Some k) = k < length ts
+PlaceIn ts None = Unit {0}
 
 -- r is the string o
-pub record Points (ts : List (List ℕ)) (o : Option (List ℕ)) (r : Place) : Type 0 where
+pub record Points (ts : List (List ℕ)) (o : Option (List ℕ)) (r : Maybe ℕ) : Type 0 where
   pub means : string_at ts r ≡ o
   pub within : PlaceIn ts r
 

@@ -9,15 +9,6 @@ ghost use Rattle.aliases.specs.Field.{entries_of};
 ghost use Rattle.alias_lookup.specs.Lookup.{by_test};
 ghost use Rattle.alias_lookup.specs.View.{flagged, Sound, Listed, Points, Resolves};
 
-use base::Read;
-
-// A pool string by its number, or none.
-#[derive(Clone, Copy)]
-pub enum Place {
-    At(usize),
-    Missing,
-}
-
 // What a name leads to: a zone's ID, by its pool number; what is neither a zone's ID nor a key; a key where no step is left.
 #[derive(Clone, Copy)]
 pub enum Target {
@@ -26,7 +17,7 @@ pub enum Target {
     Deep,
 }
 
-// The target of the key id among n entries of d from a place on.
+// The target of the key id, by its pool number, among n entries of d from a place on.
 fn find_in(
     pool: &[u8],
     starts: &[u32],
@@ -35,41 +26,41 @@ fn find_in(
     from: usize,
     n: u64,
     id: &[u8],
-) -> Place
+) -> Option<usize>
     requires { Ready pool.now starts.now × (count ≡ length (strings_of pool.now)) × Listed (strings_of pool.now) d.now from n }
     ensures { Points (strings_of pool.now) (target_of (entries_of (strings_of pool.now) d.now) id.now) result }
 {
     let mut at = from;
     let mut left = n;
     while 0 < left {
-        let Read::Value(k, b) = places::name_at(d, at, count as u64) else {
-            return Place::Missing;
+        let Ok((k, b)) = places::name_at(d, at, count as u64) else {
+            return None;
         };
-        let Read::Value(t, e) = places::name_at(d, b, count as u64) else {
-            return Place::Missing;
+        let Ok((t, e)) = places::name_at(d, b, count as u64) else {
+            return None;
         };
         if strings::has_id(pool, starts, k as usize, id) {
-            return Place::At(t as usize);
+            return Some(t as usize);
         }
         at = e;
         left -= 1;
     }
-    Place::Missing
+    None
 }
 
-// The target of the key id.
-fn find_target(pool: &[u8], starts: &[u32], count: usize, d: &[u8], id: &[u8]) -> Place
+// The target of the key id, by its pool number.
+fn find_target(pool: &[u8], starts: &[u32], count: usize, d: &[u8], id: &[u8]) -> Option<usize>
     requires { Ready pool.now starts.now × (count ≡ length (strings_of pool.now)) × Sound (strings_of pool.now) d.now }
     ensures { Points (strings_of pool.now) (target_of (entries_of (strings_of pool.now) d.now) id.now) result }
 {
     match places::count_at(d, 0) {
-        Read::Refused(_) => Place::Missing,
-        Read::Value(n, a) => find_in(pool, starts, count, d, a, n, id),
+        Err(_) => None,
+        Ok((n, a)) => find_in(pool, starts, count, d, a, n, id),
     }
 }
 
 // The zone with the ID id, by the number of a string: those with a flag are the IDs of zones.
-fn find_zone(pool: &[u8], starts: &[u32], count: usize, zones: &[u8], id: &[u8]) -> Place
+fn find_zone(pool: &[u8], starts: &[u32], count: usize, zones: &[u8], id: &[u8]) -> Option<usize>
     requires { Ready pool.now starts.now × (count ≡ length (strings_of pool.now)) × (count ≤ length zones.now) }
     ensures { Points (strings_of pool.now) (by_test (flagged (strings_of pool.now) zones.now) id.now) result }
 {
@@ -77,12 +68,12 @@ fn find_zone(pool: &[u8], starts: &[u32], count: usize, zones: &[u8], id: &[u8])
     while j < count {
         if zones[j] != 0 {
             if strings::has_id(pool, starts, j, id) {
-                return Place::At(j);
+                return Some(j);
             }
         }
         j += 1;
     }
-    Place::Missing
+    None
 }
 
 // What the name id leads to, with some steps left: the zone with that ID, or what the target of that key leads to with one step fewer.
@@ -99,10 +90,10 @@ pub fn lookup(
     ensures { Resolves (strings_of pool.now) zones.now (entries_of (strings_of pool.now) d.now) left id.now result }
 {
     match find_zone(pool, starts, count, zones, id) {
-        Place::At(k) => Target::Zone(k),
-        Place::Missing => match find_target(pool, starts, count, d, id) {
-            Place::Missing => Target::Unknown,
-            Place::At(k) => {
+        Some(k) => Target::Zone(k),
+        None => match find_target(pool, starts, count, d, id) {
+            None => Target::Unknown,
+            Some(k) => {
                 if left == 0 {
                     return Target::Deep;
                 }

@@ -1,4 +1,5 @@
 -- What the check of field 3 finds good, without an order of faults. Assumes nothing.
+use Rattle.base.specs.declared.Refusal.TheVariants.{SecondAlias}
 use mathlib.Core.Path.{◌≡◌, refl, sym, ap, ◌∙◌}
 use mathlib.Core.Bool.{Bool, true, false}
 use mathlib.Core.List.{List, [], ◌∷◌, ◌++◌, append-nil, append_assoc}
@@ -55,7 +56,7 @@ module _ (ts : List (List ℕ)) where
   unfolding parse_entry after_key parse_pair
   entry-pair pre s e q h =
       let b = bind-good (parse_name (length ts) s) _ e q h in
-      let k = pick-bad (among (get_or ts b.first []) (keys pre)) _ 19 e q b.on in
+      let k = pick-bad (among (get_or ts b.first []) (keys pre)) _ SecondAlias e q b.on in
       let c = bind-good (parse_name (length ts) b.rest) _ e q k.1 in
       let f : e ≡ entry (get_or ts b.first []) (get_or ts c.first []) = sym (got-value c.on) in
       (rw b.is k.1, rw f k.0)

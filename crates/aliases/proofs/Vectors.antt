@@ -1,4 +1,5 @@
 -- Worked data of field 3, computed. Assumes nothing.
+use Rattle.base.specs.declared.Refusal.TheVariants.{BadCode, BadData, BadText, SecondAlias}
 use mathlib.Core.Path.{◌≡◌, refl}
 use mathlib.Core.List.{List, [], ◌∷◌, map}
 use Prim.Native.Nat.{ℕ}
@@ -24,7 +25,7 @@ good = refl
 -- no data; a count without its pairs, and a large one; a byte left over; a number past the pool as key and as target; a padded count as target
 pub faults :
     map read ([] ∷ (1 ∷ []) ∷ (255 ∷ 255 ∷ 255 ∷ 255 ∷ 7 ∷ []) ∷ (1 ∷ 1 ∷ 0 ∷ 255 ∷ []) ∷ (1 ∷ 3 ∷ 0 ∷ []) ∷ (1 ∷ 1 ∷ 3 ∷ []) ∷ (1 ∷ 1 ∷ 128 ∷ 0 ∷ []) ∷ [])
-    ≡ bad 9 ∷ bad 9 ∷ bad 9 ∷ bad 9 ∷ bad 8 ∷ bad 8 ∷ bad 7 ∷ []
+    ≡ bad BadData ∷ bad BadData ∷ bad BadData ∷ bad BadData ∷ bad BadText ∷ bad BadText ∷ bad BadCode ∷ []
 unfolding parse_aliases all_entries parse_entries parse_entry after_key keys among equal ended parse_name judge_name read_groups
 faults = refl
 
@@ -34,6 +35,6 @@ pub second-keys :
     map read
     ((2 ∷ 1 ∷ 0 ∷ 2 ∷ 0 ∷ []) ∷ (2 ∷ 1 ∷ 0 ∷ 1 ∷ []) ∷ (2 ∷ 1 ∷ 0 ∷ 1 ∷ 7 ∷ []) ∷ (2 ∷ 1 ∷ 0 ∷ 1 ∷ 128 ∷ 0 ∷ []) ∷ (2 ∷ 1 ∷ 0 ∷ 1 ∷ 0 ∷ 0 ∷ [])
     ∷ (255 ∷ 255 ∷ 255 ∷ 255 ∷ 7 ∷ 1 ∷ 0 ∷ 1 ∷ 0 ∷ []) ∷ [])
-    ≡ bad 19 ∷ bad 19 ∷ bad 19 ∷ bad 19 ∷ bad 19 ∷ bad 19 ∷ []
+    ≡ bad SecondAlias ∷ bad SecondAlias ∷ bad SecondAlias ∷ bad SecondAlias ∷ bad SecondAlias ∷ bad SecondAlias ∷ []
 unfolding parse_aliases all_entries parse_entries parse_entry after_key keys among equal ended parse_name judge_name read_groups
 second-keys = refl

@@ -1,5 +1,6 @@
 -- Field 3 left to right: "the alias dictionary (a count, then pairs of pool strings: alias, target)"; "7, 8 and 9 as for zones, 19 at the
 -- second of two equal keys". To be believed; `good-pairs` and `pairs-good` (proofs/PairLaws.antt) say which data are good without an order of faults.
+use Rattle.base.specs.declared.Refusal.TheVariants.{SecondAlias}
 use Rattle.std.specs.Prelude.{ℕ, zero, suc, List, [], ◌∷◌, ◌++◌, length, get_or}
 use Rattle.base.specs.Pick.{pick}
 use Rattle.base.specs.Parsed.{Parsed, got, bad, bind, parse, ended}
@@ -11,7 +12,7 @@ use Rattle.aliases.specs.Dictionary.{Entry, entry, Dictionary, keys}
 module _ (ts : List (List ℕ)) where
   -- the target of the key x. The key is judged as soon as it is read: 19 comes before its target's 7, 8 and 9
   unfoldable pub after_key : Dictionary → List ℕ → List ℕ → Parsed Entry
-  after_key pre x r = pick (among x (keys pre)) (bad 19) (bind (parse_name (length ts) r) (λ j q. got (entry x (get_or ts j [])) q))
+  after_key pre x r = pick (among x (keys pre)) (bad SecondAlias) (bind (parse_name (length ts) r) (λ j q. got (entry x (get_or ts j [])) q))
 
   -- an entry behind the entries pre, as two pool numbers
   unfoldable pub parse_entry : Dictionary → List ℕ → Parsed Entry

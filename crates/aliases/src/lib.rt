@@ -8,24 +8,9 @@ ghost use Rattle.ids.specs.Memory.{Sorted};
 ghost use Rattle.aliases.specs.Field.{all_entries, parse_aliases};
 ghost use Rattle.aliases.specs.View.{verdict_of, Turned};
 
-use base::Read;
+use base::Refusal;
 
-// What the check of a dictionary gives.
-#[derive(Clone, Copy)]
-pub enum Verdict {
-    Good,
-    // The number of a refusal.
-    Refused(u8),
-}
-
-// What an entry comes to: the place behind it, or the number of a refusal.
-#[derive(Clone, Copy)]
-pub enum Turn {
-    Next(usize),
-    Bad(u8),
-}
-
-// The entry at a place of the dictionary d, behind n others. order remembers its key.
+// The place behind the entry at a place of the dictionary d, behind n others. order remembers its key.
 fn take_entry(
     pool: &[u8],
     starts: &[u32],
@@ -34,26 +19,33 @@ fn take_entry(
     at: usize,
     order: &mut [u16],
     n: usize,
-) -> Turn
+) -> Result<usize, Refusal>
     requires { Ready pool.now starts.now × (count ≡ length (strings_of pool.now)) × (at ≤ length d.now) × Sorted (strings_of pool.now) order.old n }
     ensures { Turned (strings_of pool.now) d.now at order.old n order.new result }
 {
     match places::name_at(d, at, count as u64) {
-        Read::Refused(n) => Turn::Bad(n),
-        Read::Value(k, b) => {
+        Err(n) => Err(n),
+        Ok((k, b)) => {
             if ids::take_string(pool, starts, order, n, k as usize) {
-                return Turn::Bad(19);
+                return Err(Refusal::SecondAlias);
             }
             match places::name_at(d, b, count as u64) {
-                Read::Refused(n) => Turn::Bad(n),
-                Read::Value(_, e) => Turn::Next(e),
+                Err(n) => Err(n),
+                Ok((_, e)) => Ok(e),
             }
         }
     }
 }
 
 // n entries of d from a place on, and nothing behind them.
-fn take_entries(pool: &[u8], starts: &[u32], count: usize, d: &[u8], from: usize, n: u64) -> Verdict
+fn take_entries(
+    pool: &[u8],
+    starts: &[u32],
+    count: usize,
+    d: &[u8],
+    from: usize,
+    n: u64,
+) -> Result<(), Refusal>
     requires { Ready pool.now starts.now × (count ≡ length (strings_of pool.now)) × (from ≤ length d.now) }
     ensures { result ≡ verdict_of (all_entries (strings_of pool.now) n (drop from d.now)) }
 {
@@ -64,10 +56,10 @@ fn take_entries(pool: &[u8], starts: &[u32], count: usize, d: &[u8], from: usize
     while 0 < left {
         let t = take_entry(pool, starts, count, d, at, &mut order, keys);
         match t {
-            Turn::Bad(k) => {
-                return Verdict::Refused(k);
+            Err(k) => {
+                return Err(k);
             }
-            Turn::Next(e) => {
+            Ok(e) => {
                 at = e;
                 keys += 1;
                 left -= 1;
@@ -75,18 +67,16 @@ fn take_entries(pool: &[u8], starts: &[u32], count: usize, d: &[u8], from: usize
         }
     }
     if at == d.len() {
-        return Verdict::Good;
+        return Ok(());
     }
-    Verdict::Refused(9)
+    Err(Refusal::BadData)
 }
 
 // The check of field 3, whose data is d.
-pub fn check(pool: &[u8], starts: &[u32], count: usize, d: &[u8]) -> Verdict
+pub fn check(pool: &[u8], starts: &[u32], count: usize, d: &[u8]) -> Result<(), Refusal>
     requires { Ready pool.now starts.now × (count ≡ length (strings_of pool.now)) }
     ensures { result ≡ verdict_of (parse_aliases (strings_of pool.now) d.now) }
 {
-    match places::count_at(d, 0) {
-        Read::Refused(n) => Verdict::Refused(n),
-        Read::Value(n, a) => take_entries(pool, starts, count, d, a, n),
-    }
+    let (n, a) = places::count_at(d, 0)?;
+    take_entries(pool, starts, count, d, a, n)
 }

@@ -1,4 +1,5 @@
 -- Laws of the written lines: pieces put one behind another, and how long they are. Assumes nothing.
+use Rattle.std.specs.Prelude.{Ok}
 use mathlib.Core.Path.{◌≡◌, refl, ap, sym, ◌∙◌}
 use mathlib.Core.Bool.{true, false}
 use mathlib.Core.List.{List, [], ◌∷◌, ◌++◌, append_assoc}
@@ -15,7 +16,6 @@ use mir.Val.{SFits}
 use borrow.Author.Tests.{ltb-true}
 use borrow.Rule.Slice.PartMut.{put_mid}
 use Rattle.base.specs.Writing.{bytes, Writes}
-use Rattle.base.specs.declared.Wrote.TheVariants.{Length}
 use Rattle.base.proofs.WriteLaws.{stored}
 use Rattle.base.proofs.Parts.{part-from, put-from}
 use Rattle.base.proofs.Tests.{never}
@@ -67,7 +67,7 @@ module _ (d xs e : List ℕ) (n b : ℕ) (ys : List ℕ) (p : Put d xs e n) (h :
   pub piece-fits : n + 1 + length ys ≤ length (set e n b)
   piece-fits = simp length-set (omega (arith, put-length d xs e n p, p.end, simp length-append at h))
 
-pub put_all : (d xs e : List ℕ) (n : ℕ) → Put d xs e n → length xs ≤ length d → Writes (bytes xs) d (Length n) e
+pub put_all : (d xs e : List ℕ) (n : ℕ) → Put d xs e n → length xs ≤ length d → Writes (bytes xs) d (Ok n) e
 put_all d xs e n p h = rw (p.end, p.is) (stored xs d h)
 
 -- ---- a decimal number

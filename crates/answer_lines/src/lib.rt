@@ -7,10 +7,16 @@ ghost use Rattle.base.specs.Writing.{bytes, Writes};
 ghost use Rattle.answer_lines.specs.Decimal.{decimal, signed};
 ghost use Rattle.answer_lines.specs.Reply.{answer_line, refusal_line};
 
-use base::Wrote;
+use base::Refusal;
 
 // The line of an answer.
-pub fn write_answer(wall: i64, savings: i64, standard: i64, name: &[u8], out: &mut [u8]) -> Wrote
+pub fn write_answer(
+    wall: i64,
+    savings: i64,
+    standard: i64,
+    name: &[u8],
+    out: &mut [u8],
+) -> Result<usize, Refusal>
     ensures { Writes (bytes (answer_line wall savings standard name.now)) out.old result out.new }
 {
     let room = 6
@@ -19,7 +25,7 @@ pub fn write_answer(wall: i64, savings: i64, standard: i64, name: &[u8], out: &m
         + signed_length(standard)
         + name.len();
     if out.len() < room {
-        return Wrote::Refused(15);
+        return Err(Refusal::TooShort);
     }
     let a = put_decimal(0, out, 0);
     out[a] = b' ';
@@ -31,22 +37,22 @@ pub fn write_answer(wall: i64, savings: i64, standard: i64, name: &[u8], out: &m
     out[d] = b' ';
     let e = put_bytes(name, out, d + 1);
     out[e] = b'\n';
-    Wrote::Length(e + 1)
+    Ok(e + 1)
 }
 
 // The line of a refusal.
-pub fn write_refusal(number: u8, place: u64, out: &mut [u8]) -> Wrote
+pub fn write_refusal(number: u8, place: u64, out: &mut [u8]) -> Result<usize, Refusal>
     ensures { Writes (bytes (refusal_line number place)) out.old result out.new }
 {
     let room = 2 + decimal_length(number as u64) + decimal_length(place);
     if out.len() < room {
-        return Wrote::Refused(15);
+        return Err(Refusal::TooShort);
     }
     let a = put_decimal(number as u64, out, 0);
     out[a] = b' ';
     let b = put_decimal(place, out, a + 1);
     out[b] = b'\n';
-    Wrote::Length(b + 1)
+    Ok(b + 1)
 }
 
 // How many digits v has.

@@ -3,36 +3,31 @@
 
 ghost use Rattle.answer_tables.specs.Lists.{ListsAnswers};
 
-use answer_tables::Listed;
-use answers::Answer;
+use base::{Fault, Refusal};
 use found_zones::FoundZone;
 use zones::Edition;
 
-// The answers from the one at a tick on, as many as there is room for or the zone has.
+// The answers from the one at a tick on, as many as there is room for or the zone has: how many rows were put.
 pub fn list_answers(
     file: &[u8],
     v: FoundZone,
     ticks: i64,
     edition: Edition,
     rows: &mut [i64],
-) -> Listed
+) -> Result<usize, Fault>
     ensures { ListsAnswers file.now v ticks edition rows.old result rows.new }
 {
-    match found_zones::ask_zone(file, v, ticks, edition) {
-        Answer::Refused(n, p) => Listed::Refused(n, p),
-        Answer::In(x) => {
-            if rows.len() < 7 {
-                return Listed::Refused(15, 0);
-            }
-            later_answers::put_row(x, rows, 0);
-            if rows.len() < 14 {
-                return Listed::Rows(1);
-            }
-            let e = signed::instant(x.end);
-            if e == 0 {
-                return Listed::Rows(1);
-            }
-            Listed::Rows(later_answers::list_behind(file, v, e, rows))
-        }
+    let x = found_zones::ask_zone(file, v, ticks, edition)?;
+    if rows.len() < 7 {
+        return Err((Refusal::TooShort, 0));
     }
+    later_answers::put_row(x, rows, 0);
+    if rows.len() < 14 {
+        return Ok(1);
+    }
+    let e = signed::instant(x.end);
+    if e == 0 {
+        return Ok(1);
+    }
+    Ok(later_answers::list_behind(file, v, e, rows))
 }

@@ -1,4 +1,7 @@
 -- The answer at an interval's end, and what the edition changes. Assumes nothing.
+use Rattle.base.specs.declared.Refusal.TheVariants.{OutOfRange}
+use Rattle.base.specs.Coded.{Fault}
+use Rattle.std.specs.Prelude.{Err, Ok, Result}
 use mathlib.Core.Path.{◌≡◌, refl, sym, ap, ◌∙◌}
 use mathlib.Core.Bool.{Bool, true, false}
 use mathlib.Core.List.{List}
@@ -27,7 +30,6 @@ use Rattle.zones.proofs.EditionLaws.{fixed-or-same, under-sound}
 use Rattle.zones.proofs.SoundLaws.{zone-sound}
 use Rattle.zones.proofs.EndLaws.{end-finite, next-start}
 use Rattle.answers.specs.declared.Found.{Found}
-use Rattle.answers.specs.declared.Answer.TheVariants.{In, Refused}
 use Rattle.found_zones.specs.FoundZone.{answer_in, zone_at, zone_answer, ask_zone}
 use Rattle.found_zones.specs.declared.FoundZone.{FoundZone}
 
@@ -45,11 +47,11 @@ module _ (f : List ℕ) (v : FoundZone) (ed : Edition) where
     pub in-range : InRange z
     pub is : x ≡ answer_in f v (in_zone (instant_of z) (under ed zone))
 
-  pub answered : (z : ℤ) (x : Found) → ask_zone f v z ed ≡ In x → Answers z x
+  pub answered : (z : ℤ) (x : Found) → ask_zone f v z ed ≡ Ok x → Answers z x
   unfolding ask_zone
   answered z x e = go (eqb (instant_of z) 0) refl e
     where
-      on : InRange z → (p : Parsed Zone) → zone_at f v ≡ p → zone_answer f v ed (instant_of z) p ≡ In x → Answers z x
+      on : InRange z → (p : Parsed Zone) → zone_at f v ≡ p → zone_answer f v ed (instant_of z) p ≡ Ok x → Answers z x
       on g (got w r) q k = let i : x ≡ answer_in f v (in_zone (instant_of z) (under ed w)) = cc in record {
         zone = w;
         rest = r;
@@ -59,12 +61,12 @@ module _ (f : List ℕ) (v : FoundZone) (ed : Edition) where
       }
       on g (bad n) q k = clash cc
 
-      go : (b : Bool) → eqb (instant_of z) 0 ≡ b → pick b (Refused 14 0) (zone_answer f v ed (instant_of z) (zone_at f v)) ≡ In x → Answers z x
+      go : (b : Bool) → eqb (instant_of z) 0 ≡ b → pick b (Err (OutOfRange, 0)) (zone_answer f v ed (instant_of z) (zone_at f v)) ≡ Ok x → Answers z x
       go true q a = clash cc
       go false q a = on (eqb-false (instant_of z) 0 q) (zone_at f v) refl a
 
   -- and the answer at a tick in range, of the zone that was read
-  pub answers_at : (w : Zone) (r : List ℕ) → zone_at f v ≡ got w r → (z : ℤ) → InRange z → ask_zone f v z ed ≡ In (answer_in f v (in_zone (instant_of z) (under ed w)))
+  pub answers_at : (w : Zone) (r : List ℕ) → zone_at f v ≡ got w r → (z : ℤ) → InRange z → ask_zone f v z ed ≡ Ok (answer_in f v (in_zone (instant_of z) (under ed w)))
   unfolding ask_zone
   answers_at w r q z g = rw (ne_eqb (instant_of z) 0 g) (ap (zone_answer f v ed (instant_of z)) q)
 
@@ -90,14 +92,14 @@ module _ (f : List ℕ) (v : FoundZone) (ed : Edition) where
         under-sound ed n a.zone (zone-sound n (lent_part f v.start v.end) a.zone a.rest a.zone-is).0
 
     -- THE ANSWER AT AN INTERVAL'S END STARTS THERE
-    pub ask-next : (y : Found) → ask_zone f v x.end ed ≡ In y → y.start ≡ x.end
+    pub ask-next : (y : Found) → ask_zone f v x.end ed ≡ Ok y → y.start ≡ x.end
     ask-next y e =
         let b = answered x.end y e in
         let n : ℕ = room_of (lent_part f v.pool v.past) in
         let l : here.end < end_of_time = end_before b.in-range in
         let t : instant_of x.end ≡ here.end =
         ap (λ (u : Found). instant_of u.end) a.is ∙ instant-ticks here.end (end-finite n shown sound (instant_of z) finite-here l) in
-        let k : In y ≡ In (answer_in f v (in_zone (instant_of x.end) shown)) = sym e ∙ answers_at a.zone a.rest a.zone-is x.end b.in-range in
+        let k : ◌≡◌ {A = Result Found Fault} (Ok y) (Ok (answer_in f v (in_zone (instant_of x.end) shown))) = sym e ∙ answers_at a.zone a.rest a.zone-is x.end b.in-range in
         let i : y ≡ answer_in f v (in_zone (instant_of x.end) shown) = cc in
         ap (λ (u : Found). u.start) i
         ∙ ap (λ (u : ℕ). ticks_of (in_zone u shown).start) t
@@ -117,7 +119,7 @@ fixed-end One w t offset n e = rw e refl
 fixed-end Two w t offset n e = rw e refl
 
 -- WHERE AN INTERVAL HAS AN END, THE EDITION CHANGES NOTHING
-module _ (f : List ℕ) (v : FoundZone) (ed : Edition) (z : ℤ) (x : Found) (e : ask_zone f v z ed ≡ In x) (g : InRange x.end) where
+module _ (f : List ℕ) (v : FoundZone) (ed : Edition) (z : ℤ) (x : Found) (e : ask_zone f v z ed ≡ Ok x) (g : InRange x.end) where
   abbrev held : Answers f v ed z x
   held = answered f v ed z x e
 
@@ -132,6 +134,6 @@ module _ (f : List ℕ) (v : FoundZone) (ed : Edition) (z : ℤ) (x : Found) (e 
   pub edition-same : (y : ℤ) → ask_zone f v y ed ≡ ask_zone f v y Two
   unfolding ask_zone under
   edition-same y =
-      ap (λ (p : Parsed Zone). pick (eqb (instant_of y) 0) (Refused 14 0) (zone_answer f v ed (instant_of y) p)) held.zone-is
-      ∙ ap (λ (w : Zone). pick (eqb (instant_of y) 0) (Refused 14 0) (In (answer_in f v (in_zone (instant_of y) w)))) same-zone
-      ∙ ap (λ (p : Parsed Zone). pick (eqb (instant_of y) 0) (Refused 14 0) (zone_answer f v Two (instant_of y) p)) (sym held.zone-is)
+      ap (λ (p : Parsed Zone). pick (eqb (instant_of y) 0) (Err (OutOfRange, 0)) (zone_answer f v ed (instant_of y) p)) held.zone-is
+      ∙ ap (λ (w : Zone). pick (eqb (instant_of y) 0) (Err (OutOfRange, 0)) (Ok (answer_in f v (in_zone (instant_of y) w)))) same-zone
+      ∙ ap (λ (p : Parsed Zone). pick (eqb (instant_of y) 0) (Err (OutOfRange, 0)) (zone_answer f v Two (instant_of y) p)) (sym held.zone-is)

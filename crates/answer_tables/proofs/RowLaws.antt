@@ -1,4 +1,7 @@
 -- Rows and starts of a table. Assumes nothing.
+use Rattle.base.specs.declared.Refusal.TheVariants.{NotFound}
+use Rattle.base.specs.Coded.{Fault}
+use Rattle.std.specs.Prelude.{Err, Ok, Result}
 use mathlib.Core.Path.{◌≡◌, refl, sym, ap, ◌∙◌}
 use mathlib.Core.List.{List, [], ◌∷◌, ◌++◌}
 use Prim.Native.Nat.{ℕ, zero, suc, ◌+◌, ◌*◌, ◌/◌, ◌≤◌, ◌<◌}
@@ -6,10 +9,10 @@ use native.Mathlib.Omega.{arith}
 use lib.IntN.{ℤ, pos}
 use lib.ListN.{length, get_or, length-append}
 use lib.Seq.{get_or-append-add}
+use Rattle.base.proofs.PairLaws.{ok_parts}
 use Rattle.base.proofs.Tests.{clash, by_order}
 use Rattle.answers.specs.declared.Found.{Found}
 use Rattle.halving.specs.Halving.{find_start}
-use Rattle.halving.specs.declared.Search.TheVariants.{Entry, Refused}
 use Rattle.halving.proofs.StepLaws.{find_none}
 use Rattle.halving.proofs.HalvingLaws.{halving-finds}
 use Rattle.answer_tables.specs.Table.{row_of, rows_of, answer_at, starts_from, starts_of}
@@ -33,16 +36,15 @@ start_is rows j h =
     starts-entry (length rows / 7) 0 rows j h ∙ ap (λ (i : ℕ). get_or rows (7 * i + 5) (pos 0)) e
 
 -- halving leaves one of the rows
-pub left-inside : (rows : List ℤ) (z : ℤ) (k looks : ℕ) → find_start (starts_of rows) z ≡ Entry k looks → k < length rows / 7
+pub left-inside : (rows : List ℤ) (z : ℤ) (k looks : ℕ) → find_start (starts_of rows) z ≡ Ok (k, looks) → k < length rows / 7
 left-inside rows z k looks e =
     by_order 0 (length (starts_of rows))
     (λ (h : 0 < length (starts_of rows)).
     let w = halving-finds (starts_of rows) z h in
-    let q : Entry w.position w.probes ≡ Entry k looks = sym w.is ∙ e in
-    let j : w.position ≡ k = cc in
+    let j : w.position ≡ k = (ok_parts (sym w.is ∙ e)).0 in
     omega (arith, w.inside, starts-length (length rows / 7) 0 rows))
     (λ (h : length (starts_of rows) ≤ 0).
-    let q : Refused 12 0 ≡ Entry k looks = find_none (starts_of rows) z (omega arith) ∙ e in
+    let q : ◌≡◌ {A = Result (ℕ × ℕ) Fault} (Err (NotFound, 0)) (Ok (k, looks)) = find_none (starts_of rows) z (omega arith) ∙ e in
     clash cc)
 
 -- the rows of answers

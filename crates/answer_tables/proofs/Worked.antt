@@ -1,4 +1,5 @@
 -- 01's "One whole file": its zone, the table of its answers, and the questions over it. Assumes nothing.
+use Rattle.std.specs.Prelude.{Ok}
 use mathlib.Core.Path.{◌≡◌, refl}
 use mathlib.Core.List.{List, [], ◌∷◌}
 use Prim.Native.Nat.{ℕ}
@@ -29,10 +30,8 @@ use Rattle.questions.specs.Question.{ask}
 use Rattle.answers.specs.declared.Mark.TheVariants.{All}
 use Rattle.found_zones.specs.FoundZone.{ask_zone, FindsZone}
 use Rattle.found_zones.specs.declared.FoundZone.{FoundZone}
-use Rattle.found_zones.specs.declared.Finding.TheVariants.{Zone}
 use Rattle.answer_tables.specs.Table.{rows_of, ask_listed}
 use Rattle.answer_tables.specs.Lists.{answers_from, ListsAnswers}
-use Rattle.answer_tables.specs.declared.Listed.TheVariants.{Rows}
 use Rattle.answer_tables.proofs.ListLaws.{tables}
 
 -- 00 00 00 00, 00 05 01 03 55 54 43, 01 04 00 01 30 00
@@ -52,7 +51,7 @@ room = pos 1 ∷ pos 2 ∷ pos 3 ∷ pos 4 ∷ pos 5 ∷ pos 6 ∷ pos 7 ∷ pos
 abbrev table : List ℤ
 table = pos 0 ∷ pos 0 ∷ pos 0 ∷ pos 8 ∷ pos 3 ∷ negsuc 9223372036854775807 ∷ pos 9223372036854775807 ∷ pos 8 ∷ []
 
-pub finds : FindsZone file utc (Zone zone)
+pub finds : FindsZone file utc (Ok zone)
 unfolding ask_zone ask says walk iterate step act frame version zeros field order sized any_groups read_groups many counted all_strings ended chars text_sized equal read_starts starts_in room_in parse_zone after_id after_flag parse_fixed after_fixed_offset zone_of parse_byte parse_name judge_name read_sum under nameless fixed_name_of in_body lent_part text_in string_span string_numbered nth_string parse_string judge_length
 finds = record { to = λ z ed. go z ed }
   where
@@ -60,7 +59,7 @@ finds = record { to = λ z ed. go z ed }
     go z One = refl
     go z Two = refl
 
-pub lists : ListsAnswers file zone (pos 0) Two room (Rows 1) table
+pub lists : ListsAnswers file zone (pos 0) Two room (Ok 1) table
 unfolding ask_zone answers_from rows_of biased_of any_groups read_groups ended room_in parse_zone after_id after_flag parse_fixed after_fixed_offset zone_of parse_byte parse_name judge_name read_sum under nameless fixed_name_of in_body lent_part text_in string_span string_numbered nth_string parse_string judge_length
 lists = record { result = refl; rows = refl }
 

@@ -1,19 +1,17 @@
 -- A table of answers, seven numbers a row, and the question over it. To be believed.
-use Rattle.std.specs.Prelude.{ℕ, zero, suc, ◌+◌, ◌*◌, ◌/◌, Bool, List, [], ◌∷◌, ◌++◌, eqb, leb, ℤ, pos, negsuc, length, get_or}
+use Rattle.base.specs.declared.Refusal.TheVariants.{OutOfRange}
+use Rattle.std.specs.declared.option.Option.{Option}
+use Rattle.std.specs.declared.option.Option.TheVariants.{None, Some}
+use Rattle.base.specs.Coded.{Fault}
+use Rattle.std.specs.Prelude.{ℕ, zero, suc, ◌+◌, ◌*◌, ◌/◌, Bool, List, [], ◌∷◌, ◌++◌, eqb, leb, ℤ, pos, negsuc, length, get_or, Err, Ok, Result}
 use Rattle.std.specs.Int.Signed.{le_z, lt_z}
 use Rattle.base.specs.Pick.{pick, both}
 use Rattle.signed.specs.Instant.{instant_of}
 use Rattle.zones.specs.declared.Edition.{Edition}
 use Rattle.answers.specs.declared.Found.{Found}
-use Rattle.answers.specs.declared.Answer.{Answer}
-use Rattle.answers.specs.declared.Answer.TheVariants.{In, Refused}
 use Rattle.halving.specs.Halving.{find_start}
-use Rattle.halving.specs.declared.Search.{Search}
-use Rattle.halving.specs.declared.Search.TheVariants.{Entry, Refused as Empty}
 use Rattle.found_zones.specs.FoundZone.{ask_zone}
 use Rattle.found_zones.specs.declared.FoundZone.{FoundZone}
-use Rattle.answer_tables.specs.declared.Kept.{Kept}
-use Rattle.answer_tables.specs.declared.Kept.TheVariants.{Row, Nothing}
 
 -- "An answer carries wall offset, savings, the name as a part of the lent bytes, and the interval's start and end."; after savings, "the standard
 -- offset": in the order in which a question gives them
@@ -56,18 +54,18 @@ abbrev pub holds_in : ℕ → Found → ℤ → Bool
 holds_in n x z = both (le_z x.start z) (both (lt_z z x.end) (leb (x.name + x.length) n))
 
 -- the row that halving the starts leaves, where it holds the tick and its name is a part of n bytes
-abbrev pub kept_by : ℕ → List ℤ → ℤ → Search → Kept
-kept_by n rows z (Entry k looks) = pick (holds_in n (answer_at rows k) z) (Row (answer_at rows k)) Nothing
-kept_by n rows z (Empty m p) = Nothing
+abbrev pub kept_by : ℕ → List ℤ → ℤ → Result (ℕ × ℕ) Fault → Option Found
+kept_by n rows z (Ok (k, looks)) = pick (holds_in n (answer_at rows k) z) (Some (answer_at rows k)) None
+kept_by n rows z (Err (m, p)) = None
 
-unfoldable pub kept_row : ℕ → List ℤ → ℤ → Kept
+unfoldable pub kept_row : ℕ → List ℤ → ℤ → Option Found
 kept_row n rows z = kept_by n rows z (find_start (starts_of rows) z)
 
-abbrev pub answer_or : Kept → Answer → Answer
-answer_or (Row x) a = In x
-answer_or Nothing a = a
+abbrev pub answer_or : Option Found → Result Found Fault → Result Found Fault
+answer_or (Some x) a = Ok x
+answer_or None a = a
 
 -- what a question over a table gives at the signed tick z, whatever the rows are: 14 out of range; the row that holds the tick; and where halving
 -- leaves none, what the question on the zone gives
-unfoldable pub ask_listed : List ℕ → FoundZone → List ℤ → ℤ → Edition → Answer
-ask_listed f v rows z ed = pick (eqb (instant_of z) 0) (Refused 14 0) (answer_or (kept_row (length f) rows z) (ask_zone f v z ed))
+unfoldable pub ask_listed : List ℕ → FoundZone → List ℤ → ℤ → Edition → Result Found Fault
+ask_listed f v rows z ed = pick (eqb (instant_of z) 0) (Err (OutOfRange, 0)) (answer_or (kept_row (length f) rows z) (ask_zone f v z ed))

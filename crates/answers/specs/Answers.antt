@@ -1,5 +1,8 @@
 -- What a question says. To be believed.
-use Rattle.std.specs.Prelude.{ℕ, ◌+◌, List, [], length}
+use Rattle.base.specs.declared.Refusal.{Refusal}
+use Rattle.base.specs.declared.Refusal.TheVariants.{CutShort, NotFound, NotYet}
+use Rattle.base.specs.Coded.{Fault}
+use Rattle.std.specs.Prelude.{ℕ, ◌+◌, List, [], length, Err, Ok, Result}
 use Rattle.base.specs.Numbers.{number_given, place_given}
 use Rattle.signed.specs.Instant.{ticks_of}
 use Rattle.signed.specs.OffsetSum.{milliseconds_of}
@@ -11,17 +14,15 @@ use Rattle.zones.specs.declared.Found.{Found as Interval}
 use Rattle.answers.specs.declared.Mark.{Mark}
 use Rattle.answers.specs.declared.Mark.TheVariants.{More, All}
 use Rattle.answers.specs.declared.Found.{Found}
-use Rattle.answers.specs.declared.Answer.{Answer}
-use Rattle.answers.specs.declared.Answer.TheVariants.{In, Refused}
 use Rattle.answers.specs.Numbers.{given_by_answer}
 use Rattle.answers.specs.declared.Outcome.{Outcome}
 use Rattle.answers.specs.declared.Outcome.TheVariants.{Answered, Refused as Stopped, Cut, End}
 
 -- The table's number of an answer, and the place of a refusal
-abbrev pub number_of : Answer → ℕ
+abbrev pub number_of : Result Found Fault → ℕ
 number_of a = number_given (given_by_answer a)
 
-abbrev pub place_of : Answer → ℕ
+abbrev pub place_of : Result Found Fault → ℕ
 place_of a = place_given (given_by_answer a)
 
 -- what a question remembers: where the data of field 0 starts in the file, and that data; none before field 0
@@ -50,9 +51,9 @@ abbrev pub answered : Pool → Interval → Found
 answered p x = answer_by (p.start + (span_of p.body x.name).at) (span_of p.body x.name).len x
 
 -- The mark is used here and nowhere else: 1 where more may come, and else 2 in the version or in a field and 12 at the end of one.
-abbrev pub waiting : Mark → ℕ → ℕ
-waiting More n = 1
-waiting All n = n
+abbrev pub waiting : Mark → Refusal → Refusal
+waiting More k = NotYet
+waiting All k = k
 
 -- the bytes of an answer's name; none where the place is not in the bytes, which no answer to them has
 abbrev pub name_of : List ℕ → Found → List ℕ
@@ -62,8 +63,8 @@ abbrev pub pool_of : ℕ → List ℕ → Pool
 pool_of start d = record { start = start; body = d }
 
 -- what the mark makes of an outcome
-abbrev pub answer_of : Mark → Outcome → Answer
-answer_of mark (Answered x) = In x
-answer_of mark (Stopped n p) = Refused n p
-answer_of mark (Cut p) = Refused (waiting mark 2) p
-answer_of mark (End p) = Refused (waiting mark 12) p
+abbrev pub answer_of : Mark → Outcome → Result Found Fault
+answer_of mark (Answered x) = Ok x
+answer_of mark (Stopped n p) = Err (n, p)
+answer_of mark (Cut p) = Err (waiting mark CutShort, p)
+answer_of mark (End p) = Err (waiting mark NotFound, p)

@@ -7,6 +7,7 @@ ghost use Rattle.pool.specs.Index.{Ready};
 ghost use Rattle.zones.specs.Sound.{FoundOk};
 ghost use Rattle.answers.specs.Answers.{answer_by, answered as answered_of, pool_of, answer_of, name_of};
 
+use base::{Fault, Refusal};
 use strings::Holder;
 use zones::Found as Interval;
 
@@ -30,18 +31,11 @@ pub struct Found {
     pub end: i64,
 }
 
-// An answer, or the number and the place of a refusal.
-#[derive(Clone, Copy)]
-pub enum Answer {
-    In(Found),
-    Refused(u8, usize),
-}
-
 // What a walk comes to. Cut and End are the two ways of having too few bytes: inside the version or a field, and at the end of one.
 #[derive(Clone, Copy)]
 pub enum Outcome {
     Answered(Found),
-    Refused(u8, usize),
+    Refused(Refusal, usize),
     Cut(usize),
     End(usize),
 }
@@ -77,19 +71,19 @@ pub fn answered(pool: &[u8], starts: &[u32], start: usize, x: Interval) -> Found
 }
 
 // The mark is used here and nowhere else.
-pub fn finish(o: Outcome, mark: Mark) -> Answer
+pub fn finish(o: Outcome, mark: Mark) -> Result<Found, Fault>
     ensures { result ≡ answer_of mark o }
 {
     match o {
-        Outcome::Answered(x) => Answer::In(x),
-        Outcome::Refused(n, p) => Answer::Refused(n, p),
+        Outcome::Answered(x) => Ok(x),
+        Outcome::Refused(n, p) => Err((n, p)),
         Outcome::Cut(p) => match mark {
-            Mark::More => Answer::Refused(1, p),
-            Mark::All => Answer::Refused(2, p),
+            Mark::More => Err((Refusal::NotYet, p)),
+            Mark::All => Err((Refusal::CutShort, p)),
         },
         Outcome::End(p) => match mark {
-            Mark::More => Answer::Refused(1, p),
-            Mark::All => Answer::Refused(12, p),
+            Mark::More => Err((Refusal::NotYet, p)),
+            Mark::All => Err((Refusal::NotFound, p)),
         },
     }
 }

@@ -1,4 +1,5 @@
 -- The starts with which a list of intervals begins. Assumes nothing.
+use Rattle.std.specs.Prelude.{Ok}
 use mathlib.Core.Path.{◌≡◌, refl, ap, ◌∙◌}
 use mathlib.Core.Bool.{Bool, true, false}
 use mathlib.Core.List.{List}
@@ -10,7 +11,6 @@ use borrow.Author.Tests.{leb-true}
 use Rattle.base.specs.Pick.{pick}
 use Rattle.base.specs.Parsed.{parse}
 use Rattle.base.specs.Moment.{start_of_time, first_instant, last_instant}
-use Rattle.base.specs.declared.Read.TheVariants.{Value}
 use Rattle.counts.proofs.CountLaws.{byte-count}
 use Rattle.transitions.specs.Transition.{hour, from_count, read_moment}
 use Rattle.transitions.specs.Later.{Later}
@@ -20,7 +20,7 @@ use Rattle.places.proofs.ShortLaws.{reads, hours-are, hours-later}
 use Rattle.interval_runs.specs.Run.{hours_at}
 
 module _ (prev : ℕ) (s : List ℕ) (place : ℕ) (p : place ≤ length s) (w : 2 ≤ length s - place) where
-  mark-read : get_or s place 0 ≡ 0 → read_moment prev (drop place s) ≡ Value start_of_time 1
+  mark-read : get_or s place 0 ≡ 0 → read_moment prev (drop place s) ≡ Ok (start_of_time, 1)
   unfolding read_moment from_count
   mark-read z = rw (byte-count s place (omega arith) (omega arith), z)
 

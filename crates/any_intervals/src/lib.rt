@@ -10,8 +10,8 @@ ghost use Rattle.places.specs.Placed.{Stands, of_read};
 ghost use Rattle.intervals.specs.Interval.{standard_sum, rises as rises_of, parse_details, parse_interval};
 ghost use Rattle.intervals.specs.Scan.{of_interval};
 
-use base::{END, FIRST, LAST, Read};
-use intervals::{Interval, IntervalRead};
+use base::{Coded, END, FIRST, LAST, Refusal};
+use intervals::Interval;
 use transitions::HOUR;
 
 fn rises(prev: u64, m: u64) -> bool
@@ -38,19 +38,19 @@ fn standard_ok(wall: u64, savings: u64) -> bool
 }
 
 // What stands behind an interval's start m.
-fn read_details(s: &[u8], at: usize, pool: u64, m: u64) -> IntervalRead
+fn read_details(s: &[u8], at: usize, pool: u64, m: u64) -> Coded<Interval>
     requires { at ≤ length s.now }
     ensures { Stands s.now (parse_details pool m (drop at s.now)) (of_interval result) }
 {
     match places::name_at(s, at, pool) {
-        Read::Refused(k) => IntervalRead::Refused(k),
-        Read::Value(n, a) => match places::sum_at(s, a) {
-            Read::Refused(k) => IntervalRead::Refused(k),
-            Read::Value(w, b) => match places::sum_at(s, b) {
-                Read::Refused(k) => IntervalRead::Refused(k),
-                Read::Value(v, e) => {
+        Err(k) => Err(k),
+        Ok((n, a)) => match places::sum_at(s, a) {
+            Err(k) => Err(k),
+            Ok((w, b)) => match places::sum_at(s, b) {
+                Err(k) => Err(k),
+                Ok((v, e)) => {
                     if standard_ok(w, v) {
-                        return IntervalRead::Got(
+                        return Ok((
                             Interval {
                                 start: m,
                                 name: n,
@@ -58,9 +58,9 @@ fn read_details(s: &[u8], at: usize, pool: u64, m: u64) -> IntervalRead
                                 savings: v,
                             },
                             e,
-                        );
+                        ));
                     }
-                    IntervalRead::Refused(10)
+                    Err(Refusal::BadInterval)
                 }
             },
         },
@@ -68,37 +68,33 @@ fn read_details(s: &[u8], at: usize, pool: u64, m: u64) -> IntervalRead
 }
 
 // The same. Offsets take no call where bytes enough are left for any two of them.
-fn usual_details(s: &[u8], at: usize, pool: u64, m: u64) -> IntervalRead
+fn usual_details(s: &[u8], at: usize, pool: u64, m: u64) -> Coded<Interval>
     requires { at ≤ length s.now }
     ensures { Stands s.now (parse_details pool m (drop at s.now)) (of_interval result) }
 {
-    match places::name_at(s, at, pool) {
-        Read::Refused(k) => IntervalRead::Refused(k),
-        Read::Value(n, a) => {
-            if 6 < s.len() - a {
-                let w = places::usual_sum(s, a);
-                if w != 0 {
-                    let b = a + places::usual_size(s[a]);
-                    let v = places::usual_sum(s, b);
-                    if v != 0 {
-                        if standard_ok(w, v) {
-                            return IntervalRead::Got(
-                                Interval {
-                                    start: m,
-                                    name: n,
-                                    wall: w,
-                                    savings: v,
-                                },
-                                b + places::usual_size(s[b]),
-                            );
-                        }
-                        return IntervalRead::Refused(10);
-                    }
+    let (n, a) = places::name_at(s, at, pool)?;
+    if 6 < s.len() - a {
+        let w = places::usual_sum(s, a);
+        if w != 0 {
+            let b = a + places::usual_size(s[a]);
+            let v = places::usual_sum(s, b);
+            if v != 0 {
+                if standard_ok(w, v) {
+                    return Ok((
+                        Interval {
+                            start: m,
+                            name: n,
+                            wall: w,
+                            savings: v,
+                        },
+                        b + places::usual_size(s[b]),
+                    ));
                 }
+                return Err(Refusal::BadInterval);
             }
-            read_details(s, at, pool, m)
         }
     }
+    read_details(s, at, pool, m)
 }
 
 // The instant of two bytes of hours after prev; 0 where there is none.
@@ -124,7 +120,7 @@ fn hours_start(s: &[u8], at: usize, prev: u64) -> u64
 }
 
 // A transition at a place, as places::moment_at has it. One in ticks takes no call.
-pub fn moment_at(s: &[u8], at: usize, prev: u64) -> Read
+pub fn moment_at(s: &[u8], at: usize, prev: u64) -> Coded<u64>
     requires { at ≤ length s.now }
     ensures { Stands s.now (parse (read_moment prev) (drop at s.now)) (of_read result) }
 {
@@ -133,7 +129,7 @@ pub fn moment_at(s: &[u8], at: usize, prev: u64) -> Read
             let t = interval_runs::ticks_at(s, at + 1);
             if FIRST <= t {
                 if t <= LAST {
-                    return Read::Value(t, at + 9);
+                    return Ok((t, at + 9));
                 }
             }
         }
@@ -142,7 +138,7 @@ pub fn moment_at(s: &[u8], at: usize, prev: u64) -> Read
 }
 
 // An interval's start. The mark, with which a list begins, ticks and hours in two bytes take no call.
-fn start_at(s: &[u8], at: usize, prev: u64) -> Read
+fn start_at(s: &[u8], at: usize, prev: u64) -> Coded<u64>
     requires { at ≤ length s.now }
     ensures { Stands s.now (parse (read_moment prev) (drop at s.now)) (of_read result) }
 {
@@ -150,43 +146,35 @@ fn start_at(s: &[u8], at: usize, prev: u64) -> Read
         return places::moment_at(s, at, prev);
     }
     if s[at] == 0 {
-        return Read::Value(0, at + 1);
+        return Ok((0, at + 1));
     }
     let m = hours_start(s, at, prev);
     if m != 0 {
-        return Read::Value(m, at + 2);
+        return Ok((m, at + 2));
     }
     moment_at(s, at, prev)
 }
 
 // An interval after the start prev, code by code.
-pub fn read_any_interval(s: &[u8], at: usize, pool: u64, prev: u64) -> IntervalRead
+pub fn read_any_interval(s: &[u8], at: usize, pool: u64, prev: u64) -> Coded<Interval>
     requires { at ≤ length s.now }
     ensures { Stands s.now (parse_interval pool prev (drop at s.now)) (of_interval result) }
 {
-    match moment_at(s, at, prev) {
-        Read::Refused(k) => IntervalRead::Refused(k),
-        Read::Value(m, e) => {
-            if rises(prev, m) {
-                return read_details(s, e, pool, m);
-            }
-            IntervalRead::Refused(10)
-        }
+    let (m, e) = moment_at(s, at, prev)?;
+    if rises(prev, m) {
+        return read_details(s, e, pool, m);
     }
+    Err(Refusal::BadInterval)
 }
 
 // The same, for the scan of a list: the usual ones take no call. It has one caller, so that the compiler puts it there whole.
-pub fn read_usual_interval(s: &[u8], at: usize, pool: u64, prev: u64) -> IntervalRead
+pub fn read_usual_interval(s: &[u8], at: usize, pool: u64, prev: u64) -> Coded<Interval>
     requires { at ≤ length s.now }
     ensures { Stands s.now (parse_interval pool prev (drop at s.now)) (of_interval result) }
 {
-    match start_at(s, at, prev) {
-        Read::Refused(k) => IntervalRead::Refused(k),
-        Read::Value(m, e) => {
-            if rises(prev, m) {
-                return usual_details(s, e, pool, m);
-            }
-            IntervalRead::Refused(10)
-        }
+    let (m, e) = start_at(s, at, prev)?;
+    if rises(prev, m) {
+        return usual_details(s, e, pool, m);
     }
+    Err(Refusal::BadInterval)
 }

@@ -4,12 +4,13 @@
 ghost use Rattle.std.specs.Prelude.{◌≡◌};
 ghost use Rattle.asked_lines.specs.Asked.{asked_by};
 
-use answers::{Answer, Mark};
+use answers::{Found, Mark};
+use base::Fault;
 use lines::Kind;
 use zones::Edition;
 
 // The question of a kind for the zone with the bytes zone, at the tick t.
-pub fn ask(s: &[u8], zone: &[u8], t: i64, kind: Kind) -> Answer
+pub fn ask(s: &[u8], zone: &[u8], t: i64, kind: Kind) -> Result<Found, Fault>
     ensures { result ≡ asked_by s.now zone.now t kind }
 {
     match kind {

@@ -1,4 +1,6 @@
 -- Where the walk over the zones stands, whether or not it is known to come to one, and each way on from there. Assumes nothing.
+use Rattle.base.specs.declared.Refusal.{Refusal}
+use Rattle.std.specs.Prelude.{Ok}
 use mathlib.Core.Path.{◌≡◌, refl, sym, ap, ◌∙◌}
 use mathlib.Core.Bool.{Bool, true, false}
 use mathlib.Core.List.{List, []}
@@ -14,7 +16,6 @@ use Rattle.places.specs.Name.{parse_name}
 use Rattle.zones.specs.Content.{Zone}
 use Rattle.zones.specs.Lookup.{verdict_of}
 use Rattle.zones.specs.Parse.{parse_zone}
-use Rattle.zones.specs.declared.ZoneVerdict.TheVariants.{Good}
 use Rattle.frames.specs.Frame.{frame}
 use Rattle.frames.specs.Machine.{Out, found, refused, state_at, from}
 use Rattle.frames.specs.declared.Frame.{Frame}
@@ -72,7 +73,7 @@ module _ (known : Bool) (id : List ℕ) (s : List ℕ) (start end : ℕ) where
     pub walked-cut : f ≡ FrameCut → WalkedAs known s m whole (Cut at)
     walked-cut e = record { means = λ q. walking-cut id s start end at prev (w.walking q) f read e }
 
-    pub walked-refused : (n : ℕ) → f ≡ FrameRefused n → WalkedAs known s m whole (Refused n at)
+    pub walked-refused : (n : Refusal) → f ≡ FrameRefused n → WalkedAs known s m whole (Refused n at)
     walked-refused n e = record { means = λ q. walking-refused id s start end at prev (w.walking q) f read n e }
 
     pub walked-version : {A : Type 0} → f ≡ Version → A
@@ -108,7 +109,7 @@ module _ (known : Bool) (id : List ℕ) (s : List ℕ) (start end : ℕ) where
         walked_here o =
             record { means = λ q. walking_here id s start end at prev (w.walking q) f read i h n e count c j (judges q) o }
 
-        pub walked-fault : (l : ℕ) → j ≡ Fault l → WalkedAs known s m whole (Refused l at)
+        pub walked-fault : (l : Refusal) → j ≡ Fault l → WalkedAs known s m whole (Refused l at)
         walked-fault l o =
             record { means = λ q. walking-fault id s start end at prev (w.walking q) f read i h n e count c j (judges q) l o }
 

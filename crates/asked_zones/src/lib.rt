@@ -11,11 +11,8 @@ ghost use Rattle.locate.specs.Asked.{holder};
 ghost use Rattle.locate.specs.View.{part, pool_at, Lies, by_pool, JudgedAs, LocatedAs};
 ghost use Rattle.asked_zones.specs.Known.{JudgedBy, WalkedAs};
 
-use base::Read;
 use frames::Frame;
 use locate::{Judged, Located, Spot};
-use pool::Checked;
-use zones::ZoneVerdict;
 
 // A whole zone in d: whether its ID, which stands first, is the asked one; else it is checked.
 pub fn judge(pool: &[u8], starts: &[u32], count: usize, d: &[u8], id: &[u8]) -> Judged
@@ -23,15 +20,15 @@ pub fn judge(pool: &[u8], starts: &[u32], count: usize, d: &[u8], id: &[u8]) -> 
     ensures { JudgedAs id.now pool.now (parse_zone count d.now) result }
 {
     match places::name_at(d, 0, count as u64) {
-        Read::Refused(n) => Judged::Fault(n),
-        Read::Value(z, _) => {
+        Err(n) => Judged::Fault(n),
+        Ok((z, _)) => {
             let k = z as usize;
             if strings::has_id(pool, starts, k, id) {
                 return Judged::Here;
             }
             match zone_reads::check(d, count as u64) {
-                ZoneVerdict::Refused(n) => Judged::Fault(n),
-                ZoneVerdict::Good(_) => Judged::Keep,
+                Err(n) => Judged::Fault(n),
+                Ok(_) => Judged::Keep,
             }
         }
     }
@@ -44,8 +41,8 @@ fn judge_by(pool: &[u8], starts: &[u32], count: usize, d: &[u8], id: &[u8], know
     ensures { JudgedBy known id.now pool.now (parse_zone count d.now) result }
 {
     match places::name_at(d, 0, count as u64) {
-        Read::Refused(n) => Judged::Fault(n),
-        Read::Value(z, _) => {
+        Err(n) => Judged::Fault(n),
+        Ok((z, _)) => {
             let k = z as usize;
             if strings::has_id(pool, starts, k, id) {
                 return Judged::Here;
@@ -54,8 +51,8 @@ fn judge_by(pool: &[u8], starts: &[u32], count: usize, d: &[u8], id: &[u8], know
                 return Judged::Keep;
             }
             match zone_reads::check(d, count as u64) {
-                ZoneVerdict::Refused(n) => Judged::Fault(n),
-                ZoneVerdict::Good(_) => Judged::Keep,
+                Err(n) => Judged::Fault(n),
+                Ok(_) => Judged::Keep,
             }
         }
     }
@@ -124,7 +121,7 @@ pub fn walk(s: &[u8], d: usize, e: usize, id: &[u8], starts: &mut [u32]) -> Loca
     ensures { LocatedAs s.now (pool_at s.now d e) (by_pool id.now s.now d e (parse_pool (part d e s.now))) result × (starts.new ≡ sets starts.old 0 (starts_of (part d e s.now))) }
 {
     match pool::check_pool(&s[d..e], starts) {
-        Checked::Refused(m) => Located::Refused(m, 4),
-        Checked::Strings(k) => walk_zones(s, &*starts, d, e, k, id, false),
+        Err(m) => Located::Refused(m, 4),
+        Ok(k) => walk_zones(s, &*starts, d, e, k, id, false),
     }
 }

@@ -8,3 +8,4 @@ pub mod MomentLaws
 pub mod RunLaws
 pub mod EqualLaws
 pub mod AllLaws
+pub mod PairLaws

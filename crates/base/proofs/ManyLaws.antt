@@ -1,4 +1,5 @@
 -- A loop over counted items: where it stands, and how it goes on. Assumes nothing.
+use Rattle.base.specs.declared.Refusal.{Refusal}
 use mathlib.Core.Path.{◌≡◌, refl, sym, ◌∙◌}
 use mathlib.Core.List.{List, [], ◌∷◌, ◌++◌, append-nil, append_assoc}
 use Prim.Native.Nat.{ℕ, zero, suc, ◌+◌, ◌-◌, ◌≤◌, ◌<◌}
@@ -30,7 +31,7 @@ module _ {S A Z : Type 0} (item : S → List ℕ → Parsed A) (next : A → S) 
   turn a pre (bad c) = refl
   turn a pre (got xs q) = rw (append_assoc pre (a ∷ []) xs)
 
-  pub going-bad : (left at : ℕ) (σ : S) (pre : List A) (c : ℕ) → Going left at σ pre → 0 < left → item σ (drop at s) ≡ bad c → whole ≡ bad c
+  pub going-bad : (left at : ℕ) (σ : S) (pre : List A) (c : Refusal) → Going left at σ pre → 0 < left → item σ (drop at s) ≡ bad c → whole ≡ bad c
   unfolding many
   going-bad zero at σ pre c g h e = absurd (omega arith)
   going-bad (suc left) at σ pre c g h e = g.rest ∙ rw e

@@ -1,4 +1,5 @@
 -- Laws of readers in a row. Assumes nothing.
+use Rattle.base.specs.declared.Refusal.{Refusal}
 use mathlib.Core.Path.{◌≡◌, refl, ap}
 use mathlib.Core.Bool.{Bool, true, false}
 use mathlib.Core.List.{List, [], ◌∷◌}
@@ -7,7 +8,7 @@ use Rattle.base.specs.Pick.{pick}
 use Rattle.base.specs.Parsed.{Parsed, got, bad, bind, ended}
 use Rattle.base.proofs.Tests.{clash}
 
-pub bad-got : {A G : Type 0} {k : ℕ} {a : A} {r : List ℕ} → bad k ≡ got a r → G
+pub bad-got : {A G : Type 0} {k : Refusal} {a : A} {r : List ℕ} → bad k ≡ got a r → G
 bad-got e = clash cc
 
 -- the parts of equal readings
@@ -39,11 +40,11 @@ bind-good (got a r) k b q e = record { first = a; rest = r; is = refl; on = e }
 bind-good (bad n) k b q e = bad-got e
 
 -- a test that must hold for a row to be good
-pub pick_good : {A : Type 0} (t : Bool) (x : Parsed A) (n : ℕ) (a : A) (q : List ℕ) → pick t x (bad n) ≡ got a q → (t ≡ true) × (x ≡ got a q)
+pub pick_good : {A : Type 0} (t : Bool) (x : Parsed A) (n : Refusal) (a : A) (q : List ℕ) → pick t x (bad n) ≡ got a q → (t ≡ true) × (x ≡ got a q)
 pick_good true x n a q e = (refl, e)
 pick_good false x n a q e = bad-got e
 
-pub pick-bad : {A : Type 0} (t : Bool) (x : Parsed A) (n : ℕ) (a : A) (q : List ℕ) → pick t (bad n) x ≡ got a q → (t ≡ false) × (x ≡ got a q)
+pub pick-bad : {A : Type 0} (t : Bool) (x : Parsed A) (n : Refusal) (a : A) (q : List ℕ) → pick t (bad n) x ≡ got a q → (t ≡ false) × (x ≡ got a q)
 pick-bad true x n a q e = bad-got e
 pick-bad false x n a q e = (refl, e)
 

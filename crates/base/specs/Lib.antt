@@ -1,3 +1,5 @@
+pub mod Refusals
+pub mod Coded
 pub mod Pick
 pub mod Writing
 pub mod Parsed

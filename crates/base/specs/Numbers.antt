@@ -1,10 +1,9 @@
 -- "The numbers given back": document 01's number, place and values of an answer. "When an answer is an enum, a definition gives this
 -- paper's number and values for each of its cases." To be believed.
-use Rattle.std.specs.Prelude.{ℕ, List, [], ◌∷◌, ℤ, pos}
-use Rattle.base.specs.declared.Read.{Read}
-use Rattle.base.specs.declared.Read.TheVariants.{Value, Refused as Unread}
-use Rattle.base.specs.declared.Wrote.{Wrote}
-use Rattle.base.specs.declared.Wrote.TheVariants.{Length, Refused as Unwritten}
+use Rattle.base.specs.Refusals.{refusal_number}
+use Rattle.base.specs.declared.Refusal.{Refusal}
+use Rattle.base.specs.Coded.{Coded}
+use Rattle.std.specs.Prelude.{ℕ, List, [], ◌∷◌, ℤ, pos, Err, Ok, Result}
 
 pub data GivenBack : Type 0 where
   answering : List ℤ → GivenBack
@@ -24,11 +23,11 @@ values_given (answering vs) = vs
 values_given (refusing n p) = []
 
 -- "A small code on its own .. gives value and length .. and has place 0"
-abbrev pub given_by_read : Read → GivenBack
-given_by_read (Value v n) = answering (pos v ∷ pos n ∷ [])
-given_by_read (Unread k) = refusing k 0
+abbrev pub given_by_read : Coded ℕ → GivenBack
+given_by_read (Ok (v, n)) = answering (pos v ∷ pos n ∷ [])
+given_by_read (Err k) = refusing (refusal_number k) 0
 
 -- writing a code: its length
-abbrev pub given_by_wrote : Wrote → GivenBack
-given_by_wrote (Length n) = answering (pos n ∷ [])
-given_by_wrote (Unwritten k) = refusing k 0
+abbrev pub given_by_wrote : Result ℕ Refusal → GivenBack
+given_by_wrote (Ok n) = answering (pos n ∷ [])
+given_by_wrote (Err k) = refusing (refusal_number k) 0

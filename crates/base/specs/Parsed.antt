@@ -1,12 +1,13 @@
 -- Readers in a row, over the data of a field. To be believed.
-use Rattle.std.specs.Prelude.{ℕ, zero, suc, List, [], ◌∷◌, drop}
-use Rattle.base.specs.declared.Read.{Read}
-use Rattle.base.specs.declared.Read.TheVariants.{Value, Refused}
+use Rattle.base.specs.declared.Refusal.{Refusal}
+use Rattle.base.specs.Coded.{Coded}
+use Rattle.base.specs.declared.Refusal.TheVariants.{BadData}
+use Rattle.std.specs.Prelude.{ℕ, zero, suc, List, [], ◌∷◌, drop, Err, Ok}
 
--- a value and the bytes behind it, or the number of the first fault
+-- a value and the bytes behind it, or the first fault
 pub data Parsed (A : Type 0) : Type 0 where
   got : A → List ℕ → Parsed A
-  bad : ℕ → Parsed A
+  bad : Refusal → Parsed A
 
 -- "contents left to right"
 abbrev pub bind : {A B : Type 0} → Parsed A → (A → List ℕ → Parsed B) → Parsed B
@@ -14,22 +15,22 @@ bind (got a r) k = k a r
 bind (bad n) k = bad n
 
 -- a small code in such a row
-abbrev pub behind_code : List ℕ → Read → Parsed ℕ
-behind_code s (Value v n) = got v (drop n s)
-behind_code s (Refused k) = bad k
+abbrev pub behind_code : List ℕ → Coded ℕ → Parsed ℕ
+behind_code s (Ok (v, n)) = got v (drop n s)
+behind_code s (Err k) = bad k
 
-abbrev pub parse : (List ℕ → Read) → List ℕ → Parsed ℕ
+abbrev pub parse : (List ℕ → Coded ℕ) → List ℕ → Parsed ℕ
 parse read s = behind_code s (read s)
 
 -- a single byte; "field data ending early" is 9
 unfoldable pub parse_byte : List ℕ → Parsed ℕ
-parse_byte [] = bad 9
+parse_byte [] = bad BadData
 parse_byte (b ∷ r) = got b r
 
 -- "9 for leftovers last"
 unfoldable pub ended : {A : Type 0} → A → List ℕ → Parsed A
 ended a [] = got a []
-ended a (b ∷ r) = bad 9
+ended a (b ∷ r) = bad BadData
 
 -- n items, each read from the state that the item before it gives
 abbrev pub prepend : {A : Type 0} → A → List A → List ℕ → Parsed (List A)

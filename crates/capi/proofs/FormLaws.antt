@@ -1,4 +1,6 @@
 -- No code is longer than 1,029 bytes, so that its length fits a result. Assumes nothing.
+use Rattle.base.specs.declared.Refusal.{Refusal}
+use Rattle.base.specs.declared.Refusal.TheVariants.{BadCode, BadText}
 use mathlib.Core.Bool.{Bool}
 use mathlib.Core.List.{List}
 use Prim.Native.Nat.{ℕ, ◌/◌, ◌%◌, ◌≤◌}
@@ -43,15 +45,15 @@ Short xs = length xs ≤ 9
 count-short : (v : ℕ) → Short (write_count v)
 count-short v = omega (arith, (count-size v).most)
 
-carried : (t : Bool) (xs : List ℕ) (n : ℕ) → length xs ≤ 1029 → SmallForm (pick t (bytes xs) (unfit n))
+carried : (t : Bool) (xs : List ℕ) (n : Refusal) → length xs ≤ 1029 → SmallForm (pick t (bytes xs) (unfit n))
 carried t xs n l = pick-holds SmallForm t (λ e. record { to = l }) (λ e. record { to = tt })
 
 pub integer-small : (z : ℤ) → SmallForm (integer_form z)
-integer-small (pos n) = carried (leb n 2147483647) (write_count n) 7 (omega (arith, count-short n))
+integer-small (pos n) = carried (leb n 2147483647) (write_count n) BadCode (omega (arith, count-short n))
 integer-small (negsuc n) = record { to = tt }
 
 pub signed-small : (z : ℤ) → SmallForm (signed_count_form z)
-signed-small z = carried (leb (zigzag_of z) 4294967295) (write_count (zigzag_of z)) 7 (omega (arith, count-short (zigzag_of z)))
+signed-small z = carried (leb (zigzag_of z) 4294967295) (write_count (zigzag_of z)) BadCode (omega (arith, count-short (zigzag_of z)))
 
 sum-short : (sum : ℕ) → Short (write_sum sum)
 unfolding write_sum
@@ -61,7 +63,7 @@ sum-short sum =
     (λ e. pick-holds Short (eqb (sum % 1000) 0) (λ e. omega (arith, length-fixed 2 (sum / 1000))) (λ e. omega (arith, length-fixed 3 sum))))
 
 pub offset-short : (z : ℤ) → SmallForm (offset_form z)
-offset-short z = carried (in_day (sum_of z)) (write_sum (sum_of z)) 7 (omega (arith, sum-short (sum_of z)))
+offset-short z = carried (in_day (sum_of z)) (write_sum (sum_of z)) BadCode (omega (arith, sum-short (sum_of z)))
 
 moment-short : (p m : ℕ) → Short (write_moment p m)
 unfolding write_moment
@@ -71,9 +73,9 @@ moment-short p m =
     (λ e. pick-holds Short (eqb (count_to p m) 0) (λ e. omega (arith, length-fixed 8 (raw_of m))) (λ e. count-short (count_to p m))))
 
 pub moment-form : (p m : ℕ) → SmallForm (moment_form p m)
-moment-form p m = carried (is_moment m) (write_moment p m) 7 (omega (arith, moment-short p m))
+moment-form p m = carried (is_moment m) (write_moment p m) BadCode (omega (arith, moment-short p m))
 
 pub text-form : (t : List ℕ) → SmallForm (text_form t)
 text-form t =
     pick-holds SmallForm (ltb 1024 (length t)) (λ e. record { to = tt })
-    (λ e. carried (utf8 t) (write_text t) 8 (simp length-append (omega (arith, ltb-false 1024 (length t) e, (count-size (length t)).most))))
+    (λ e. carried (utf8 t) (write_text t) BadText (simp length-append (omega (arith, ltb-false 1024 (length t) e, (count-size (length t)).most))))

@@ -1,4 +1,7 @@
 -- The place of a refusal is at most 4,194,304, so that number and place fit one result. Assumes nothing.
+use Rattle.base.specs.declared.Refusal.{Refusal}
+use Rattle.base.specs.Coded.{Fault}
+use Rattle.std.specs.Prelude.{Err, Ok, Result}
 use mathlib.Core.Path.{◌≡◌, subst, subst⁻¹}
 use mathlib.Core.List.{List}
 use Prim.Native.Nat.{ℕ, ◌≤◌}
@@ -9,10 +12,6 @@ use Rattle.frames.proofs.NearLaws.{Near, walk-near}
 use Rattle.field_checks.specs.Check.{TextPlace, nowhere, placed, Memory, start, job, concluded, concludes, conclusion, verdict_of, check_of, text_given, version_of}
 use Rattle.field_checks.specs.declared.Conclusion.{Conclusion}
 use Rattle.field_checks.specs.declared.Conclusion.TheVariants.{Refused as Ill, Bare, WithText}
-use Rattle.field_checks.specs.declared.Verdict.{Verdict}
-use Rattle.field_checks.specs.declared.Verdict.TheVariants.{Good, Refused as Unfit}
-use Rattle.field_checks.specs.declared.VersionText.{VersionText}
-use Rattle.field_checks.specs.declared.VersionText.TheVariants.{Part as TextPart, Refused as NoText}
 
 -- the check
 abbrev ConclusionTo : Conclusion → Type 0
@@ -38,11 +37,11 @@ conclusion-near : (f : List ℕ) → NearConclusion (conclusion f)
 unfolding conclusion
 conclusion-near f = concludes-near (walk job start f) (walk-near job start f)
 
-abbrev VerdictTo : Verdict → Type 0
-VerdictTo Good = Unit {0}
-VerdictTo (Unfit n p) = p ≤ 4194304
+abbrev VerdictTo : Result (Unit {0}) Fault → Type 0
+VerdictTo (Ok tt) = Unit {0}
+VerdictTo (Err (n, p)) = p ≤ 4194304
 
-pub record NearVerdict (v : Verdict) : Type 0 where
+pub record NearVerdict (v : Result (Unit {0}) Fault) : Type 0 where
   pub to : VerdictTo v
 
 verdict-near : (x : Conclusion) → NearConclusion x → NearVerdict (verdict_of x)
@@ -50,14 +49,14 @@ verdict-near (Ill n p) h = record { to = h.to }
 verdict-near (Bare p) h = record { to = tt }
 verdict-near (WithText a n) h = record { to = tt }
 
-pub check-near : (f : List ℕ) (v : Verdict) → v ≡ check_of f → NearVerdict v
+pub check-near : (f : List ℕ) (v : Result (Unit {0}) Fault) → v ≡ check_of f → NearVerdict v
 check-near f v e = subst⁻¹ NearVerdict e (verdict-near (conclusion f) (conclusion-near f))
 
-abbrev TextTo : VersionText → Type 0
-TextTo (TextPart a n) = Unit {0}
-TextTo (NoText n p) = p ≤ 4194304
+abbrev TextTo : Result (ℕ × ℕ) Fault → Type 0
+TextTo (Ok (a, n)) = Unit {0}
+TextTo (Err (n, p)) = p ≤ 4194304
 
-record NearText (t : VersionText) : Type 0 where
+record NearText (t : Result (ℕ × ℕ) Fault) : Type 0 where
   to : TextTo t
 
 given-near : (x : Conclusion) → NearConclusion x → NearText (text_given x)
@@ -65,5 +64,5 @@ given-near (Ill n p) h = record { to = h.to }
 given-near (Bare p) h = record { to = h.to }
 given-near (WithText a n) h = record { to = tt }
 
-pub version-near : (f : List ℕ) (n p : ℕ) → version_of f ≡ NoText n p → p ≤ 4194304
+pub version-near : (f : List ℕ) (n : Refusal) (p : ℕ) → version_of f ≡ Err (n, p) → p ≤ 4194304
 version-near f n p e = (subst NearText e (given-near (conclusion f) (conclusion-near f))).to

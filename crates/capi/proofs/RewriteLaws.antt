@@ -1,4 +1,7 @@
 -- The length and the place that normalizing gives fit one result. Assumes nothing.
+use Rattle.base.specs.declared.Refusal.TheVariants.{TooShort}
+use Rattle.base.specs.Coded.{Fault}
+use Rattle.std.specs.Prelude.{Err, Ok, Result}
 use mathlib.Core.Path.{◌≡◌, refl, sym, subst⁻¹}
 use mathlib.Core.Bool.{Bool, true, false}
 use mathlib.Core.List.{List}
@@ -9,27 +12,23 @@ use lib.Dec.{leb}
 use Rattle.base.specs.Pick.{pick}
 use Rattle.base.proofs.Parts.{Bytes}
 use Rattle.field_checks.specs.Check.{check_of}
-use Rattle.field_checks.specs.declared.Verdict.{Verdict}
-use Rattle.field_checks.specs.declared.Verdict.TheVariants.{Good, Refused as Ill}
 use Rattle.field_checks.proofs.WellFormedLaws.{good-well-formed}
 use Rattle.rewrite.specs.Preferred.{preferred, given, rewrite_of}
-use Rattle.rewrite.specs.declared.Rewritten.{Rewritten}
-use Rattle.rewrite.specs.declared.Rewritten.TheVariants.{Length, Refused}
 use Rattle.rewrite.proofs.Rewriting.{preferred-limit}
 use Rattle.capi.proofs.PlaceLaws.{check-near}
-use Rattle.file_replies.specs.Small.{SmallRewritten}
+use Rattle.replies.specs.Small.{SmallLength}
 
-rewrite-near : (f d : List ℕ) → Bytes f → SmallRewritten (rewrite_of f d)
+rewrite-near : (f d : List ℕ) → Bytes f → SmallLength (rewrite_of f d)
 unfolding rewrite_of
 rewrite-near f d b = go (check_of f) refl
   where
-    room : (t : Bool) → length (preferred f) ≤ 4194304 → SmallRewritten (pick t (Length (length (preferred f))) (Refused 15 0))
+    room : (t : Bool) → length (preferred f) ≤ 4194304 → SmallLength (pick t (Ok (length (preferred f))) (Err (TooShort, 0)))
     room true l = record { to = l }
     room false l = record { to = omega arith }
 
-    go : (v : Verdict) → v ≡ check_of f → SmallRewritten (given v (preferred f) d)
-    go (Ill n p) e = record { to = (check-near f (Ill n p) e).to }
-    go Good e = room (leb (length (preferred f)) (length d)) (preferred-limit f (good-well-formed f (sym e)) b)
+    go : (v : Result (Unit {0}) Fault) → v ≡ check_of f → SmallLength (given v (preferred f) d)
+    go (Err (n, p)) e = record { to = (check-near f (Err (n, p)) e).to }
+    go (Ok tt) e = room (leb (length (preferred f)) (length d)) (preferred-limit f (good-well-formed f (sym e)) b)
 
-pub rewrite-small : (f d : List ℕ) (r : Rewritten) → Bytes f → r ≡ rewrite_of f d → SmallRewritten r
-rewrite-small f d r b e = subst⁻¹ SmallRewritten e (rewrite-near f d b)
+pub rewrite-small : (f d : List ℕ) (r : Result ℕ Fault) → Bytes f → r ≡ rewrite_of f d → SmallLength r
+rewrite-small f d r b e = subst⁻¹ SmallLength e (rewrite-near f d b)

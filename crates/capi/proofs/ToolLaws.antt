@@ -1,4 +1,7 @@
 -- The numbers of the three tools of Ask 14 fit where they go, and what the functions that fill lent room leave. Assumes nothing.
+use Rattle.std.specs.declared.option.Option.{Option as Maybe}
+use Rattle.base.specs.Coded.{Fault}
+use Rattle.std.specs.Prelude.{Err, Ok, Result}
 use mathlib.Core.Path.{◌≡◌, refl, ap, ◌∙◌, subst, subst⁻¹}
 use mathlib.Core.Bool.{Bool, true, false}
 use mathlib.Core.List.{List, [], ◌∷◌}
@@ -19,47 +22,40 @@ use Rattle.frames.specs.Machine.{Out, found, refused, cut, ended, walk}
 use Rattle.frames.proofs.ChainLaws.{listing-chain, chain-fields}
 use Rattle.frames.proofs.NearLaws.{Near, walk-near}
 use Rattle.field_checks.specs.Check.{check_of}
-use Rattle.field_checks.specs.declared.Verdict.{Verdict}
-use Rattle.field_checks.specs.declared.Verdict.TheVariants.{Good, Refused as Ill}
 use Rattle.answers.specs.Answers.{Pool, no_pool}
 use Rattle.locate.specs.Asked.{Held, holder}
 use Rattle.halving.specs.Halving.{find_start}
-use Rattle.halving.specs.declared.Search.{Search}
 use Rattle.halving.proofs.StepLaws.{find_none}
 use Rattle.halving.proofs.HalvingLaws.{halving-finds}
 use Rattle.traces.specs.Trace.{record_count, records_at, names_at, trace_ok}
 use Rattle.traces.proofs.TraceLaws.{trace-fits}
 use Rattle.trace_records.specs.Record.{agrees}
 use Rattle.replay.specs.Reports.{first_wrong, replay}
-use Rattle.replay.specs.declared.Report.{Report}
 use Rattle.zone_starts.specs.Starts.{starts_of}
 use Rattle.starts.specs.Table.{entries_of, filled_at, FillsFrom}
-use Rattle.starts.specs.declared.Filling.{Filling}
 use Rattle.differences.specs.Difference.{differences, difference, filled, Gives as GivesListing}
 use Rattle.differences.specs.Means.{Bounded}
-use Rattle.differences.specs.declared.Listing.{Listing}
-use Rattle.differences.specs.declared.Listing.TheVariants.{Listed, Refused as Unlisted}
 use Rattle.differences.proofs.MostLaws.{difference-bounded}
 use Rattle.closed_files.specs.File.{closed, unread_id, first_unread, given_sized, given_read, given, close_of}
-use Rattle.closed_files.specs.declared.Closed.{Closed}
 use Rattle.replies.specs.Reply.{Gives}
+use Rattle.replies.specs.Small.{SmallLength, SmallCount, SmallPair}
 use Rattle.replies.proofs.ReplyLaws.{gives_as}
 use Rattle.capi_contracts.specs.Functions.{FillsStarts, ListsDifference}
 use Rattle.tool_replies.specs.Functions.{filling_reply, listing_reply}
-use Rattle.tool_replies.specs.Small.{SmallSearch, SmallReport, SmallFilling, SmallListing, SmallClosed}
+use Rattle.tool_replies.specs.Small.{SmallReport}
 use Rattle.capi.proofs.PlaceLaws.{check-near}
 
 -- halving: an entry of the table, and 63 looks at most
-search-near : (xs : List ℤ) (z : ℤ) → length xs < 2 ^ 63 → SmallSearch (find_start xs z)
+search-near : (xs : List ℤ) (z : ℤ) → length xs < 2 ^ 63 → SmallPair (find_start xs z)
 search-near xs z l =
     by_order 0 (length xs)
     (λ h.
     let f = halving-finds xs z h in
-    subst⁻¹ SmallSearch f.is (record { to = (omega (arith, f.inside), omega (arith, f.looks 63 (omega arith))) }))
-    (λ h. subst SmallSearch (find_none xs z (omega arith)) (record { to = omega arith }))
+    subst⁻¹ SmallPair f.is (record { to = (omega (arith, f.inside), omega (arith, f.looks 63 (omega arith))) }))
+    (λ h. subst SmallPair (find_none xs z (omega arith)) (record { to = omega arith }))
 
-pub search-small : (xs : List ℤ) (z : ℤ) → length xs < 2 ^ 63 → (x : Search) → x ≡ find_start xs z → SmallSearch x
-search-small xs z l x e = subst⁻¹ SmallSearch e (search-near xs z l)
+pub search-small : (xs : List ℤ) (z : ℤ) → length xs < 2 ^ 63 → (x : Result (ℕ × ℕ) Fault) → x ≡ find_start xs z → SmallPair x
+search-small xs z l x e = subst⁻¹ SmallPair e (search-near xs z l)
 
 -- replay: the number of a record, which lies in the trace
 module _ (f : List ℕ) (names : ℕ) (s : List ℕ) where
@@ -76,43 +72,43 @@ replay-near f s l =
     (λ e. wrong-near f (names_at s) s (record_count s) 0 (records_at s) (omega (arith, (trace-fits s e).recorded)))
     (λ e. record { to = omega arith })
 
-pub report-small : (f s : List ℕ) → length s < 2 ^ 63 → (x : Report) → x ≡ replay f s → SmallReport x
+pub report-small : (f s : List ℕ) → length s < 2 ^ 63 → (x : Result (Maybe ℕ) Fault) → x ≡ replay f s → SmallReport x
 report-small f s l x e = subst⁻¹ SmallReport e (replay-near f s l)
 
 -- the table of starts: no more entries than it has room for
-filled-near : (o : Out Pool Held) (d : List ℤ) → length d < 2 ^ 63 → Near o → SmallFilling (filled_at o d)
+filled-near : (o : Out Pool Held) (d : List ℤ) → length d < 2 ^ 63 → Near o → SmallCount (filled_at o d)
 unfolding entries_of
 filled-near (found v p) d l n =
     let xs = starts_of v.zone.body in
-    pick-holds SmallFilling (leb (length xs) (length d))
+    pick-holds SmallCount (leb (length xs) (length d))
     (λ e. record { to = omega (arith, leb-true (length xs) (length d) e) })
     (λ e. record { to = omega arith })
 filled-near (refused k p) d l n = record { to = n.to }
 filled-near (cut p) d l n = record { to = n.to }
 filled-near (ended m p) d l n = record { to = n.to }
 
-pub filling-small : (f id : List ℕ) (d : List ℤ) → length d < 2 ^ 63 → (x : Filling) → x ≡ filled_at (walk (holder id) no_pool f) d → SmallFilling x
+pub filling-small : (f id : List ℕ) (d : List ℤ) → length d < 2 ^ 63 → (x : Result ℕ Fault) → x ≡ filled_at (walk (holder id) no_pool f) d → SmallCount x
 filling-small f id d l x e =
-    subst⁻¹ SmallFilling e (filled-near (walk (holder id) no_pool f) d l (walk-near (holder id) no_pool f))
+    subst⁻¹ SmallCount e (filled-near (walk (holder id) no_pool f) d l (walk-near (holder id) no_pool f))
 
-pub fills-starts : (f id : List ℕ) (d c : List ℤ) (x : Filling) (r : ℕ) (e n : List ℤ) → FillsFrom f id d x e
+pub fills-starts : (f id : List ℕ) (d c : List ℤ) (x : Result ℕ Fault) (r : ℕ) (e n : List ℤ) → FillsFrom f id d x e
     → Gives (filling_reply x) c r n → FillsStarts f id d c r e n
 fills-starts f id d c x r e n h g = record { gives = gives_as _ _ c r n (ap filling_reply h.0) g; table = h.1 }
 
 -- the difference
-bounded-small : (x : Listing) → Bounded x → SmallListing x
-bounded-small (Listed n) h = record { to = omega (arith, h.to) }
-bounded-small (Unlisted n p) h = record { to = h.to }
+bounded-small : (x : Result ℕ Fault) → Bounded x → SmallCount x
+bounded-small (Ok n) h = record { to = omega (arith, h.to) }
+bounded-small (Err (n, p)) h = record { to = h.to }
 
-pub listing-small : (f g id : List ℕ) (first last : ℤ) (room : ℕ) (x : Listing) → x ≡ difference f g id first last room → SmallListing x
+pub listing-small : (f g id : List ℕ) (first last : ℤ) (room : ℕ) (x : Result ℕ Fault) → x ≡ difference f g id first last room → SmallCount x
 listing-small f g id first last room x e =
-    subst⁻¹ SmallListing e (bounded-small (difference f g id first last room) (difference-bounded f g id first last room))
+    subst⁻¹ SmallCount e (bounded-small (difference f g id first last room) (difference-bounded f g id first last room))
 
-pub lists-difference : (f g id : List ℕ) (first last : ℤ) (d c : List ℤ) (x : Listing) (r : ℕ) (e n : List ℤ) → GivesListing f g id first last d x e
+pub lists-difference : (f g id : List ℕ) (first last : ℤ) (d c : List ℤ) (x : Result ℕ Fault) (r : ℕ) (e n : List ℤ) → GivesListing f g id first last d x e
     → Gives (listing_reply x) c r n → ListsDifference f g id first last d c r e n
 lists-difference f g id first last d c x r e n h k = record {
   gives = gives_as _ _ c r n (ap listing_reply h.result) k;
-  list = h.output ∙ ap (λ (y : Listing). filled y (differences f g id first last) d) h.result;
+  list = h.output ∙ ap (λ (y : Result ℕ Fault). filled y (differences f g id first last) d) h.result;
 }
 
 -- the closed file: a field ends no further than a file may
@@ -125,25 +121,25 @@ unread-near f (g ∷ gs) p a e = go (unread_id g.id) e (λ k. unread-near f gs p
     go true k rec = let w = all_head a in let z : g.place ≡ p = cc in omega (arith, w.starts, w.ends, w.limit)
     go false k rec = rec k
 
-sized-near : (xs d : List ℕ) → SmallClosed (given_sized xs d)
+sized-near : (xs d : List ℕ) → SmallLength (given_sized xs d)
 unfolding given_sized
 sized-near xs d =
-    pick-holds SmallClosed (ltb largest (length xs)) (λ e. record { to = omega arith })
-    (λ e. pick-holds SmallClosed (leb (length xs) (length d))
+    pick-holds SmallLength (ltb largest (length xs)) (λ e. record { to = omega arith })
+    (λ e. pick-holds SmallLength (leb (length xs) (length d))
     (λ h. record { to = ltb-false largest (length xs) e })
     (λ h. record { to = omega arith }))
 
-close-near : (f d : List ℕ) → SmallClosed (close_of f d)
+close-near : (f d : List ℕ) → SmallLength (close_of f d)
 unfolding close_of
 close-near f d = go (check_of f) refl
   where
-    read : (u : Option ℕ) → first_unread (fields f) ≡ u → SmallClosed (given_read u (closed f) d)
+    read : (u : Option ℕ) → first_unread (fields f) ≡ u → SmallLength (given_read u (closed f) d)
     read none e = sized-near (closed f) d
     read (some p) e = record { to = unread-near f (fields f) p (chain-fields f false 0 4 (fields f) (listing-chain f 255)) e }
 
-    go : (v : Verdict) → v ≡ check_of f → SmallClosed (given v (first_unread (fields f)) (closed f) d)
-    go (Ill n p) e = record { to = (check-near f (Ill n p) e).to }
-    go Good e = read (first_unread (fields f)) refl
+    go : (v : Result (Unit {0}) Fault) → v ≡ check_of f → SmallLength (given v (first_unread (fields f)) (closed f) d)
+    go (Err (n, p)) e = record { to = (check-near f (Err (n, p)) e).to }
+    go (Ok tt) e = read (first_unread (fields f)) refl
 
-pub closed-small : (f d : List ℕ) (x : Closed) → x ≡ close_of f d → SmallClosed x
-closed-small f d x e = subst⁻¹ SmallClosed e (close-near f d)
+pub closed-small : (f d : List ℕ) (x : Result ℕ Fault) → x ≡ close_of f d → SmallLength x
+closed-small f d x e = subst⁻¹ SmallLength e (close-near f d)

@@ -39,7 +39,7 @@ pub extern "C" fn nzd_normalize(file: &[u8], out: &mut [u8]) -> u64
     ensures { Normalizes file.now out.old result out.new }
 {
     let r = normalizing::normalize(file, out);
-    file_replies::rewritten_result(r)
+    replies::length_result(r)
 }
 
 // The marked question.
@@ -152,7 +152,7 @@ pub extern "C" fn nzd_list_answers(
     let v = zone_replies::zone_by(zone);
     let edition = file_replies::edition_of(first);
     let x = answer_lists::list_answers(file, v, ticks, edition, rows);
-    zone_replies::give_listed(x, count)
+    replies::give_count(x, count)
 }
 
 // The question over a table of a found zone's answers, whatever its rows are.
@@ -237,7 +237,7 @@ pub extern "C" fn nzd_version_text(file: &[u8], out: &mut [i64; 2]) -> u64
     ensures { Gives (version_reply (version_of file.now)) out.old result out.new }
 {
     let t = checks::version_text(file);
-    file_replies::give_version(t, out)
+    replies::give_pair(t, out)
 }
 
 // Where two whole files differ in one zone, over a window of instants: two numbers a stretch.
@@ -254,7 +254,7 @@ pub extern "C" fn nzd_difference(
     ensures { ListsDifference file.now other.now id.now first last out.old count.old result out.new count.new }
 {
     let x = file_differences::difference(file, other, id, first, last, out);
-    tool_replies::give_listing(x, count)
+    replies::give_count(x, count)
 }
 
 // The first record of a trace that a file contradicts.
@@ -277,7 +277,7 @@ pub extern "C" fn nzd_interval_starts(
     ensures { FillsStarts file.now id.now out.old count.old result out.new count.new }
 {
     let x = starts::fill_starts(file, id, out);
-    tool_replies::give_filling(x, count)
+    replies::give_count(x, count)
 }
 
 // The entry of a table that halving leaves for an instant.
@@ -286,7 +286,7 @@ pub extern "C" fn nzd_find_start(table: &[i64], instant: i64, out: &mut [i64; 2]
     ensures { Gives (search_reply (find_start table.now instant)) out.old result out.new }
 {
     let x = halving::find_start(table, instant);
-    tool_replies::give_search(x, out)
+    replies::give_pair(x, out)
 }
 
 // A whole file with its pool closed up.
@@ -295,7 +295,7 @@ pub extern "C" fn nzd_close_pool(file: &[u8], out: &mut [u8]) -> u64
     ensures { ClosesPool file.now out.old result out.new }
 {
     let x = closing::close_pool(file, out);
-    tool_replies::closed_result(x)
+    replies::length_result(x)
 }
 
 // Empties a receiver.
@@ -563,7 +563,7 @@ pub extern "C" fn nzd_old_read_dictionary(s: &[u8], out: &mut [i64; 2]) -> u64
     ensures { Gives (dictionary_reply (read_old_dictionary s.now)) out.old result out.new }
 {
     let f = old_entries::read_dictionary(s);
-    old_replies::give_dictionary(f, out)
+    replies::give_read(f, out)
 }
 
 #[unsafe(no_mangle)]

@@ -1,18 +1,17 @@
 -- What each C function says, by the definitions of the crates below. To be believed: what programs in C are told.
-use Rattle.std.specs.Prelude.{ℕ, ◌/◌, Bool, List, ◌≡◌, ℤ, length, get_or}
+use Rattle.found_zones.specs.declared.FoundZone.{FoundZone}
+use Rattle.base.specs.Coded.{Fault}
+use Rattle.std.specs.Prelude.{ℕ, ◌/◌, Bool, List, ◌≡◌, ℤ, length, get_or, Result}
 use Rattle.base.specs.Writing.{Form}
 use Rattle.transitions.specs.Transition.{moment_form}
 use Rattle.frames.specs.Machine.{walk}
 use Rattle.answers.specs.Answers.{no_pool}
 use Rattle.locate.specs.Asked.{holder}
 use Rattle.found_zones.specs.FoundZone.{FindsZone}
-use Rattle.found_zones.specs.declared.Finding.{Finding}
 use Rattle.answer_tables.specs.Lists.{ListsAnswers}
-use Rattle.answer_tables.specs.declared.Listed.{Listed}
 use Rattle.zone_replies.specs.Zones.{GivesZone, zone_by, listed_reply}
 use Rattle.rewrite.specs.Preferred.{rewrite_of, output_of}
 use Rattle.wall_times.specs.WallTime.{MapsTo}
-use Rattle.wall_times.specs.declared.Mapping.{Mapping}
 use Rattle.zone_wall_times.specs.ZoneMapping.{MapsZone}
 use Rattle.starts.specs.Table.{filled_at, table_at}
 use Rattle.differences.specs.Difference.{differences, difference, filled}
@@ -33,27 +32,27 @@ pub record Normalizes (f d : List ℕ) (r : ℕ) (e : List ℕ) : Type 0 where
 -- the result r and the output e at the return of finding a zone, where the output was d: what was found is said by the questions
 -- (FindsZone in found_zones)
 pub record FindsFoundZone (f id d : List ℕ) (r : ℕ) (e : List ℕ) : Type 0 where
-  pub finding : Finding
+  pub finding : Result FoundZone Fault
   pub finds : FindsZone f id finding
   pub gives : GivesZone finding d r e
 
 -- the result r, the table e and the count n at the return of listing the answers of the found zone whose numbers are b, whatever they are, from a tick
 -- on, where table and count were d and c
 pub record ListsZoneAnswers (f b : List ℕ) (z : ℤ) (first : Bool) (d c : List ℤ) (r : ℕ) (e n : List ℤ) : Type 0 where
-  pub listed : Listed
+  pub listed : Result ℕ Fault
   pub lists : ListsAnswers f (zone_by b) z (edition_of first) d listed e
   pub gives : Gives (listed_reply listed) c r n
 
 -- the result r and the output e at the return of a local time's mapping, where the output was d. MapsTo leaves one mapping (map-one in
 -- wall_times)
 pub record MapsLocal (f id : List ℕ) (local : ℤ) (d : List ℤ) (r : ℕ) (e : List ℤ) : Type 0 where
-  pub mapping : Mapping
+  pub mapping : Result (ℕ × ℤ × ℤ) Fault
   pub maps : MapsTo f id local mapping
   pub gives : Gives (mapping_reply mapping) d r e
 
 -- the same of the found zone whose numbers are c, whatever they are (one-mapping in wall_times: MapsZone leaves one mapping)
 pub record MapsZoneLocal (f c : List ℕ) (local : ℤ) (d : List ℤ) (r : ℕ) (e : List ℤ) : Type 0 where
-  pub mapping : Mapping
+  pub mapping : Result (ℕ × ℤ × ℤ) Fault
   pub maps : MapsZone f (zone_by c) local mapping
   pub gives : Gives (mapping_reply mapping) d r e
 

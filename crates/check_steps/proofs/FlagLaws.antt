@@ -1,4 +1,6 @@
 -- What the flags of a file's zones say, from field to field. Assumes nothing.
+use Rattle.base.specs.declared.Refusal.{Refusal}
+use Rattle.std.specs.Prelude.{Ok, Result}
 use mathlib.Core.Path.{◌≡◌, refl, sym, ◌∙◌, ap, subst}
 use mathlib.Core.Bool.{true, false}
 use mathlib.Core.List.{List, [], ◌∷◌, ◌++◌, append-nil, append_assoc}
@@ -29,13 +31,11 @@ use Rattle.field_checks.specs.declared.Conclusion.{Conclusion}
 use Rattle.field_checks.specs.declared.Conclusion.TheVariants.{Refused as Ill, Bare, WithText}
 use Rattle.field_readers.specs.declared.Kept.{Kept}
 use Rattle.check_steps.specs.declared.Cursor.{Cursor}
-use Rattle.field_readers.specs.declared.Taken.{Taken}
-use Rattle.field_readers.specs.declared.Taken.TheVariants.{Keep}
 use Rattle.check_steps.specs.declared.Turn.{Turn}
 use Rattle.check_steps.specs.declared.Turn.TheVariants.{Done, Next}
 
 -- a walk that stops
-pub flags-refused : (s : List ℕ) (c : Cursor) (flags flags' : List ℕ) (n p : ℕ) → FlagsStepped s c flags flags' (Done (Ill n p))
+pub flags-refused : (s : List ℕ) (c : Cursor) (flags flags' : List ℕ) (n : Refusal) (p : ℕ) → FlagsStepped s c flags flags' (Done (Ill n p))
 flags-refused s c flags flags' n p = record { means = λ g. tt }
 
 -- one frame
@@ -86,8 +86,8 @@ module _ (s : List ℕ) (c : Cursor) (flags : List ℕ) (f : Frame)
             };
       }
 
-  pub flags-field : (i n m : ℕ) (k : Kept) (flags' : List ℕ) (r : Taken) → f ≡ Whole i n m
-      → FlagsTaken s i (c.at + n) (c.at + (n + m)) flags flags' r → r ≡ Keep k
+  pub flags-field : (i n m : ℕ) (k : Kept) (flags' : List ℕ) (r : Result Kept Refusal) → f ≡ Whole i n m
+      → FlagsTaken s i (c.at + n) (c.at + (n + m)) flags flags' r → r ≡ Ok k
       → FlagsStepped s c flags flags' (Next (record { at = c.at + (n + m); prev = i; kept = k }))
   flags-field i n m k flags' r q t e =
       record {

@@ -1,4 +1,6 @@
 -- Behind a field with an ID above 7 the check reads nothing more, so its walk goes on from where the whole fields end. Assumes nothing.
+use Rattle.std.specs.declared.option.Option.TheVariants.{None}
+use Rattle.std.specs.Prelude.{Ok}
 use mathlib.Core.Path.{◌≡◌, refl, sym, ◌∙◌, ap, subst}
 use mathlib.Core.Bool.{Bool, true, false}
 use mathlib.Core.List.{List}
@@ -19,7 +21,6 @@ use Rattle.extents.specs.Extent.{behind_frame, step_of, steps, extent_of}
 use Rattle.extents.specs.declared.Extent.{Extent}
 use Rattle.field_checks.specs.Check.{Memory, job}
 use Rattle.field_readers.specs.declared.Kept.{Kept}
-use Rattle.field_readers.specs.declared.Taken.TheVariants.{Keep}
 use Rattle.field_readers.proofs.TakeLaws.{field-other}
 use Rattle.field_readers.proofs.FlagLaws.{flags-other}
 use Rattle.check_steps.specs.Cursor.{seen_at, state_of, Represents, Onward, Stepped}
@@ -74,7 +75,7 @@ module _ (s : List ℕ) (k : Kept) where
   field-passes x b i u n e =
       let d = whole-headed 255 x.at (ltb 4 x.at) x.prev (drop x.at s) i u n e in
       let r = whole_room 255 x.at (ltb 4 x.at) x.prev (drop x.at s) i u n (sym e) in
-      let o : order true x.prev i ≡ 0 = rw (lt-ltb 4 x.at b.past) at d.ordered in
+      let o : order true x.prev i ≡ None = rw (lt-ltb 4 x.at b.past) at d.ordered in
       let g : 7 < i = omega (arith, b.above, (order-follows x.prev i o).rising) in
       let h : frame 255 x.at (ltb 4 x.at) x.prev (take (length s - x.at) (drop x.at s)) ≡ Whole i u n
       = ap (frame 255 x.at (ltb 4 x.at) x.prev) (part-from x.at s) ∙ e in (
@@ -83,10 +84,10 @@ module _ (s : List ℕ) (k : Kept) where
           walks = λ ix od y hd.
               let t = field-other s k i (x.at + u) (x.at + (u + n)) ix od (λ z. omega arith) (λ z. omega arith) hd.indexed (λ z. omega arith) (λ z. omega arith)
               (λ z. omega arith) (λ z. omega arith) in
-              let w = (step-keep s (cursor_at k x) ix od _ refl i u n h ix od (Keep k) t (λ z. absurd (omega arith)) k refl).means y hd in
+              let w = (step-keep s (cursor_at k x) ix od _ refl i u n h ix od (Ok k) t (λ z. absurd (omega arith)) k refl).means y hd in
               record { memory = w.memory; holds = w.holds; farther = omega arith; same = w.same };
           flags = λ fl q.
-              (flags-field s (cursor_at k x) fl _ refl i u n k fl (Keep k) h (flags-other s i (x.at + u) (x.at + (u + n)) fl (Keep k) (λ z. omega arith)) refl).means q;
+              (flags-field s (cursor_at k x) fl _ refl i u n k fl (Ok k) h (flags-other s i (x.at + u) (x.at + (u + n)) fl (Ok k) (λ z. omega arith)) refl).means q;
         },
       )
 

@@ -1,4 +1,8 @@
 -- One frame of the walk, a law for each way out of the code, and the walk from step to step. Assumes nothing.
+use Rattle.std.specs.declared.option.Option.TheVariants.{None}
+use Rattle.base.specs.declared.Refusal.{Refusal}
+use Rattle.std.specs.Prelude.{Err, Ok, Result}
+use Rattle.base.specs.declared.Refusal.TheVariants.{CutShort}
 use mathlib.Core.Path.{◌≡◌, refl, sym, ◌∙◌, ap}
 use mathlib.Core.Bool.{Bool, true, false}
 use mathlib.Core.List.{List, [], ◌∷◌}
@@ -28,19 +32,17 @@ use Rattle.field_checks.specs.declared.Conclusion.{Conclusion}
 use Rattle.field_checks.specs.declared.Conclusion.TheVariants.{Refused as Ill, Bare, WithText}
 use Rattle.field_readers.specs.declared.Kept.{Kept}
 use Rattle.check_steps.specs.declared.Cursor.{Cursor}
-use Rattle.field_readers.specs.declared.Taken.{Taken}
-use Rattle.field_readers.specs.declared.Taken.TheVariants.{Refused, Keep}
 use Rattle.check_steps.specs.declared.Turn.{Turn}
 use Rattle.check_steps.specs.declared.Turn.TheVariants.{Done, Next}
 
 -- what the definition says where the code refuses, or keeps
 module _ (s ix od : List ℕ) where
-  says-bad : (x : Content Memory ⊥) (m : ℕ) → Says s ix od x (Refused m) → x ≡ bad m
+  says-bad : (x : Content Memory ⊥) (m : Refusal) → Says s ix od x (Err m) → x ≡ bad m
   says-bad (bad n) m h = ap bad (sym h)
   says-bad (answer v) m h = absurd v
   says-bad (keep y) m h = absurd h
 
-  says-keep : (x : Content Memory ⊥) (k : Kept) → Says s ix od x (Keep k)
+  says-keep : (x : Content Memory ⊥) (k : Kept) → Says s ix od x (Ok k)
       → (y : Memory) × (x ≡ keep y) × Indexed s k ix × Stands s k od y
   says-keep (bad n) k h = absurd h
   says-keep (answer v) k h = absurd v
@@ -53,7 +55,7 @@ first_frame last at prev [] = refl
 first_frame last at prev (i ∷ r) = refl
 
 -- the field 0 comes first
-zero-first : (seen : Bool) (prev i : ℕ) → order seen prev i ≡ 0 → i ≡ 0 → seen ≡ false
+zero-first : (seen : Bool) (prev i : ℕ) → order seen prev i ≡ None → i ≡ 0 → seen ≡ false
 zero-first true prev i o z = absurd (omega (arith, (order-follows prev i o).some))
 zero-first false prev i o z = refl
 
@@ -75,10 +77,10 @@ module _ (s : List ℕ) (c : Cursor) (ix od : List ℕ) (f : Frame)
             rw (from-end job c.at rest seen c.prev y (here End q)) (e ∙ ap (λ (t : TextPlace). concluded t c.at) (sym hd.stands.text));
       }
 
-  pub step_cut : f ≡ Cut → Stepped s c ix od ix od (Done (Ill 2 c.at))
+  pub step_cut : f ≡ Cut → Stepped s c ix od ix od (Done (Ill CutShort c.at))
   step_cut q = record { means = λ y hd. rw (from_cut job c.at rest seen c.prev y (here Cut q)) refl }
 
-  pub step-refused : (n : ℕ) → f ≡ Unframed n → Stepped s c ix od ix od (Done (Ill n c.at))
+  pub step-refused : (n : Refusal) → f ≡ Unframed n → Stepped s c ix od ix od (Done (Ill n c.at))
   step-refused n q =
       record { means = λ y hd. rw (from-refused job c.at rest seen c.prev y n (here (Unframed n) q)) refl }
 
@@ -149,9 +151,9 @@ module _ (s : List ℕ) (c : Cursor) (ix od : List ℕ) (f : Frame)
         go : (at prev : ℕ) → at ≡ 4 → Whole i n m ≡ frame 255 at (seen_at at) prev (drop at s) → room_of (part s (at + n) (at + (n + m))) ≡ room_for s
         go at prev l h = rw l (ap (room_at s) (rw l at h ∙ first_frame 255 4 prev (drop 4 s)))
 
-    module _ (ix' od' : List ℕ) (r : Taken)
+    module _ (ix' od' : List ℕ) (r : Result Kept Refusal)
         (t : TookField s c.kept i (c.at + n) (c.at + (n + m)) ix od ix' od' r) (wide : i ≡ 0 → Wide ix od) where
-      pub step-bad : (k : ℕ) → r ≡ Refused k → Stepped s c ix od ix' od' (Done (Ill k c.at))
+      pub step-bad : (k : Refusal) → r ≡ Err k → Stepped s c ix od ix' od' (Done (Ill k c.at))
       step-bad k e =
           record {
             means = λ y hd.
@@ -159,7 +161,7 @@ module _ (s : List ℕ) (c : Cursor) (ix od : List ℕ) (f : Frame)
                 rw (from-bad job c.at rest seen c.prev y i n m (here (Whole i n m) q) k (content-is y (bad k) w)) refl;
           }
 
-      pub step-keep : (k : Kept) → r ≡ Keep k
+      pub step-keep : (k : Kept) → r ≡ Ok k
           → Stepped s c ix od ix' od' (Next (record { at = c.at + (n + m); prev = i; kept = k }))
       step-keep k e =
           record {

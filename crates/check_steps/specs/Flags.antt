@@ -1,14 +1,13 @@
 -- What an array of flags says of a file's zones, from step to step. The code's way: internal functions alone use it; what the flags are for, the
 -- rewriter's result, is said by rewrite's Preferred.antt.
-use Rattle.std.specs.Prelude.{ℕ, ◌-◌, ◌≤◌, ◌<◌, ◌≡◌, List, ◌++◌, length, drop}
+use Rattle.base.specs.Coded.{Fault}
+use Rattle.std.specs.Prelude.{ℕ, ◌-◌, ◌≤◌, ◌<◌, ◌≡◌, List, ◌++◌, length, drop, Ok, Result}
 use Rattle.base.specs.All.{All}
 use Rattle.pieces.specs.Form.{Flagged}
 use Rattle.frames.specs.Frame.{Field}
 use Rattle.frames.specs.Fields.{scan, fields}
 use Rattle.field_checks.specs.declared.Conclusion.{Conclusion}
 use Rattle.field_checks.specs.declared.Conclusion.TheVariants.{Refused as Ill, Bare, WithText}
-use Rattle.field_checks.specs.declared.Verdict.{Verdict}
-use Rattle.field_checks.specs.declared.Verdict.TheVariants.{Good}
 use Rattle.check_steps.specs.Cursor.{seen_at}
 use Rattle.check_steps.specs.declared.Cursor.{Cursor}
 use Rattle.check_steps.specs.declared.Turn.{Turn}
@@ -47,5 +46,5 @@ pub record FlagsStepped (s : List ℕ) (c : Cursor) (flags flags' : List ℕ) (t
 pub record FlagsWalked (s flags : List ℕ) (x : Conclusion) : Type 0 where
   pub means : FlagsBehind s flags x
 
-pub record FlagsChecked (s flags : List ℕ) (v : Verdict) : Type 0 where
-  pub means : v ≡ Good → AllFlagged s flags
+pub record FlagsChecked (s flags : List ℕ) (v : Result (Unit {0}) Fault) : Type 0 where
+  pub means : v ≡ Ok tt → AllFlagged s flags

@@ -10,57 +10,48 @@ ghost use Rattle.check_steps.specs.Room.{room_for};
 ghost use Rattle.check_steps.specs.Passed.{passed};
 ghost use Rattle.check_steps.specs.Flags.{FlagsStepped};
 
-use aliases::Verdict as AliasVerdict;
+use base::Refusal;
 use extents::Extent;
 use field_checks::Conclusion;
-use field_readers::{Kept, Taken};
+use field_readers::Kept;
 use frames::Frame;
-use locations::{FieldVerdict, LocationField};
-use lookups::ZoneForm;
-use pool::Checked;
-use texts::Text;
+use locations::LocationField;
 
 // Field 0, whose data go from a to e.
-pub fn take_pool(s: &[u8], k: Kept, a: usize, e: usize, index: &mut [u32]) -> Taken
+pub fn take_pool(s: &[u8], k: Kept, a: usize, e: usize, index: &mut [u32]) -> Result<Kept, Refusal>
     requires { (a ≤ e) × (e ≤ length s.now) × (room_of (part s.now a e) ≤ length index.old) }
     ensures { TookPool s.now k a e index.old index.new result }
 {
     let c = pool::check_pool(&s[a..e], index);
-    match c {
-        Checked::Refused(n) => Taken::Refused(n),
-        Checked::Strings(n) => Taken::Keep(Kept {
-            start: a,
-            end: e,
-            count: n,
-            zones: 0,
-            text: k.text,
-            len: k.len,
-        }),
-    }
+    let n = c?;
+    Ok(Kept {
+        start: a,
+        end: e,
+        count: n,
+        zones: 0,
+        text: k.text,
+        len: k.len,
+    })
 }
 
 // Field 2, whose data go from a to e.
-pub fn take_text(s: &[u8], k: Kept, a: usize, e: usize) -> Taken
+pub fn take_text(s: &[u8], k: Kept, a: usize, e: usize) -> Result<Kept, Refusal>
     requires { (a ≤ e) × (e ≤ length s.now) }
     ensures { TookText s.now k a e result }
 {
     let t = texts::read_text(&s[a..e]);
-    match t {
-        Text::Refused(n) => Taken::Refused(n),
-        Text::Part(b, n) => {
-            if b + n != e - a {
-                return Taken::Refused(9);
-            }
-            Taken::Keep(Kept {
-                start: k.start,
-                end: k.end,
-                count: k.count,
-                zones: k.zones,
-                text: a + b,
-                len: n,
-            })
-        }
+    let (b, n) = t?;
+    if b + n != e - a {
+        return Err(Refusal::BadData);
     }
+    Ok(Kept {
+        start: k.start,
+        end: k.end,
+        count: k.count,
+        zones: k.zones,
+        text: a + b,
+        len: n,
+    })
 }
 
 // A field 1, whose data go from a to e. Whether they are in their preferred form is looked at where there are flags for it.
@@ -72,54 +63,56 @@ pub fn take_zone(
     index: &[u32],
     order: &mut [u16],
     flags: &mut [u8],
-) -> Taken
+) -> Result<Kept, Refusal>
     requires { (a ≤ e) × (e ≤ length s.now) × Indexed s.now k index.now × Ordered s.now k order.old }
     ensures { TookZone s.now k a e index.now order.old order.new result × FlagsTaken s.now 1 a e flags.old flags.new result }
 {
     let v = zone_reads::check_form(&s[a..e], k.count as u64, 0 < flags.len());
-    match v {
-        ZoneForm::Refused(n) => Taken::Refused(n),
-        ZoneForm::Good(id, preferred) => {
-            let p = k.start;
-            let q = k.end;
-            if ids::take_string(&s[p..q], index, order, k.zones, id as usize) {
-                return Taken::Refused(13);
-            }
-            let _ = field_readers::set_flag(flags, id as usize, preferred);
-            Taken::Keep(Kept {
-                start: p,
-                end: q,
-                count: k.count,
-                zones: k.zones + 1,
-                text: k.text,
-                len: k.len,
-            })
-        }
+    let (id, preferred) = v?;
+    let p = k.start;
+    let q = k.end;
+    if ids::take_string(&s[p..q], index, order, k.zones, id as usize) {
+        return Err(Refusal::SecondZone);
     }
+    let _ = field_readers::set_flag(flags, id as usize, preferred);
+    Ok(Kept {
+        start: p,
+        end: q,
+        count: k.count,
+        zones: k.zones + 1,
+        text: k.text,
+        len: k.len,
+    })
 }
 
 // Field 3, whose data go from a to e.
-fn take_aliases(s: &[u8], k: Kept, a: usize, e: usize, index: &[u32]) -> Taken
+fn take_aliases(s: &[u8], k: Kept, a: usize, e: usize, index: &[u32]) -> Result<Kept, Refusal>
     requires { (a ≤ e) × (e ≤ length s.now) × Indexed s.now k index.now }
     ensures { TookAliases s.now k a e index.now result }
 {
     let p = k.start;
     let q = k.end;
     match aliases::check(&s[p..q], index, k.count, &s[a..e]) {
-        AliasVerdict::Refused(n) => Taken::Refused(n),
-        AliasVerdict::Good => Taken::Keep(k),
+        Err(n) => Err(n),
+        Ok(()) => Ok(k),
     }
 }
 
 // Field 6 or 7, whose data go from a to e.
-fn take_locations(s: &[u8], k: Kept, a: usize, e: usize, field: LocationField) -> Taken
+fn take_locations(
+    s: &[u8],
+    k: Kept,
+    a: usize,
+    e: usize,
+    field: LocationField,
+) -> Result<Kept, Refusal>
     requires { (a ≤ e) × (e ≤ length s.now) }
     ensures { TookLocations s.now k a e field result }
 {
     let v = location_reads::check(&s[a..e], field, k.count as u64);
     match v {
-        FieldVerdict::Refused(n) => Taken::Refused(n),
-        FieldVerdict::Good => Taken::Keep(k),
+        Err(n) => Err(n),
+        Ok(()) => Ok(k),
     }
 }
 
@@ -133,7 +126,7 @@ pub fn take_field(
     index: &mut [u32],
     order: &mut [u16],
     flags: &mut [u8],
-) -> Taken
+) -> Result<Kept, Refusal>
     requires { (a ≤ e) × (e ≤ length s.now) × Indexed s.now k index.old × Ordered s.now k order.old × (i ≡ 0 → room_of (part s.now a e) ≤ length index.old) }
     ensures { TookField s.now k i a e index.old order.old index.new order.new result × FlagsTaken s.now i a e flags.old flags.new result }
 {
@@ -155,7 +148,7 @@ pub fn take_field(
     if i == 7 {
         return take_locations(s, k, a, e, LocationField::Zone1970);
     }
-    Taken::Keep(k)
+    Ok(k)
 }
 
 // A place between frames, the ID of the field before it, and what is remembered. A field came before it where it is past the version's end.
@@ -226,7 +219,7 @@ pub fn step(s: &[u8], c: Cursor, index: &mut [u32], order: &mut [u16], flags: &m
     let f = headers::next_frame(&s[at..], 255, at, 4 < at, c.prev);
     match f {
         Frame::End => Turn::Done(field_readers::conclude(at, kept)),
-        Frame::Cut => Turn::Done(Conclusion::Refused(2, at)),
+        Frame::Cut => Turn::Done(Conclusion::Refused(Refusal::CutShort, at)),
         Frame::Refused(n) => Turn::Done(Conclusion::Refused(n, at)),
         Frame::Version => Turn::Next(Cursor {
             at: at + 4,
@@ -237,8 +230,8 @@ pub fn step(s: &[u8], c: Cursor, index: &mut [u32], order: &mut [u16], flags: &m
             let e = at + (h + n);
             let t = take_field(s, kept, i, at + h, e, index, order, flags);
             match t {
-                Taken::Refused(m) => Turn::Done(Conclusion::Refused(m, at)),
-                Taken::Keep(k) => {
+                Err(m) => Turn::Done(Conclusion::Refused(m, at)),
+                Ok(k) => {
                     let d = Cursor {
                         at: e,
                         prev: i as usize,

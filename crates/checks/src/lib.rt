@@ -6,8 +6,9 @@ ghost use Rattle.field_checks.specs.Check.{conclusion, check_of, version_of};
 ghost use Rattle.check_steps.specs.Room.{room_for, Started};
 ghost use Rattle.check_steps.specs.Flags.{FlagsWalked, FlagsChecked};
 
+use base::{Fault, Refusal};
 use check_steps::{Cursor, Turn};
-use field_checks::{Conclusion, Verdict, VersionText};
+use field_checks::Conclusion;
 use field_readers::Kept;
 
 // The walk over a whole file, which leaves the flags of its zones, with arrays that have room for the strings of its pool.
@@ -70,34 +71,34 @@ fn walk(s: &[u8], flags: &mut [u8]) -> Conclusion
 }
 
 // The check of a whole file, which leaves the flags of its zones, by the numbers of their IDs in the pool.
-pub fn check_flags(s: &[u8], flags: &mut [u8]) -> Verdict
+pub fn check_flags(s: &[u8], flags: &mut [u8]) -> Result<(), Fault>
     ensures { (result ≡ check_of s.now) × FlagsChecked s.now flags.new result }
 {
     let x = walk(s, flags);
     match x {
-        Conclusion::Refused(n, p) => Verdict::Refused(n, p),
-        Conclusion::Bare(_) => Verdict::Good,
-        Conclusion::WithText(_, _) => Verdict::Good,
+        Conclusion::Refused(n, p) => Err((n, p)),
+        Conclusion::Bare(_) => Ok(()),
+        Conclusion::WithText(_, _) => Ok(()),
     }
 }
 
 // The check of a whole file. Without flags no zone's form is looked at.
-pub fn check(s: &[u8]) -> Verdict
+pub fn check(s: &[u8]) -> Result<(), Fault>
     ensures { result ≡ check_of s.now }
 {
     let mut flags = [0u8; 0];
     check_flags(s, &mut flags)
 }
 
-// The version text of a file, all checked first.
-pub fn version_text(s: &[u8]) -> VersionText
+// The version text of a file, all checked first: the place of its first byte, and how many bytes it has.
+pub fn version_text(s: &[u8]) -> Result<(usize, usize), Fault>
     ensures { result ≡ version_of s.now }
 {
     let mut flags = [0u8; 0];
     let x = walk(s, &mut flags);
     match x {
-        Conclusion::Refused(n, p) => VersionText::Refused(n, p),
-        Conclusion::Bare(p) => VersionText::Refused(12, p),
-        Conclusion::WithText(a, n) => VersionText::Part(a, n),
+        Conclusion::Refused(n, p) => Err((n, p)),
+        Conclusion::Bare(p) => Err((Refusal::NotFound, p)),
+        Conclusion::WithText(a, n) => Ok((a, n)),
     }
 }

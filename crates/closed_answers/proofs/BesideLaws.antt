@@ -1,5 +1,6 @@
 -- TWO JOBS SIDE BY SIDE, over two files whose fields go together one by one: where what they make of two such fields is the same as far as what they
 -- remember and answer is related, so is what they come to, places aside. Assumes nothing.
+use Rattle.base.specs.declared.Refusal.{Refusal}
 use mathlib.Core.Path.{◌≡◌, refl, ap, subst, subst⁻¹, sym}
 use mathlib.Core.Bool.{Bool, true, false}
 use mathlib.Core.List.{List, [], ◌∷◌}
@@ -24,13 +25,13 @@ pub data Pairs {A B : Type 0} (R : A → B → Type 0) : List A → List B → T
 
 module _ {M N A B : Type 0} (R : M → N → Type 0) (Q : A → B → Type 0) where
   pub data SameContent : Content M A → Content N B → Type 0 where
-    both-bad : {n : ℕ} → SameContent (bad n) (bad n)
+    both-bad : {n : Refusal} → SameContent (bad n) (bad n)
     both-answer : {v : A} {w : B} → Q v w → SameContent (answer v) (answer w)
     both-keep : {m : M} {n : N} → R m n → SameContent (keep m) (keep n)
 
   pub data SameOut : Out M A → Out N B → Type 0 where
     both_found : {v : A} {w : B} {p q : ℕ} → Q v w → SameOut (found v p) (found w q)
-    both-refused : {n p q : ℕ} → SameOut (refused n p) (refused n q)
+    both-refused : {n : Refusal} {p q : ℕ} → SameOut (refused n p) (refused n q)
     both-cut : {p q : ℕ} → SameOut (cut p) (cut q)
     both-ended : {m : M} {n : N} {p q : ℕ} → R m n → SameOut (ended m p) (ended n q)
 

@@ -1,5 +1,8 @@
 -- THE CHECK, on two files whose fields say the same one by one: where it takes the first, it takes the second, and the version texts are the same.
 -- Assumes nothing.
+use Rattle.base.specs.declared.Refusal.{Refusal}
+use Rattle.base.specs.declared.Refusal.TheVariants.{BadData, SecondZone}
+use Rattle.std.specs.Prelude.{Err, Ok, Result}
 use mathlib.Core.Path.{◌≡◌, refl, sym, ap, ◌∙◌, subst⁻¹}
 use mathlib.Core.Bool.{Bool, true, false}
 use mathlib.Core.List.{List, [], ◌∷◌}
@@ -12,8 +15,6 @@ use Rattle.base.specs.Pick.{pick}
 use Rattle.base.specs.Parsed.{got}
 use Rattle.base.proofs.Tests.{clash}
 use Rattle.texts.specs.Text.{read_text}
-use Rattle.texts.specs.declared.Text.{Text}
-use Rattle.texts.specs.declared.Text.TheVariants.{Part, Refused as Untext}
 use Rattle.pool.specs.Pool.{parse_pool}
 use Rattle.ids.specs.Ids.{among}
 use Rattle.zones.specs.Content.{Zone}
@@ -79,7 +80,7 @@ module _ (f h : List ℕ) (ts us : List (List ℕ)) where
     unfolding new_id
     id_same x = rw (ap (among x) r.ids) (go (among x m.ids))
       where
-        go : (t : Bool) → Same (pick t (bad 13) (keep (with_id m x))) (pick t (bad 13) (keep (with_id n x)))
+        go : (t : Bool) → Same (pick t (bad SecondZone) (keep (with_id m x))) (pick t (bad SecondZone) (keep (with_id n x)))
         go true = both-bad
         go false = both-keep (record { pool = r.pool; pool' = r.pool'; ids = ap (λ (l : List (List ℕ)). x ∷ l) r.ids; text = r.text })
 
@@ -93,8 +94,8 @@ module _ (f h : List ℕ) (ts us : List (List ℕ)) where
     unfolding text_kept
     text-checked g k i j o p e = go (read_text g.body) refl
       where
-        two : (b v : ℕ) → read_text g.body ≡ Part b v → (t : Bool) → eqb (b + v) (length g.body) ≡ t
-            → Same (pick t (keep (with_text m (placed (g.start + b) v))) (bad 9)) (pick t (keep (with_text n (placed (k.start + b) v))) (bad 9))
+        two : (b v : ℕ) → read_text g.body ≡ Ok (b, v) → (t : Bool) → eqb (b + v) (length g.body) ≡ t
+            → Same (pick t (keep (with_text m (placed (g.start + b) v))) (bad BadData)) (pick t (keep (with_text n (placed (k.start + b) v))) (bad BadData))
         two b v q true s =
             let w = eqb-true (b + v) (length g.body) s in
             let x : InField g (g.start + b) v = record { is-text = i; behind = b; read = q; place = refl; whole = w } in
@@ -104,9 +105,9 @@ module _ (f h : List ℕ) (ts us : List (List ℕ)) where
             both-keep (record { pool = r.pool; pool' = r.pool'; ids = r.ids; text = both-text u.1 u'.1 (u.0 ∙ sym (u'.0 ∙ rw e)) })
         two b v q false s = both-bad
 
-        go : (t : Text) → read_text g.body ≡ t → Same (text_in m g.start (length g.body) t) (text_in n k.start (length g.body) t)
-        go (Untext c) q = both-bad
-        go (Part b v) q = two b v q (eqb (b + v) (length g.body)) refl
+        go : (t : Result (ℕ × ℕ) Refusal) → read_text g.body ≡ t → Same (text_in m g.start (length g.body) t) (text_in n k.start (length g.body) t)
+        go (Err c) q = both-bad
+        go (Ok (b, v)) q = two b v q (eqb (b + v) (length g.body)) refl
 
     aliases-checked : (d e : List ℕ) → SameAliasData ts us d e → Same (aliases_kept m d) (aliases_kept n e)
     aliases-checked d e a =

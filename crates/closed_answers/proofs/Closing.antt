@@ -1,5 +1,8 @@
 -- CLOSING UP THE POOL KEEPS WHAT A FILE SAYS: "All mentions are renumbered, their total is unchanged, and every question answers as before, places
 -- aside." Assumes nothing.
+use Rattle.base.specs.declared.Refusal.TheVariants.{TooLarge, TooShort}
+use Rattle.base.specs.Coded.{Fault}
+use Rattle.std.specs.Prelude.{Err, Ok, Result}
 use mathlib.Core.Path.{◌≡◌, refl, sym, ap, ◌∙◌, subst, subst⁻¹}
 use mathlib.Core.Bool.{Bool, true, false}
 use mathlib.Core.List.{List, [], ◌∷◌, ◌++◌}
@@ -16,8 +19,6 @@ use Rattle.pool.specs.Pool.{parse_pool, strings_in}
 use Rattle.frames.specs.Frame.{largest, Field}
 use Rattle.frames.specs.Fields.{fields}
 use Rattle.field_checks.specs.Check.{check_of, file_pool, WellFormed}
-use Rattle.field_checks.specs.declared.Verdict.{Verdict}
-use Rattle.field_checks.specs.declared.Verdict.TheVariants.{Good, Refused as Ill}
 use Rattle.field_checks.proofs.WellFormedLaws.{well-formed-good, good-well-formed}
 use Rattle.use_order.specs.Order.{new_number}
 use Rattle.mentions.specs.Renumbers.{Renumbers}
@@ -25,7 +26,6 @@ use Rattle.mentioned_numbers.proofs.MentionedLaws.{file-below}
 use Rattle.closed_files.specs.File.{mentions_in, new_order, new_table, closed, unread_id, first_unread}
 use Rattle.closed_files.specs.File.{given_sized, left_sized, given, left, close_of, output_of}
 use Rattle.closed_files.specs.Again.{ClosedAs, closed_none, closed-also}
-use Rattle.closed_files.specs.declared.Closed.TheVariants.{Length, Refused}
 use Rattle.closed_files.proofs.AgainLaws.{mentions-renumbered, total_kept, closed-again}
 use Rattle.closed_answers.specs.Closed.{ClosesAsBefore, Closes}
 use Rattle.closed_answers.proofs.FieldsLaws.{closed_at, closed_from, closed-fields}
@@ -94,21 +94,21 @@ module _ (f : List ℕ) (w : WellFormed f) (b : Bytes f) (l : length (closed f) 
       }
 
 -- a result with a length: the file is good, has no field that isn't read, and the closed file is no larger than a file may be
-record Sized (xs d : List ℕ) (n : ℕ) (v : Verdict) (u : Option ℕ) (o : List ℕ) : Type 0 where
-  good : v ≡ Good
+record Sized (xs d : List ℕ) (n : ℕ) (v : Result (Unit {0}) Fault) (u : Option ℕ) (o : List ℕ) : Type 0 where
+  good : v ≡ Ok tt
   all_read : u ≡ none
   fits : length xs ≤ largest
   size : n ≡ length xs
   output : o ≡ xs ++ drop n d
 
-sized : (v : Verdict) (u : Option ℕ) (xs d : List ℕ) (n : ℕ) → given v u xs d ≡ Length n → Sized xs d n v u (left v u xs d)
+sized : (v : Result (Unit {0}) Fault) (u : Option ℕ) (xs d : List ℕ) (n : ℕ) → given v u xs d ≡ Ok n → Sized xs d n v u (left v u xs d)
 unfolding given_sized left_sized
-sized (Ill k p) u xs d n e = clash cc
-sized Good (some p) xs d n e = clash cc
-sized Good none xs d n e = go (ltb largest (length xs)) refl (leb (length xs) (length d)) e
+sized (Err (k, p)) u xs d n e = clash cc
+sized (Ok tt) (some p) xs d n e = clash cc
+sized (Ok tt) none xs d n e = go (ltb largest (length xs)) refl (leb (length xs) (length d)) e
   where
-    go : (t : Bool) → ltb largest (length xs) ≡ t → (r : Bool) → pick t (Refused 4 0) (pick r (Length (length xs)) (Refused 15 0)) ≡ Length n
-        → Sized xs d n Good none (pick t d (pick r (xs ++ drop (length xs) d) d))
+    go : (t : Bool) → ltb largest (length xs) ≡ t → (r : Bool) → pick {A = Result ℕ Fault} t (Err (TooLarge, 0)) (pick r (Ok (length xs)) (Err (TooShort, 0))) ≡ Ok n
+        → Sized xs d n (Ok tt) none (pick t d (pick r (xs ++ drop (length xs) d) d))
     go true h r k = clash cc
     go false h true k =
         let z : length xs ≡ n = cc in
@@ -118,7 +118,7 @@ sized Good none xs d n e = go (ltb largest (length xs)) refl (leb (length xs) (l
 -- and the other way: such a file, to an output with room
 module _ (f d : List ℕ) (w : WellFormed f) (u : first_unread (fields f) ≡ none) (fits : length (closed f) ≤ largest)
     (room : length (closed f) ≤ length d) where
-  close-given : close_of f d ≡ Length (length (closed f))
+  close-given : close_of f d ≡ Ok (length (closed f))
   unfolding close_of given_sized
   close-given = rw (well-formed-good f w, u, le-ltb largest (length (closed f)) fits, le-leb (length (closed f)) (length d) room)
 
@@ -127,7 +127,7 @@ module _ (f d : List ℕ) (w : WellFormed f) (u : first_unread (fields f) ≡ no
   close-left = rw (well-formed-good f w, u, le-ltb largest (length (closed f)) fits, le-leb (length (closed f)) (length d) room)
 
 -- ASK 14, CLOSING UP THE POOL: whatever file gets a length
-pub closing-keeps : (f d : List ℕ) (n : ℕ) → Bytes f → close_of f d ≡ Length n → Closes f d n
+pub closing-keeps : (f d : List ℕ) (n : ℕ) → Bytes f → close_of f d ≡ Ok n → Closes f d n
 unfolding close_of output_of
 closing-keeps f d n b e =
     let r = sized (check_of f) (first_unread (fields f)) (closed f) d n e in

@@ -1,5 +1,6 @@
 -- A file that meets the premises: two zones, a version text, an alias and a location, whose strings change places. Its closed file and the result are
 -- computed. Assumes nothing.
+use Rattle.std.specs.Prelude.{Ok}
 use mathlib.Core.Path.{◌≡◌, refl}
 use mathlib.Core.List.{List, [], ◌∷◌}
 use Prim.Native.Nat.{ℕ}
@@ -31,7 +32,6 @@ use Rattle.mentions.specs.Walk.{behind_offset, behind_id, location_names, before
 use Rattle.mentions.specs.Content.{parse_mention, content_from, numbers_in, print_mentions, print}
 use Rattle.closed_files.specs.File.{mentions_in, chosen, write_texts, write_pool, write_field, closed_data, closed_fields, closed_file, closed}
 use Rattle.closed_files.specs.File.{unread_id, first_unread, given_sized, close_of}
-use Rattle.closed_files.specs.declared.Closed.TheVariants.{Length}
 use Rattle.rewrite.proofs.Example.{small, small_bytes}
 use Rattle.closed_answers.specs.Closed.{Closes}
 use Rattle.closed_answers.proofs.Closing.{closing-keeps}
@@ -69,7 +69,7 @@ closed_is = refl
 abbrev pub room : List ℕ
 room = replicate 45 0
 
-sized-so : close_of file room ≡ Length 45
+sized-so : close_of file room ≡ Ok 45
 unfolding close_of given_sized unread_id first_unread conclusion walk iterate step act concluded pool_kept judged zone_kept new_id text_kept aliases_kept locations_kept among equal parse_zone after_id after_flag parse_fixed after_fixed_offset zone_of parse_name judge_name parse_aliases all_entries parse_entries parse_entry after_key keys parse_locations all_locations parse_location parse_texts parse_countries parse_country parse_number parse_seconds judge_seconds within unzigzag_of listing scan frame version zeros field sized order any_groups read_groups write_groups many counted all_strings ended chars text_sized insert sort_of mention mention_all keys_from numbers_of order_of numbered_from behind_offset behind_id location_names before_names before_pairs before_locations ahead_of first_stage parse_mention content_from numbers_in print_mentions print mentions_in chosen write_texts write_pool write_field closed_data closed_fields closed_file parse_byte read_sum
 sized-so = refl
 

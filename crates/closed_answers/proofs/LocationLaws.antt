@@ -1,4 +1,5 @@
 -- LOCATIONS, on two files whose fields say the same one by one: the answers are the same, places aside. Assumes nothing.
+use Rattle.std.specs.declared.option.Option.TheVariants.{Some}
 use mathlib.Core.Path.{◌≡◌, refl, sym, ap, ◌∙◌, subst⁻¹}
 use mathlib.Core.Bool.{Bool, true, false}
 use mathlib.Core.List.{List, ◌∷◌}
@@ -15,7 +16,6 @@ use Rattle.locations.specs.declared.LocationField.TheVariants.{Zone, Zone1970}
 use Rattle.frames.specs.Frame.{Field}
 use Rattle.frames.specs.Fields.{FieldOf, fields}
 use Rattle.field_search.specs.Search.{field_with, place_in, field_place}
-use Rattle.field_search.specs.declared.FieldPlace.TheVariants.{At}
 use Rattle.field_checks.specs.Check.{WellFormed}
 use Rattle.field_checks.proofs.WellFormedLaws.{well-formed-good}
 use Rattle.location_lookup.specs.Location.{lent_part, by_fields, in_file, location_of}
@@ -57,7 +57,7 @@ not-pool Zone = omega arith
 not-pool Zone1970 = omega arith
 
 -- field 0 is the first, and any other ID is behind it
-pool-place : (f : List ℕ) (g : Field) (gs : List Field) → fields f ≡ g ∷ gs → g.id ≡ 0 → field_place 0 f ≡ At g.place g.start g.past
+pool-place : (f : List ℕ) (g : Field) (gs : List Field) → fields f ≡ g ∷ gs → g.id ≡ 0 → field_place 0 f ≡ Some (g.place, g.start, g.past)
 unfolding field_with
 pool-place f g gs e i = rw (e, eq-eqb g.id 0 i)
 
@@ -79,15 +79,15 @@ module _ (f h : List ℕ) (ts us : List (List ℕ)) (s : SameFiles f h ts us) (f
       (go (field_with (id_of field) b.others) (field_with (id_of field) b.others')
       (with-pairs (SameField f h ts us) b.ids (id_of field) b.others b.others' b.pairs))
     where
-      pool : field_place 0 f ≡ At s.beside.first.place s.beside.first.start s.beside.first.past
+      pool : field_place 0 f ≡ Some (s.beside.first.place, s.beside.first.start, s.beside.first.past)
       pool = pool-place f s.beside.first s.beside.others s.beside.splits s.beside.is-first
 
-      pool' : field_place 0 h ≡ At s.beside.first'.place s.beside.first'.start s.beside.first'.past
+      pool' : field_place 0 h ≡ Some (s.beside.first'.place, s.beside.first'.start, s.beside.first'.past)
       pool' = pool-place h s.beside.first' s.beside.others' s.beside.splits' s.beside.is-first'
 
       go : (x y : Option Field) → Both (SameField f h ts us) (id_of field) x y
-          → SameAnswer f h (by_fields f field number (At s.beside.first.place s.beside.first.start s.beside.first.past) (place_in x))
-          (by_fields h field number (At s.beside.first'.place s.beside.first'.start s.beside.first'.past) (place_in y))
+          → SameAnswer f h (by_fields f field number (Some (s.beside.first.place, s.beside.first.start, s.beside.first.past)) (place_in x))
+          (by_fields h field number (Some (s.beside.first'.place, s.beside.first'.start, s.beside.first'.past)) (place_in y))
       go x y neither = record { means = refl }
       go x y (both_some {g = g} {k = k} a i) =
           let d = a.locations field i in

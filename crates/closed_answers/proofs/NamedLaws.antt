@@ -1,4 +1,7 @@
 -- THE NAMED QUESTION, on two files whose fields say the same one by one: the answers are the same, places aside. Assumes nothing.
+use Rattle.base.specs.declared.Refusal.{Refusal}
+use Rattle.base.specs.declared.Refusal.TheVariants.{BadData}
+use Rattle.std.specs.Prelude.{Err, Ok, Result}
 use mathlib.Core.Path.{◌≡◌, refl, ◌∙◌}
 use mathlib.Core.Bool.{Bool, true, false}
 use mathlib.Core.List.{List, [], ◌∷◌, ◌++◌}
@@ -16,8 +19,6 @@ use Rattle.base.specs.Parsed.{got}
 use Rattle.signed.specs.Instant.{instant_of}
 use Rattle.signed.proofs.IntegerLaws.{instant-finite}
 use Rattle.texts.specs.Text.{read_text}
-use Rattle.texts.specs.declared.Text.{Text}
-use Rattle.texts.specs.declared.Text.TheVariants.{Part, Refused as Untext}
 use Rattle.pool.specs.Pool.{parse_pool, strings_of}
 use Rattle.zones.specs.Content.{Zone}
 use Rattle.zones.specs.Parse.{parse_zone}
@@ -130,13 +131,13 @@ module _ (f h : List ℕ) (ts us : List (List ℕ)) (s : SameFiles f h ts us) wh
     text-named : (k l : Known) (d : List ℕ) → SameKnown k l → Same (text_says k (length d) (read_text d)) (text_says l (length d) (read_text d))
     text-named k l d r = go (read_text d)
       where
-        two : (t : Bool) → Same (pick t (keep k) (bad 9)) (pick t (keep l) (bad 9))
+        two : (t : Bool) → Same (pick t (keep k) (bad BadData)) (pick t (keep l) (bad BadData))
         two true = both-keep r
         two false = both-bad
 
-        go : (t : Text) → Same (text_says k (length d) t) (text_says l (length d) t)
-        go (Untext n) = both-bad
-        go (Part b n) = two (eqb (b + n) (length d))
+        go : (t : Result (ℕ × ℕ) Refusal) → Same (text_says k (length d) t) (text_says l (length d) t)
+        go (Err n) = both-bad
+        go (Ok (b, n)) = two (eqb (b + n) (length d))
 
     -- field 3: the same entries lead to the same zone
     resolved-same : (x y : Pool) (m n : Named Zone) → SamePools f h ts us x y → SameNamed (SameZone ts us) m n

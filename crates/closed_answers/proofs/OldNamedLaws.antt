@@ -1,5 +1,7 @@
 -- THE NAMED QUESTION OVER AN OLDER DICTIONARY, on two files whose fields say the same one by one: the answers are the same, places aside. Assumes
 -- nothing.
+use Rattle.std.specs.Prelude.{Result}
+use Rattle.base.specs.Coded.{Fault}
 use mathlib.Core.Path.{◌≡◌, refl}
 use mathlib.Core.Bool.{Bool, true, false}
 use mathlib.Core.List.{List}
@@ -20,7 +22,6 @@ use Rattle.frames.specs.Machine.{Out}
 use Rattle.field_checks.specs.Check.{WellFormed}
 use Rattle.field_checks.proofs.WellFormedLaws.{well-formed-good}
 use Rattle.answers.specs.declared.Found.{Found}
-use Rattle.answers.specs.declared.Answer.{Answer}
 use Rattle.questions.specs.Question.{answer_at}
 use Rattle.old_named_questions.specs.OldNamed.{answer_in, zone_at, resolved, older_says, zone_first, ask_named_old}
 use Rattle.demands.specs.Same.{SameFound, SameAnswer, both-answer, both-refuse}
@@ -43,7 +44,7 @@ module _ (f h : List ℕ) where
   resolved-same m n both-unknown = both-refuse
   resolved-same m n both-deep = both-refuse
 
-  first-same : (x y : Option Found) (a c : Answer) → SameOption (SameFound f h) x y → SameAnswer f h a c
+  first-same : (x y : Option Found) (a c : Result Found Fault) → SameOption (SameFound f h) x y → SameAnswer f h a c
       → SameAnswer f h (zone_first x a) (zone_first y c)
   first-same x y a c neither s = s
   first-same x y a c (both_some q) s = both-answer q

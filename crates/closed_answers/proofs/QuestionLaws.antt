@@ -1,4 +1,6 @@
 -- QUESTIONS BY A ZONE'S ID, on two files whose fields say the same one by one: the answers are the same, places aside. Assumes nothing.
+use Rattle.base.specs.Coded.{Fault}
+use Rattle.std.specs.Prelude.{Err, Ok, Result}
 use mathlib.Core.Path.{◌≡◌, refl, ap, ◌∙◌, subst}
 use mathlib.Core.Bool.{Bool, true, false}
 use mathlib.Core.List.{List, []}
@@ -31,8 +33,6 @@ use Rattle.local_times.specs.Tally.{tally_of}
 use Rattle.local_times.specs.Instants.{instants_of}
 use Rattle.wall_times.specs.WallTime.{MapsTo}
 use Rattle.wall_times.specs.View.{local_of, mapping_of, mapping_at, mapping_in}
-use Rattle.wall_times.specs.declared.Mapping.{Mapping}
-use Rattle.wall_times.specs.declared.Mapping.TheVariants.{Instants, Refused as Denied}
 use Rattle.wall_times.proofs.MapLaws.{map-some, map-one}
 use Rattle.demands.specs.Same.{SameFound, SameAnswer, both-answer, both-refuse}
 use Rattle.closed_answers.specs.Closed.{SameMapping, both-map, both-deny}
@@ -55,9 +55,9 @@ module _ {A : Type 0} (make : Pool → Zone → A) (id : List ℕ) where
   zone-asked ts p g z i s e = rw (ne_eqb g.id 0 (λ q. omega arith), s, e, s)
 
 -- a mapping is the same as itself
-same-mapping : (m : Mapping) → SameMapping m m
-same-mapping (Instants n a e) = both-map
-same-mapping (Denied n p) = both-deny
+same-mapping : (m : Result (ℕ × ℤ × ℤ) Fault) → SameMapping m m
+same-mapping (Ok (n, a, e)) = both-map
+same-mapping (Err (n, p)) = both-deny
 
 -- the data of a field of f is a part of it
 pub field-located : (f : List ℕ) (g : Field) → FieldOf f g → Located f (pool_of g.start g.body)
@@ -125,7 +125,7 @@ module _ (f h : List ℕ) (ts us : List (List ℕ)) (s : SameFiles f h ts us) wh
           let k : Finite t = instant-finite t z refl (eqb-false t 0 e) in
           rw e (finish-same _ mark _ _ (asking-same (SameFound f h) (answer_at ed t) (answer_at ed t) (asked-at ed t k) id))
 
-  -- THE SAME MAPPING of a wall time, or a refusal with the same number
+  -- THE SAME MAPPING of a wall time, or the same refusal
   abbrev SameHeld : Held → Held → Type 0
   SameHeld v w = SameZone ts us v.zone w.zone
 
@@ -135,8 +135,8 @@ module _ (f h : List ℕ) (ts us : List (List ℕ)) (s : SameFiles f h ts us) wh
   mapping-at l x y both-cut = both-deny
   mapping-at l x y (both-ended r) = both-deny
 
-  pub maps-same : (id : List ℕ) (local : ℤ) (r q : Mapping) → MapsTo f id local r → MapsTo h id local q → SameMapping r q
+  pub maps-same : (id : List ℕ) (local : ℤ) (r q : Result (ℕ × ℤ × ℤ) Fault) → MapsTo f id local r → MapsTo h id local q → SameMapping r q
   maps-same id local r q m n =
-      subst (λ (x : Mapping). SameMapping x q) (map-one f id local (mapping_in f id local) r (map-some f id local) m)
+      subst (λ (x : Result (ℕ × ℤ × ℤ) Fault). SameMapping x q) (map-one f id local (mapping_in f id local) r (map-some f id local) m)
       (subst (SameMapping (mapping_in f id local)) (map-one h id local (mapping_in h id local) q (map-some h id local) n)
       (mapping-at (local_of local) _ _ (asking-same SameHeld held held (λ x y z w p r. r) id)))

@@ -1,38 +1,35 @@
 -- What closing up the pool of a file keeps: "All mentions are renumbered, their total is unchanged, and every question answers as before, places
 -- aside." To be believed.
-use Rattle.std.specs.Prelude.{ℕ, ◌≤◌, ◌≡◌, List, ◌++◌, map, ℤ, length, drop}
+use Rattle.base.specs.declared.Refusal.{Refusal}
+use Rattle.base.specs.Coded.{Fault}
+use Rattle.std.specs.Prelude.{ℕ, ◌≤◌, ◌≡◌, List, ◌++◌, map, ℤ, length, drop, Err, Ok, Result}
 use Rattle.base.specs.All.{All}
 use Rattle.zones.specs.declared.Edition.{Edition}
 use Rattle.locations.specs.declared.LocationField.{LocationField}
 use Rattle.frames.specs.Fields.{fields}
 use Rattle.field_checks.specs.Check.{file_pool, version_of, WellFormed}
 use Rattle.field_checks.specs.VersionPart.{version_part}
-use Rattle.field_checks.specs.declared.VersionText.{VersionText}
-use Rattle.field_checks.specs.declared.VersionText.TheVariants.{Part, Refused as NoPart}
 use Rattle.answers.specs.declared.Mark.{Mark}
 use Rattle.questions.specs.Question.{ask}
 use Rattle.named_fields.specs.Named.{ask_named}
 use Rattle.old_named_questions.specs.OldNamed.{ask_named_old}
 use Rattle.wall_times.specs.WallTime.{MapsTo}
-use Rattle.wall_times.specs.declared.Mapping.{Mapping}
-use Rattle.wall_times.specs.declared.Mapping.TheVariants.{Instants, Refused}
 use Rattle.location_lookup.specs.Location.{location_of}
 use Rattle.renumbered_lists.specs.Answers.{SameAnswer as SameLocation}
 use Rattle.demands.specs.Same.{SameAnswer}
 use Rattle.use_order.specs.Order.{new_number}
 use Rattle.mentions.specs.Renumbers.{Renumbers}
 use Rattle.closed_files.specs.File.{mentions_in, new_table, closed, close_of, output_of}
-use Rattle.closed_files.specs.declared.Closed.TheVariants.{Length}
 
--- two mappings of a wall time: the same count, earliest and latest instant, or refusals with the same number
-pub data SameMapping : Mapping → Mapping → Type 0 where
-  both-map : {n : ℕ} {a e : ℤ} → SameMapping (Instants n a e) (Instants n a e)
-  both-deny : {n p q : ℕ} → SameMapping (Refused n p) (Refused n q)
+-- two mappings of a wall time: the same count, earliest and latest instant, or the same refusal, places aside
+pub data SameMapping : Result (ℕ × ℤ × ℤ) Fault → Result (ℕ × ℤ × ℤ) Fault → Type 0 where
+  both-map : {n : ℕ} {a e : ℤ} → SameMapping (Ok (n, a, e)) (Ok (n, a, e))
+  both-deny : {n : Refusal} {p q : ℕ} → SameMapping (Err (n, p)) (Err (n, q))
 
--- two version texts, of the files f and h: the same bytes, or refusals with the same number
-pub data SameVersion (f h : List ℕ) : VersionText → VersionText → Type 0 where
-  both-part : {a b n : ℕ} → version_part f (Part a n) ≡ version_part h (Part b n) → SameVersion f h (Part a n) (Part b n)
-  both-no-part : {n p q : ℕ} → SameVersion f h (NoPart n p) (NoPart n q)
+-- two version texts, of the files f and h: the same bytes, or the same refusal, places aside
+pub data SameVersion (f h : List ℕ) : Result (ℕ × ℕ) Fault → Result (ℕ × ℕ) Fault → Type 0 where
+  both-part : {a b n : ℕ} → version_part f (Ok (a, n)) ≡ version_part h (Ok (b, n)) → SameVersion f h (Ok (a, n)) (Ok (b, n))
+  both-no-part : {n : Refusal} {p q : ℕ} → SameVersion f h (Err (n, p)) (Err (n, q))
 
 pub record ClosesAsBefore (f : List ℕ) : Type 0 where
   -- the check takes the closed file, and closing that up changes nothing
@@ -47,7 +44,7 @@ pub record ClosesAsBefore (f : List ℕ) : Type 0 where
   pub asked : (id : List ℕ) (z : ℤ) (mark : Mark) (ed : Edition) → SameAnswer f (closed f) (ask f id z mark ed) (ask (closed f) id z mark ed)
   pub named : (x : List ℕ) (z : ℤ) (mark : Mark) (ed : Edition) → SameAnswer f (closed f) (ask_named f x z mark ed) (ask_named (closed f) x z mark ed)
   pub old-named : (ds x : List ℕ) (z : ℤ) (ed : Edition) → SameAnswer f (closed f) (ask_named_old f ds x z ed) (ask_named_old (closed f) ds x z ed)
-  pub mapped : (id : List ℕ) (local : ℤ) (r s : Mapping) → MapsTo f id local r → MapsTo (closed f) id local s → SameMapping r s
+  pub mapped : (id : List ℕ) (local : ℤ) (r s : Result (ℕ × ℤ × ℤ) Fault) → MapsTo f id local r → MapsTo (closed f) id local s → SameMapping r s
   pub located : (field : LocationField) (number : ℕ) → SameLocation f (closed f) (location_of f field number) (location_of (closed f) field number)
   pub version : SameVersion f (closed f) (version_of f) (version_of (closed f))
 
@@ -57,5 +54,5 @@ pub record Closes (f d : List ℕ) (n : ℕ) : Type 0 where
   pub size : n ≡ length (closed f)
   pub output : output_of f d ≡ closed f ++ drop n d
   pub keeps : ClosesAsBefore f
-  pub size-again : (e : List ℕ) → n ≤ length e → close_of (closed f) e ≡ Length n
+  pub size-again : (e : List ℕ) → n ≤ length e → close_of (closed f) e ≡ Ok n
   pub output-again : (e : List ℕ) → n ≤ length e → output_of (closed f) e ≡ closed f ++ drop n e

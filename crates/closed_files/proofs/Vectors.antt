@@ -1,4 +1,6 @@
 -- Worked files, computed. Assumes nothing.
+use Rattle.base.specs.declared.Refusal.TheVariants.{FieldOrder, TooShort, UnreadField}
+use Rattle.std.specs.Prelude.{Err, Ok}
 use mathlib.Core.Path.{◌≡◌, refl}
 use mathlib.Core.List.{List, [], ◌∷◌, ◌++◌, map}
 use Prim.Native.Nat.{ℕ}
@@ -26,7 +28,6 @@ use Rattle.use_order.specs.Order.{mention, mention_all, keys_from, numbers_of, o
 use Rattle.mentions.specs.Walk.{behind_rule, behind_end, behind_start, behind_details, behind_offset, behind_interval_count, behind_id, numbered_names, location_names, before_names, before_pairs, before_locations, ahead_of, first_stage}
 use Rattle.mentions.specs.Content.{parse_mention, content_from, numbers_in, print_mentions, print}
 use Rattle.closed_files.specs.File.{mentions_in, chosen, write_texts, write_pool, write_field, closed_data, closed_fields, closed_file, closed, unread_id, first_unread, given_sized, left_sized, close_of, output_of}
-use Rattle.closed_files.specs.declared.Closed.TheVariants.{Length, Refused}
 
 -- version, and the pool A, B, C
 abbrev front : List ℕ → List ℕ
@@ -59,12 +60,12 @@ forms-kept = refl
 -- 22 at the first field of ID 4, 5 or above 7, behind the whole check; then 15, with nothing written
 pub refusals :
     map (λ f. close_of f []) (front (1 ∷ 4 ∷ 0 ∷ 1 ∷ 48 ∷ 0 ∷ 4 ∷ 0 ∷ []) ∷ front (1 ∷ 4 ∷ 0 ∷ 1 ∷ 48 ∷ 0 ∷ 4 ∷ 0 ∷ 0 ∷ []) ∷ front (3 ∷ 1 ∷ 0 ∷ 5 ∷ 0 ∷ 9 ∷ 0 ∷ []) ∷ front [] ∷ [])
-    ≡ Refused 22 19 ∷ Refused 5 21 ∷ Refused 22 16 ∷ Refused 15 0 ∷ []
+    ≡ Err (UnreadField, 19) ∷ Err (FieldOrder, 21) ∷ Err (UnreadField, 16) ∷ Err (TooShort, 0) ∷ []
 unfolding close_of given_sized unread_id first_unread conclusion walk iterate step act concluded pool_kept judged zone_kept new_id aliases_kept among equal parse_zone after_id after_flag parse_fixed after_fixed_offset zone_of parse_name judge_name parse_aliases all_entries parse_entries listing scan frame version zeros field sized order any_groups read_groups write_groups many counted all_strings ended chars text_sized insert sort_of mention mention_all keys_from numbers_of order_of numbered_from mentions_in chosen write_texts write_pool write_field closed_data closed_fields closed_file ahead_of first_stage parse_mention content_from numbers_in print_mentions print parse_byte read_sum
 refusals = refl
 
 -- the length, what is written, and the bytes behind it as found
 pub written :
-    (close_of (front []) (9 ∷ 9 ∷ 9 ∷ 9 ∷ 9 ∷ 9 ∷ 9 ∷ 8 ∷ []) ≡ Length 7) × (output_of (front []) (9 ∷ 9 ∷ 9 ∷ 9 ∷ 9 ∷ 9 ∷ 9 ∷ 8 ∷ []) ≡ 0 ∷ 0 ∷ 0 ∷ 0 ∷ 0 ∷ 1 ∷ 0 ∷ 8 ∷ [])
+    (close_of (front []) (9 ∷ 9 ∷ 9 ∷ 9 ∷ 9 ∷ 9 ∷ 9 ∷ 8 ∷ []) ≡ Ok 7) × (output_of (front []) (9 ∷ 9 ∷ 9 ∷ 9 ∷ 9 ∷ 9 ∷ 9 ∷ 8 ∷ []) ≡ 0 ∷ 0 ∷ 0 ∷ 0 ∷ 0 ∷ 1 ∷ 0 ∷ 8 ∷ [])
 unfolding close_of output_of given_sized left_sized first_unread unread_id conclusion walk iterate step act concluded pool_kept judged listing scan frame version zeros field sized order any_groups read_groups write_groups many counted all_strings ended chars text_sized insert sort_of mention mention_all keys_from numbers_of order_of numbered_from mentions_in chosen write_texts write_pool write_field closed_data closed_fields closed_file ahead_of first_stage parse_mention content_from numbers_in print_mentions print
 written = (refl, refl)

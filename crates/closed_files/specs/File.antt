@@ -1,5 +1,7 @@
 -- "Third, close up the pool": the closed file of a file, by its fields. To be believed.
-use Rattle.std.specs.Prelude.{ℕ, Bool, true, List, [], ◌∷◌, ◌++◌, length, drop, get_or, replicate, eqb, ltb, leb}
+use Rattle.base.specs.declared.Refusal.TheVariants.{TooLarge, TooShort, UnreadField}
+use Rattle.base.specs.Coded.{Fault}
+use Rattle.std.specs.Prelude.{ℕ, Bool, true, List, [], ◌∷◌, ◌++◌, length, drop, get_or, replicate, eqb, ltb, leb, Err, Ok, Result}
 use Rattle.std.proofs.Math.Option.{Option, none, some}
 use Rattle.base.specs.Pick.{pick}
 use Rattle.counts.specs.Count.{write_count}
@@ -8,12 +10,8 @@ use Rattle.pool.specs.Pool.{strings_of}
 use Rattle.frames.specs.Frame.{largest, Field}
 use Rattle.frames.specs.Fields.{fields}
 use Rattle.field_checks.specs.Check.{check_of}
-use Rattle.field_checks.specs.declared.Verdict.{Verdict}
-use Rattle.field_checks.specs.declared.Verdict.TheVariants.{Good, Refused as Ill}
 use Rattle.use_order.specs.Order.{mention_all, order_of, numbered_from, new_number}
 use Rattle.mentions.specs.Content.{numbers_of, renumbered}
-use Rattle.closed_files.specs.declared.Closed.{Closed}
-use Rattle.closed_files.specs.declared.Closed.TheVariants.{Length, Refused}
 
 -- the pool numbers that fields mention, in file order
 unfoldable pub mentions_in : List Field → List ℕ
@@ -74,15 +72,15 @@ first_unread [] = none
 first_unread (g ∷ gs) = pick (unread_id g.id) (some g.place) (first_unread gs)
 
 -- "then 4 if the result would pass a largest size, then 15": the closed file xs for an output d. Its last field ends where it ends
-unfoldable pub given_sized : List ℕ → List ℕ → Closed
-given_sized xs d = pick (ltb largest (length xs)) (Refused 4 0) (pick (leb (length xs) (length d)) (Length (length xs)) (Refused 15 0))
+unfoldable pub given_sized : List ℕ → List ℕ → Result ℕ Fault
+given_sized xs d = pick (ltb largest (length xs)) (Err (TooLarge, 0)) (pick (leb (length xs) (length d)) (Ok (length xs)) (Err (TooShort, 0)))
 
 unfoldable pub left_sized : List ℕ → List ℕ → List ℕ
 left_sized xs d = pick (ltb largest (length xs)) d (pick (leb (length xs) (length d)) (xs ++ drop (length xs) d) d)
 
 -- "files with field 4, 5 or any above 7 are refused with 22 at the first such ID byte"
-abbrev pub given_read : Option ℕ → List ℕ → List ℕ → Closed
-given_read (some p) xs d = Refused 22 p
+abbrev pub given_read : Option ℕ → List ℕ → List ℕ → Result ℕ Fault
+given_read (some p) xs d = Err (UnreadField, p)
 given_read none xs d = given_sized xs d
 
 abbrev pub left_read : Option ℕ → List ℕ → List ℕ → List ℕ
@@ -90,16 +88,16 @@ left_read (some p) xs d = d
 left_read none xs d = left_sized xs d
 
 -- "After the check's faults"
-abbrev pub given : Verdict → Option ℕ → List ℕ → List ℕ → Closed
-given (Ill n p) u xs d = Refused n p
-given Good u xs d = given_read u xs d
+abbrev pub given : Result (Unit {0}) Fault → Option ℕ → List ℕ → List ℕ → Result ℕ Fault
+given (Err (n, p)) u xs d = Err (n, p)
+given (Ok tt) u xs d = given_read u xs d
 
-abbrev pub left : Verdict → Option ℕ → List ℕ → List ℕ → List ℕ
-left (Ill n p) u xs d = d
-left Good u xs d = left_read u xs d
+abbrev pub left : Result (Unit {0}) Fault → Option ℕ → List ℕ → List ℕ → List ℕ
+left (Err (n, p)) u xs d = d
+left (Ok tt) u xs d = left_read u xs d
 
 -- the result of closing up the pool of f for an output d: "whatever fills lent room gives how many .. bytes"
-unfoldable pub close_of : List ℕ → List ℕ → Closed
+unfoldable pub close_of : List ℕ → List ℕ → Result ℕ Fault
 close_of f d = given (check_of f) (first_unread (fields f)) (closed f) d
 
 -- the output at the return: "later ones as found"; a refusal keeps all as found

@@ -1,8 +1,7 @@
 // The pool of a closed file: its length, and the writing of it.
 #![tactic(auto)]
 
-ghost use Rattle.std.specs.Prelude.{◌≡◌, [], ◌≤◌, length, get_or, drop};
-ghost use Rattle.base.specs.declared.Read.TheVariants.{Value};
+ghost use Rattle.std.specs.Prelude.{◌≡◌, [], ◌≤◌, length, get_or, drop, Ok};
 ghost use Rattle.counts.specs.Count.{read_count};
 ghost use Rattle.texts.specs.Text.{write_text};
 ghost use Rattle.pool.specs.Pool.{strings_of};
@@ -10,17 +9,17 @@ ghost use Rattle.pieces.specs.View.{Put};
 ghost use Rattle.closed_files.specs.File.{chosen, write_texts, write_pool};
 ghost use Rattle.closed_pools.specs.View.{GoodPool, Indexed};
 
-use base::Read;
+use base::Coded;
 
 // The count at a place, which is a string's length, and how many bytes it takes. One of one byte, the usual one, takes no call.
-fn count_from(d: &[u8], at: usize) -> Read
+fn count_from(d: &[u8], at: usize) -> Coded<u64>
     requires { at ≤ length d.now }
     ensures { result ≡ read_count (drop at d.now) }
 {
     if at < d.len() {
         let b = d[at] as u64;
         if b < 128 {
-            return Read::Value(b, 1);
+            return Ok((b, 1));
         }
     }
     count_readers::read_count(&d[at..])
@@ -28,21 +27,19 @@ fn count_from(d: &[u8], at: usize) -> Read
 
 // The places of the k strings of a good pool, from the first one on.
 fn index_strings(d: &[u8], from: usize, k: usize, starts: &mut [u32])
-    requires { GoodPool d.now × (read_count d.now ≡ Value k from) × (8192 ≤ length starts.old) }
+    requires { GoodPool d.now × (read_count d.now ≡ Ok (k, from)) × (8192 ≤ length starts.old) }
     ensures { Indexed d.now starts.new k }
 {
     let mut at = from;
-    let mut i: usize = 0;
-    while i < k {
+    for i in 0..k {
         let g = count_from(d, at);
         match g {
-            Read::Refused(_) => {
+            Err(_) => {
                 return;
             }
-            Read::Value(n, a) => {
+            Ok((n, a)) => {
                 starts[i] = at as u32;
                 at = at + (a + n as usize);
-                i += 1;
             }
         }
     }
@@ -55,8 +52,8 @@ fn index_pool(d: &[u8], starts: &mut [u32]) -> usize
 {
     let g = count_readers::read_count(d);
     match g {
-        Read::Refused(_) => 0,
-        Read::Value(v, a) => {
+        Err(_) => 0,
+        Ok((v, a)) => {
             let k = v as usize;
             index_strings(d, a, k, starts);
             k
@@ -82,10 +79,8 @@ fn texts_size(d: &[u8], starts: &[u32], n: usize, order: &[u64]) -> usize
     ensures { result ≡ length (write_texts (chosen (strings_of d.now) order.now)) }
 {
     let mut sum: usize = 0;
-    let mut i: usize = 0;
-    while i < order.len() {
-        sum += text_size(d, starts, n, order[i] as usize);
-        i += 1;
+    for &k in order {
+        sum += text_size(d, starts, n, k as usize);
     }
     sum
 }
@@ -127,10 +122,8 @@ fn write_texts(d: &[u8], starts: &[u32], n: usize, order: &[u64], out: &mut [u8]
     ensures { Put (write_texts (chosen (strings_of d.now) order.now)) out.old result out.new }
 {
     let mut w: usize = 0;
-    let mut i: usize = 0;
-    while i < order.len() {
-        w += write_string(d, starts, n, order[i] as usize, &mut out[w..]);
-        i += 1;
+    for &k in order {
+        w += write_string(d, starts, n, k as usize, &mut out[w..]);
     }
     w
 }

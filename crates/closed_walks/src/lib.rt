@@ -41,12 +41,10 @@ pub fn count_field(i: u8, d: &[u8], uses: &mut [u32])
 pub fn in_place(order: &[u64]) -> bool
     ensures { InPlace result order.now }
 {
-    let mut i: usize = 0;
-    while i < order.len() {
-        if order[i] != i as u64 {
+    for (i, &k) in order.iter().enumerate() {
+        if k != i as u64 {
             return false;
         }
-        i += 1;
     }
     true
 }

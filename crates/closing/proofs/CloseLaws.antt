@@ -1,4 +1,8 @@
 -- What the check of a file has shown, and the ways out of closing up a pool. Assumes nothing.
+use Rattle.base.specs.declared.Refusal.TheVariants.{TooLarge, TooShort, UnreadField}
+use Rattle.base.specs.declared.Refusal.{Refusal}
+use Rattle.base.specs.Coded.{Fault}
+use Rattle.std.specs.Prelude.{Err, Ok, Result}
 use mathlib.Core.Path.{◌≡◌, refl, sym, ap, ◌∙◌, subst, subst⁻¹}
 use mathlib.Core.Bool.{Bool, true, false}
 use mathlib.Core.List.{List, [], ◌∷◌}
@@ -22,8 +26,6 @@ use Rattle.frames.proofs.PartLaws.{walk-ended}
 use Rattle.frames.proofs.CoverLaws.{ordered-some, framed-listing, listing-covers}
 use Rattle.field_checks.specs.Check.{start, job, check_of, WellFormed}
 use Rattle.field_checks.specs.File.{AsZone}
-use Rattle.field_checks.specs.declared.Verdict.{Verdict}
-use Rattle.field_checks.specs.declared.Verdict.TheVariants.{Good, Refused as Ill}
 use Rattle.field_checks.proofs.WellFormedLaws.{good-well-formed}
 use Rattle.field_checks.proofs.FileLaws.{well-formed-file}
 use Rattle.pieces.specs.View.{Put}
@@ -36,8 +38,6 @@ use Rattle.counted_zones.specs.Steps.{zone_names}
 use Rattle.stepped_zones.proofs.ZoneLaws.{zone-stepped}
 use Rattle.renumbering.specs.Table.{Fits}
 use Rattle.closed_files.specs.File.{mentions_in, uses_of, new_order, new_table, closed_fields, closed_file, closed, first_unread, given_sized, left_sized, given_read, left_read, close_of, output_of}
-use Rattle.closed_files.specs.declared.Closed.{Closed}
-use Rattle.closed_files.specs.declared.Closed.TheVariants.{Length, Refused}
 use Rattle.closed_files.proofs.PlaceLaws.{Placed, length-uses-of, mentioned-placed}
 use Rattle.mentioned_numbers.proofs.MentionedLaws.{file-below}
 use Rattle.closed_fields.specs.View.{NumbersKept, PoolChecked}
@@ -79,23 +79,23 @@ zones-good f w b =
         }
 
 -- A GOOD FILE can be walked
-pub walkable : (f : List ℕ) → check_of f ≡ Good → Bytes f → Walkable f
+pub walkable : (f : List ℕ) → check_of f ≡ Ok tt → Bytes f → Walkable f
 walkable f e b =
     let w = good-well-formed f e in
     let c = listing-covers f (walk-ended job start w.memory f (length f) w.ends).whole w.some-field in
     record { covers = c; version = (well-formed-file f w).framed.version; limit = covers-limit f 4 (fields f) (omega arith) c; pools = pools-good f w b; zones = zones-good f w b }
 
 -- and mentions no number past the largest count of a pool
-pub below : (f : List ℕ) → check_of f ≡ Good → Bytes f → All (λ k. k < 8192) (mentions_in (fields f))
+pub below : (f : List ℕ) → check_of f ≡ Ok tt → Bytes f → All (λ k. k < 8192) (mentions_in (fields f))
 below f e b = file-below f (good-well-formed f e) b
 
 -- the ways out: the check's refusal, 22, and what follows
-module _ (f d : List ℕ) (v : Verdict) (e : v ≡ check_of f) where
-  pub close-refused : (n p : ℕ) → v ≡ Ill n p → (Refused n p ≡ close_of f d) × (d ≡ output_of f d)
+module _ (f d : List ℕ) (v : Result (Unit {0}) Fault) (e : v ≡ check_of f) where
+  pub close-refused : (n : Refusal) (p : ℕ) → v ≡ Err (n, p) → (Err (n, p) ≡ close_of f d) × (d ≡ output_of f d)
   unfolding close_of output_of
   close-refused n p h = (rw (sym e ∙ h), rw (sym e ∙ h))
 
-  pub close-good : (g : v ≡ Good) (r : Closed) (o : List ℕ) → (r ≡ given_read (first_unread (fields f)) (closed f) d) × (o ≡ left_read (first_unread (fields f)) (closed f) d)
+  pub close-good : (g : v ≡ Ok tt) (r : Result ℕ Fault) (o : List ℕ) → (r ≡ given_read (first_unread (fields f)) (closed f) d) × (o ≡ left_read (first_unread (fields f)) (closed f) d)
       → (r ≡ close_of f d) × (o ≡ output_of f d)
   unfolding close_of output_of
   close-good g r o k = (rw (sym e ∙ g) k.0, rw (sym e ∙ g) k.1)
@@ -110,27 +110,27 @@ module _ (f : List ℕ) (n : ℕ) (u w : List ℕ) (r : Walked) (k : Walks f n u
 
 module _ (f d : List ℕ) where
   pub close-unread : (p : ℕ) → first_unread (fields f) ≡ some p
-      → (Refused 22 p ≡ given_read (first_unread (fields f)) (closed f) d) × (d ≡ left_read (first_unread (fields f)) (closed f) d)
+      → (Err (UnreadField, p) ≡ given_read (first_unread (fields f)) (closed f) d) × (d ≡ left_read (first_unread (fields f)) (closed f) d)
   close-unread p h = (rw h refl, rw h refl)
 
-  pub close-read : (r : Closed) (o : List ℕ) → first_unread (fields f) ≡ none → (r ≡ given_sized (closed f) d) × (o ≡ left_sized (closed f) d)
+  pub close-read : (r : Result ℕ Fault) (o : List ℕ) → first_unread (fields f) ≡ none → (r ≡ given_sized (closed f) d) × (o ≡ left_sized (closed f) d)
       → (r ≡ given_read (first_unread (fields f)) (closed f) d) × (o ≡ left_read (first_unread (fields f)) (closed f) d)
   close-read r o h k = (rw h k.0, rw h k.1)
 
 -- 4, 15, or the file
 module _ (xs d : List ℕ) where
-  pub too_large : 4194304 < length xs → (Refused 4 0 ≡ given_sized xs d) × (d ≡ left_sized xs d)
+  pub too_large : 4194304 < length xs → (Err (TooLarge, 0) ≡ given_sized xs d) × (d ≡ left_sized xs d)
   unfolding given_sized left_sized
   too_large h = let t = lt-ltb 4194304 (length xs) h in (rw t, rw t)
 
   module _ (h : length xs ≤ 4194304) where
-    pub no_room : length d < length xs → (Refused 15 0 ≡ given_sized xs d) × (d ≡ left_sized xs d)
+    pub no_room : length d < length xs → (Err (TooShort, 0) ≡ given_sized xs d) × (d ≡ left_sized xs d)
     unfolding given_sized left_sized
     no_room k = let t = le-ltb 4194304 (length xs) h in let u = lt-leb (length xs) (length d) k in (rw (t, u), rw (t, u))
 
-    pub written : (n : ℕ) (o : List ℕ) → length xs ≤ length d → Put xs d n o → (Length n ≡ given_sized xs d) × (o ≡ left_sized xs d)
+    pub written : (n : ℕ) (o : List ℕ) → length xs ≤ length d → Put xs d n o → (Ok n ≡ given_sized xs d) × (o ≡ left_sized xs d)
     unfolding given_sized left_sized
-    written n o k p = let t = le-ltb 4194304 (length xs) h in let u = le-leb (length xs) (length d) k in (rw (t, u) (ap Length p.size), rw (t, u) p.left)
+    written n o k p = let t = le-ltb 4194304 (length xs) h in let u = le-leb (length xs) (length d) k in (rw (t, u) (ap Ok p.size), rw (t, u) p.left)
 
 -- ---- the order and the table, as the code fills them
 abbrev no-uses : List ℕ
@@ -190,9 +190,9 @@ uses-few gs uses e = omega (arith, (ap length e ∙ length-uses-of gs))
 
 -- a file that is its own closed file
 module _ (f d : List ℕ) (w : Walkable f) (s : closed_file (fields f) ≡ f) where
-  pub same-no-room : length d < length f → (Refused 15 0 ≡ given_sized (closed_file (fields f)) d) × (d ≡ left_sized (closed_file (fields f)) d)
+  pub same-no-room : length d < length f → (Err (TooShort, 0) ≡ given_sized (closed_file (fields f)) d) × (d ≡ left_sized (closed_file (fields f)) d)
   same-no-room h = rw s (no_room f d w.limit h)
 
   pub same-written : (n : ℕ) (o : List ℕ) → length f ≤ length d → Put f d n o
-      → (Length n ≡ given_sized (closed_file (fields f)) d) × (o ≡ left_sized (closed_file (fields f)) d)
+      → (Ok n ≡ given_sized (closed_file (fields f)) d) × (o ≡ left_sized (closed_file (fields f)) d)
   same-written n o h p = rw s (written f d w.limit n o h p)

@@ -10,7 +10,7 @@ ghost use Rattle.transitions.specs.Transition.{write_moment};
 ghost use Rattle.pieces.specs.Content.{print_pieces, content_of, print};
 ghost use Rattle.pieces.specs.View.{HasPieces, HasContent, pieces_at, Put};
 
-use base::{END, Read, Wrote};
+use base::END;
 
 // The length of n pieces from a place on, in their preferred form.
 fn pieces_size(s: &[u8], at: usize, n: u64) -> usize
@@ -25,10 +25,10 @@ fn pieces_size(s: &[u8], at: usize, n: u64) -> usize
         left -= 1;
         let item = any_intervals::moment_at(s, place, prev);
         match item {
-            Read::Refused(_) => {
+            Err(_) => {
                 return 0;
             }
-            Read::Value(m, a) => {
+            Ok((m, a)) => {
                 let e = pieces::piece_end(s, a, left);
                 size += pieces::code_size(prev, m, a - place) + (e - a);
                 place = e;
@@ -68,8 +68,8 @@ fn write_piece(prev: u64, m: u64, s: &[u8], out: &mut [u8]) -> usize
         }
     }
     match transition_writers::write_moment(prev, m, out) {
-        Wrote::Refused(_) => 0,
-        Wrote::Length(n) => n + slices::copy(s, &mut out[n..]),
+        Err(_) => 0,
+        Ok(n) => n + slices::copy(s, &mut out[n..]),
     }
 }
 
@@ -86,10 +86,10 @@ fn write_pieces(s: &[u8], at: usize, n: u64, out: &mut [u8]) -> usize
         left -= 1;
         let item = any_intervals::moment_at(s, place, prev);
         match item {
-            Read::Refused(_) => {
+            Err(_) => {
                 return w;
             }
-            Read::Value(m, a) => {
+            Ok((m, a)) => {
                 let e = pieces::piece_end(s, a, left);
                 w += write_piece(prev, m, &s[a..e], &mut out[w..]);
                 place = e;
@@ -106,8 +106,8 @@ pub fn zone_size(s: &[u8]) -> usize
     ensures { result ≡ length (print (content_of 1 s.now)) }
 {
     match pieces::read_head(s) {
-        Read::Refused(_) => 0,
-        Read::Value(n, a) => a + pieces_size(s, a, n),
+        Err(_) => 0,
+        Ok((n, a)) => a + pieces_size(s, a, n),
     }
 }
 
@@ -117,8 +117,8 @@ pub fn write_zone(s: &[u8], out: &mut [u8]) -> usize
     ensures { Put (print (content_of 1 s.now)) out.old result out.new }
 {
     match pieces::read_head(s) {
-        Read::Refused(_) => 0,
-        Read::Value(n, a) => {
+        Err(_) => 0,
+        Ok((n, a)) => {
             let k = slices::copy(&s[..a], out);
             k + write_pieces(s, a, n, &mut out[k..])
         }
@@ -131,8 +131,8 @@ pub fn size_length(s: &[u8]) -> usize
     ensures { result ≡ length (write_count (length (print (content_of 1 s.now)))) }
 {
     match pieces::read_head(s) {
-        Read::Refused(_) => 0,
-        Read::Value(n, _) => {
+        Err(_) => 0,
+        Ok((n, _)) => {
             let most = count_writers::count_size(s.len() as u64);
             if count_writers::count_size(pieces::least(s.len() as u64, n)) == most {
                 return most;

@@ -7,12 +7,11 @@ ghost use Rattle.counts.specs.Count.{read_count};
 ghost use Rattle.counts.specs.SignedCount.{read_signed_count};
 ghost use Rattle.counts.specs.Fixed.{fixed_from, read_fixed};
 
-use base::Read;
-use signed::Number;
+use base::{Coded, Refusal};
 
 // Groups in any form: at most four bytes with the top bit set, then a last one, which after all of them is at most `top`. The loop's end
 // is a constant, so that it can be unrolled.
-pub fn read_any(s: &[u8], top: u64) -> Read
+pub fn read_any(s: &[u8], top: u64) -> Coded<u64>
     requires { top < 16 }
     ensures { result ≡ any_groups 4 top s.now }
 {
@@ -21,59 +20,53 @@ pub fn read_any(s: &[u8], top: u64) -> Read
     let mut i: usize = 0;
     while i < 4 {
         if s.len() <= i {
-            return Read::Refused(9);
+            return Err(Refusal::BadData);
         }
         let b = s[i] as u64;
         if b < 128 {
-            return Read::Value(v + unit * b, i + 1);
+            return Ok((v + unit * b, i + 1));
         }
         v += unit * (b % 128);
         unit *= 128;
         i += 1;
     }
     if s.len() <= 4 {
-        return Read::Refused(9);
+        return Err(Refusal::BadData);
     }
     let e = s[4] as u64;
     if e <= top {
-        return Read::Value(v + unit * e, 5);
+        return Ok((v + unit * e, 5));
     }
-    Read::Refused(7)
+    Err(Refusal::BadCode)
 }
 
 // The same in the shortest form only: no last byte 0 behind others.
-pub fn read_groups(s: &[u8], top: u64) -> Read
+pub fn read_groups(s: &[u8], top: u64) -> Coded<u64>
     requires { top < 16 }
     ensures { result ≡ read_groups 4 top s.now }
 {
-    match read_any(s, top) {
-        Read::Refused(k) => Read::Refused(k),
-        Read::Value(v, n) => {
-            if 1 < n {
-                if s[n - 1] == 0 {
-                    return Read::Refused(7);
-                }
-            }
-            Read::Value(v, n)
+    let (v, n) = read_any(s, top)?;
+    if 1 < n {
+        if s[n - 1] == 0 {
+            return Err(Refusal::BadCode);
         }
     }
+    Ok((v, n))
 }
 
 // The count at the front of `s`.
-pub fn read_count(s: &[u8]) -> Read
+pub fn read_count(s: &[u8]) -> Coded<u64>
     ensures { result ≡ read_count s.now }
 {
     read_groups(s, 7)
 }
 
 // The signed count at the front of `s`.
-pub fn read_signed_count(s: &[u8]) -> Number
+pub fn read_signed_count(s: &[u8]) -> Coded<i64>
     ensures { result ≡ read_signed_count s.now }
 {
-    match read_groups(s, 15) {
-        Read::Value(u, n) => Number::Value(signed::unzigzag(u), n),
-        Read::Refused(k) => Number::Refused(k),
-    }
+    let (u, n) = read_groups(s, 15)?;
+    Ok((signed::unzigzag(u), n))
 }
 
 // The number of the first `n` bytes of `s`, high first, behind the bits of `high`.
@@ -91,14 +84,14 @@ pub fn fixed_from(s: &[u8], n: usize, high: u64) -> u64
 }
 
 // A number in `n` bytes at the front of `s`, high first, behind the bits of `high`.
-pub fn read_fixed(s: &[u8], n: usize, high: u64) -> Read
+pub fn read_fixed(s: &[u8], n: usize, high: u64) -> Coded<u64>
     requires { (high + 1) * 256 ^ n ≤ 2 ^ 64 }
     ensures { result ≡ read_fixed n high s.now }
 {
     if s.len() < n {
-        return Read::Refused(9);
+        return Err(Refusal::BadData);
     }
-    Read::Value(fixed_from(s, n, high), n)
+    Ok((fixed_from(s, n, high), n))
 }
 
 // The number of the four bytes at a place, high first, which becomes one load.

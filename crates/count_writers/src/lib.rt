@@ -7,7 +7,7 @@ ghost use Rattle.counts.specs.Groups.{write_groups};
 ghost use Rattle.counts.specs.Count.{write_count, count_form};
 ghost use Rattle.counts.specs.SignedCount.{signed_count_form};
 
-use base::Wrote;
+use base::Refusal;
 
 // How many bytes the count of `v` takes.
 pub fn count_size(v: u64) -> usize
@@ -29,12 +29,12 @@ pub fn count_size(v: u64) -> usize
 }
 
 // Writes the groups of `v`, once they are known to have room.
-fn write_groups(v: u64, out: &mut [u8]) -> Wrote
+fn write_groups(v: u64, out: &mut [u8]) -> Result<usize, Refusal>
     ensures { Writes (bytes (write_groups 4 v)) out.old result out.new }
 {
     let n = count_size(v);
     if out.len() < n {
-        return Wrote::Refused(15);
+        return Err(Refusal::TooShort);
     }
     let mut rest = v;
     let mut i: usize = 0;
@@ -44,27 +44,27 @@ fn write_groups(v: u64, out: &mut [u8]) -> Wrote
         i += 1;
     }
     out[i] = (rest % 128) as u8;
-    Wrote::Length(n)
+    Ok(n)
 }
 
 // Writes `v` as a count to the front of `out`.
-pub fn write_count(v: u64, out: &mut [u8]) -> Wrote
+pub fn write_count(v: u64, out: &mut [u8]) -> Result<usize, Refusal>
     ensures { Writes (count_form v) out.old result out.new }
 {
     if v <= 2147483647 {
         write_groups(v, out)
     } else {
-        Wrote::Refused(7)
+        Err(Refusal::BadCode)
     }
 }
 
 // Writes `v` as a signed count to the front of `out`.
-pub fn write_signed_count(v: i64, out: &mut [u8]) -> Wrote
+pub fn write_signed_count(v: i64, out: &mut [u8]) -> Result<usize, Refusal>
     ensures { Writes (signed_count_form v) out.old result out.new }
 {
     let u = signed::zigzag(v);
     if u <= 4294967295 {
         return write_groups(u, out);
     }
-    Wrote::Refused(7)
+    Err(Refusal::BadCode)
 }

@@ -1,4 +1,9 @@
 -- "each name and code once in file order, then no more": what the steps give is the content's list of countries. Assumes nothing.
+use Rattle.base.specs.declared.Refusal.TheVariants.{BadLocation, BadText}
+use Rattle.base.specs.declared.Refusal.{Refusal}
+use Rattle.std.specs.declared.option.Option.TheVariants.{None}
+use Rattle.std.specs.Prelude.{Err, Ok}
+use Rattle.base.specs.Coded.{Coded}
 use mathlib.Core.Path.{◌≡◌, sym, ap, ◌∙◌}
 use mathlib.Core.Bool.{Bool}
 use mathlib.Core.List.{List, [], ◌∷◌, map}
@@ -9,8 +14,6 @@ use lib.IntN.{ℤ, pos, negsuc}
 use Rattle.base.specs.All.{All, all_none, all-also}
 use Rattle.base.specs.Pick.{pick}
 use Rattle.base.specs.Parsed.{Parsed, got, bad, bind, behind_code, parse, many, ended, prepend}
-use Rattle.base.specs.declared.Read.{Read}
-use Rattle.base.specs.declared.Read.TheVariants.{Value, Refused as Unread}
 use Rattle.base.proofs.ParseLaws.{bad-got, got-value, got-rest, bind-good, pick_good, ended-good}
 use Rattle.counts.specs.Count.{read_count}
 use Rattle.signed.specs.Zigzag.{unzigzag_of}
@@ -22,17 +25,16 @@ use Rattle.locations.specs.Content.{Location, within, judge_seconds, parse_secon
 use Rattle.locations.specs.Content.{parse_location, all_locations, parse_locations}
 use Rattle.locations.specs.Find.{spot_of}
 use Rattle.countries.specs.Step.{read_country, item, behind, step_at, given}
-use Rattle.countries.specs.declared.Item.TheVariants.{NoMore}
 use Rattle.string_search.proofs.SuffixLaws.{Suffix, suffix-all, suffix-drop, suffix-then, suffix-place}
 use Rattle.countries.proofs.StepLaws.{read-both}
 
 -- each reader leaves a suffix
-code-suffix : (read : List ℕ → Read) (s : List ℕ) (v : ℕ) (r : List ℕ) → parse read s ≡ got v r → Suffix s r
+code-suffix : (read : List ℕ → Coded ℕ) (s : List ℕ) (v : ℕ) (r : List ℕ) → parse read s ≡ got v r → Suffix s r
 code-suffix read s v r e = go (read s) e
   where
-    go : (x : Read) → behind_code s x ≡ got v r → Suffix s r
-    go (Value w n) e = let z : drop n s ≡ r = got-rest e in rw (← z) (suffix-drop s n)
-    go (Unread k) e = bad-got e
+    go : (x : Coded ℕ) → behind_code s x ≡ got v r → Suffix s r
+    go (Ok (w, n)) e = let z : drop n s ≡ r = got-rest e in rw (← z) (suffix-drop s n)
+    go (Err k) e = bad-got e
 
 abbrev Leaves : {A : Type 0} → (List ℕ → Parsed A) → Type 0
 Leaves {A} f = (s : List ℕ) (a : A) (r : List ℕ) → f s ≡ got a r → Suffix s r
@@ -45,12 +47,12 @@ bind-suffix f k lf lk s b q e =
 got-suffix : {A : Type 0} (a : A) → Leaves (got a)
 got-suffix a s b r e = let z : s ≡ r = got-rest e in rw (← z) (suffix-all s)
 
-pick-suffix : {A : Type 0} (t : List ℕ → Bool) (a : A) (n : ℕ) → Leaves (λ s. pick (t s) (got a s) (bad n))
+pick-suffix : {A : Type 0} (t : List ℕ → Bool) (a : A) (n : Refusal) → Leaves (λ s. pick (t s) (got a s) (bad n))
 pick-suffix t a n s b r e = got-suffix a s b r (pick_good (t s) (got a s) n b r e).1
 
 name-suffix : (pool : ℕ) → Leaves (parse_name pool)
 unfolding parse_name judge_name
-name-suffix pool = bind-suffix (parse read_count) (judge_name pool) (code-suffix read_count) (λ n. pick-suffix (λ s. ltb n pool) n 8)
+name-suffix pool = bind-suffix (parse read_count) (judge_name pool) (code-suffix read_count) (λ n. pick-suffix (λ s. ltb n pool) n BadText)
 
 country-suffix : (pool : ℕ) → Leaves (parse_country pool tt)
 unfolding parse_country
@@ -67,7 +69,7 @@ many-suffix f lf (suc n) =
 seconds-suffix : (most : ℕ) → Leaves (parse_seconds most)
 unfolding parse_seconds judge_seconds
 seconds-suffix most =
-    bind-suffix (parse read_zigzag) (judge_seconds most) (code-suffix read_zigzag) (λ v. pick-suffix (λ s. within most (unzigzag_of v)) v 20)
+    bind-suffix (parse read_zigzag) (judge_seconds most) (code-suffix read_zigzag) (λ v. pick-suffix (λ s. within most (unzigzag_of v)) v BadLocation)
 
 number-suffix : (field : LocationField) → Leaves (parse_number field)
 unfolding parse_number judge_number not_negative
@@ -93,7 +95,7 @@ name-count : (pool : ℕ) (s : List ℕ) (n : ℕ) (r : List ℕ) → parse_name
 unfolding parse_name judge_name
 name-count pool s n r e =
     let x = bind-good (parse read_count s) (judge_name pool) n r e in
-    x.is ∙ (pick_good (ltb x.first pool) (got x.first x.rest) 8 n r x.on).1
+    x.is ∙ (pick_good (ltb x.first pool) (got x.first x.rest) BadText n r x.on).1
 
 country-read : (pool : ℕ) (s : List ℕ) (c : Country) (r : List ℕ) → parse_country pool tt s ≡ got c r → read_country s ≡ got c r
 unfolding parse_country
@@ -106,7 +108,7 @@ country-read pool s c r e =
 
 -- the steps from a place on, by the countries that stand there
 steps : (pool : ℕ) (s : List ℕ) (n at : ℕ) (cs : List Country) (r : List ℕ) → at ≤ length s → parse_countries pool n (drop at s) ≡ got cs r
-    → (k : ℕ) → given s at n k ≡ get_or (map item cs) k NoMore
+    → (k : ℕ) → given s at n k ≡ get_or (map item cs) k None
 unfolding parse_countries many step_at given
 steps pool s zero at cs r w e zero = let z : [] ≡ cs = got-value e in rw (← z)
 steps pool s zero at cs r w e (suc k) = steps pool s zero at cs r w e k ∙ (let z : [] ≡ cs = got-value e in rw (← z))
@@ -121,14 +123,14 @@ steps pool s (suc n) at cs r w e k =
     (λ j. steps pool s n f.place y.first y.rest f.inside (ap (many (parse_country pool) no_state n tt) (sym f.is) ∙ y.is) j))
   where
     go : (k : ℕ) (c : Country) (q : List ℕ) → read_country (drop at s) ≡ got c q → (e : ℕ) → length s - length q ≡ e → (ds : List Country)
-        → ((j : ℕ) → given s e n j ≡ get_or (map item ds) j NoMore) → given s at (suc n) k ≡ get_or (map item (c ∷ ds)) k NoMore
+        → ((j : ℕ) → given s e n j ≡ get_or (map item ds) j None) → given s at (suc n) k ≡ get_or (map item (c ∷ ds)) k None
     go zero c q h e p ds rec = ap (λ (x : Parsed Country). (behind s at n x).item) h
     go (suc j) c q h e p ds rec =
         ap (λ (x : Parsed Country). given s (behind s at n x).at (behind s at n x).left j) h ∙ ap (λ (m : ℕ). given s m n j) p ∙ rec j
 
 -- EACH NAME AND CODE ONCE, IN FILE ORDER, THEN NO MORE: the k-th step from where the countries of the location l of the field's data s stand
 abbrev pub StepsInOrder : List ℕ → Location → Type 0
-StepsInOrder s l = (k : ℕ) → given s (spot_of s l).at (spot_of s l).left k ≡ get_or (map item l.countries) k NoMore
+StepsInOrder s l = (k : ℕ) → given s (spot_of s l).at (spot_of s l).left k ≡ get_or (map item l.countries) k None
 
 texts-in-order : (pool la lo n : ℕ) (s q : List ℕ) (l : Location) (r : List ℕ) → Suffix s q → parse_texts pool la lo n q ≡ got l r → StepsInOrder s l
 unfolding parse_texts parse_countries

@@ -1,4 +1,7 @@
 -- Each way out of a step. Assumes nothing.
+use Rattle.base.specs.declared.Refusal.{Refusal}
+use Rattle.std.specs.declared.option.Option.TheVariants.{None, Some}
+use Rattle.base.specs.declared.Refusal.TheVariants.{BadData}
 use mathlib.Core.Path.{◌≡◌, refl}
 use mathlib.Core.List.{List}
 use Prim.Native.Nat.{ℕ, zero, suc, ◌-◌, ◌≤◌, ◌<◌}
@@ -9,25 +12,24 @@ use Rattle.counts.specs.Count.{read_count}
 use Rattle.counts.specs.Groups.{read_groups}
 use Rattle.string_search.proofs.SuffixLaws.{place-of}
 use Rattle.countries.specs.Step.{read_country, step_at}
-use Rattle.countries.specs.declared.Item.TheVariants.{Country as Named, NoMore}
 use Rattle.countries.specs.declared.Stepped.{Stepped}
 
 module _ (s : List ℕ) (at : ℕ) where
   abbrev stays : ℕ → Stepped
-  stays left = record { item = NoMore; at = at; left = left }
+  stays left = record { item = None; at = at; left = left }
 
   pub none_left : (left : ℕ) → left ≡ 0 → stays left ≡ step_at s at left
   unfolding step_at
   none_left left e = rw e
 
-  pub none_here : (left k : ℕ) → read_country (drop at s) ≡ bad k → stays left ≡ step_at s at left
+  pub none_here : (left : ℕ) (k : Refusal) → read_country (drop at s) ≡ bad k → stays left ≡ step_at s at left
   unfolding step_at
   none_here zero k e = refl
   none_here (suc n) k e = rw e
 
   pub country-here : (left name code e : ℕ) → 0 < left → e ≤ length s
       → read_country (drop at s) ≡ got (record { name = name; code = code }) (drop e s)
-      → record { item = Named name code; at = e; left = left - 1 } ≡ step_at s at left
+      → record { item = Some (name, code); at = e; left = left - 1 } ≡ step_at s at left
   unfolding step_at
   country-here zero name code e h w q = absurd (omega arith)
   country-here (suc n) name code e h w q =
@@ -35,16 +37,16 @@ module _ (s : List ℕ) (at : ℕ) where
       rw (q, place-of s e w, z)
 
 -- a country by its two counts
-pub read_past : (s : List ℕ) (at : ℕ) → length s < at → read_country (drop at s) ≡ bad 9
+pub read_past : (s : List ℕ) (at : ℕ) → length s < at → read_country (drop at s) ≡ bad BadData
 unfolding read_country read_groups
 read_past s at h = let l : length s ≤ at = omega arith in rw (drop_of_length-le s l)
 
 module _ (s : List ℕ) where
-  pub read-unnamed : (k : ℕ) → parse read_count s ≡ bad k → read_country s ≡ bad k
+  pub read-unnamed : (k : Refusal) → parse read_count s ≡ bad k → read_country s ≡ bad k
   unfolding read_country
   read-unnamed k e = rw e
 
-  pub read-uncoded : (name k : ℕ) (r : List ℕ) → parse read_count s ≡ got name r → parse read_count r ≡ bad k → read_country s ≡ bad k
+  pub read-uncoded : (name : ℕ) (k : Refusal) (r : List ℕ) → parse read_count s ≡ got name r → parse read_count r ≡ bad k → read_country s ≡ bad k
   unfolding read_country
   read-uncoded name k r e f = rw (e, f)
 

@@ -4,8 +4,6 @@
 ghost use Rattle.std.specs.Prelude.{◌≡◌};
 ghost use Rattle.countries.specs.Step.{step_at};
 
-use base::Read;
-
 #[derive(Clone, Copy)]
 pub struct View<'a> {
     pub field: &'a [u8],
@@ -13,17 +11,10 @@ pub struct View<'a> {
     pub left: usize,
 }
 
-// What a step gives: the pool numbers of a country's name and code, or that there is none left.
-#[derive(Clone, Copy)]
-pub enum Item {
-    Country(u64, u64),
-    NoMore,
-}
-
-// What a step gives, and where the cursor stands then.
+// What a step gives, the pool numbers of a country's name and code, and where the cursor stands then.
 #[derive(Clone, Copy)]
 pub struct Stepped {
-    pub item: Item,
+    pub item: Option<(u64, u64)>,
     pub at: usize,
     pub left: usize,
 }
@@ -34,32 +25,32 @@ pub fn step(s: &[u8], at: usize, left: usize) -> Stepped
 {
     if left == 0 {
         return Stepped {
-            item: Item::NoMore,
+            item: None,
             at: at,
             left: left,
         };
     }
     if s.len() < at {
         return Stepped {
-            item: Item::NoMore,
+            item: None,
             at: at,
             left: left,
         };
     }
     match places::count_at(s, at) {
-        Read::Refused(_) => Stepped {
-            item: Item::NoMore,
+        Err(_) => Stepped {
+            item: None,
             at: at,
             left: left,
         },
-        Read::Value(name, a) => match places::count_at(s, a) {
-            Read::Refused(_) => Stepped {
-                item: Item::NoMore,
+        Ok((name, a)) => match places::count_at(s, a) {
+            Err(_) => Stepped {
+                item: None,
                 at: at,
                 left: left,
             },
-            Read::Value(code, e) => Stepped {
-                item: Item::Country(name, code),
+            Ok((code, e)) => Stepped {
+                item: Some((name, code)),
                 at: e,
                 left: left - 1,
             },

@@ -1,5 +1,9 @@
 -- Laws of numbers in groups of seven bits in any form, at every number of groups and every largest last byte: how a reading goes on, what
 -- a value that reads is, that the forms read are the padded ones, and what more bytes do. Assumes nothing.
+use Rattle.base.specs.declared.Refusal.{Refusal}
+use Rattle.std.specs.Prelude.{Err, Ok}
+use Rattle.base.specs.Coded.{Coded}
+use Rattle.base.specs.declared.Refusal.TheVariants.{BadCode, BadData}
 use mathlib.Core.Path.{◌≡◌, refl, sym, ap, ap₂, ◌∙◌, subst⁻¹}
 use mathlib.Core.List.{List, [], ◌∷◌, ◌++◌}
 use mathlib.Core.Bool.{Bool, true, false}
@@ -14,8 +18,6 @@ use lib.ListN.{length, get_or, drop, drop_of_length-le}
 use lib.Seq.{drop-cons}
 use borrow.Author.Tests.{lt-ltb, le-ltb, le-leb, lt-leb, ltb-true, ltb-false, leb-true}
 use Rattle.base.specs.Pick.{pick}
-use Rattle.base.specs.declared.Read.{Read}
-use Rattle.base.specs.declared.Read.TheVariants.{Value, Refused}
 use Rattle.base.proofs.Tests.{by_order, pick-holds, clash}
 use Rattle.base.proofs.Parts.{Bytes}
 use Rattle.counts.specs.Groups.{grouped, before, any_groups, write_groups, padded_groups}
@@ -28,14 +30,14 @@ pub record Reading (top : ℕ) (s : List ℕ) (v unit i : ℕ) : Type 0 where
   pub power : unit ≡ 128 ^ i
   pub said : before v unit i (any_groups (4 - i) top (drop i s)) ≡ any_groups 4 top s
 
-before-none : (g : Read) → before 0 1 0 g ≡ g
-before-none (Value w n) = ap₂ Value (omega arith) (omega arith)
-before-none (Refused k) = refl
+before-none : (g : Coded ℕ) → before 0 1 0 g ≡ g
+before-none (Ok (w, n)) = ap₂ (λ (v n : ℕ). Ok (v, n)) (omega arith) (omega arith)
+before-none (Err k) = refl
 
 -- a byte more
-before_more : (v unit i b : ℕ) (g : Read) → before v unit i (grouped b g) ≡ before (v + unit * (b % 128)) (unit * 128) (i + 1) g
-before_more v unit i b (Value w n) = ap₂ Value (omega arith) (omega arith)
-before_more v unit i b (Refused k) = refl
+before_more : (v unit i b : ℕ) (g : Coded ℕ) → before v unit i (grouped b g) ≡ before (v + unit * (b % 128)) (unit * 128) (i + 1) g
+before_more v unit i b (Ok (w, n)) = ap₂ (λ (v n : ℕ). Ok (v, n)) (omega arith) (omega arith)
+before_more v unit i b (Err k) = refl
 
 pub reading-start : (top : ℕ) (s : List ℕ) → Reading top s 0 1 0
 reading-start top s = record { most = omega arith; below = omega arith; power = refl; said = before-none (any_groups 4 top s) }
@@ -47,17 +49,17 @@ module _ (top : ℕ) (s : List ℕ) (v unit i : ℕ) (r : Reading top s v unit i
   reading-fits b h =
       (omega (arith, digits_lt h r.below), omega (arith, r.power, pow-le-pow_right {n = 128} (lit≤ tt) r.most))
 
-  pub reading-cut : length s ≤ i → Refused 9 ≡ any_groups 4 top s
+  pub reading-cut : length s ≤ i → Err BadData ≡ any_groups 4 top s
   unfolding any_groups
   reading-cut h = rw (drop_of_length-le s h) at r.said
 
   module _ (less : i < 4) (here : i < length s) where
     next-byte : any_groups (4 - i) top (drop i s)
-        ≡ pick (ltb (get_or s i 0) 128) (Value (get_or s i 0) 1) (grouped (get_or s i 0) (any_groups (4 - (i + 1)) top (drop (i + 1) s)))
+        ≡ pick (ltb (get_or s i 0) 128) (Ok (get_or s i 0, 1)) (grouped (get_or s i 0) (any_groups (4 - (i + 1)) top (drop (i + 1) s)))
     unfolding any_groups
     next-byte = let e : 4 - i ≡ suc (4 - (i + 1)) = omega arith in rw (e, drop-cons s i 0 here, add-one i)
 
-    pub reading-last : get_or s i 0 < 128 → before v unit i (Value (get_or s i 0) 1) ≡ any_groups 4 top s
+    pub reading-last : get_or s i 0 < 128 → before v unit i (Ok (get_or s i 0, 1)) ≡ any_groups 4 top s
     reading-last h = rw (next-byte, lt-ltb (get_or s i 0) 128 h) at r.said
 
     pub reading-next : 128 ≤ get_or s i 0 → Reading top s (v + unit * (get_or s i 0 % 128)) (unit * 128) (i + 1)
@@ -72,14 +74,14 @@ module _ (top : ℕ) (s : List ℕ) (v unit i : ℕ) (r : Reading top s v unit i
 
   -- behind four bytes with the top bit set
   module _ (four : 4 ≤ i) (here : 4 < length s) where
-    fifth-byte : before v unit 4 (pick (leb (get_or s 4 0) top) (Value (get_or s 4 0) 1) (Refused 7)) ≡ any_groups 4 top s
+    fifth-byte : before v unit 4 (pick (leb (get_or s 4 0) top) (Ok (get_or s 4 0, 1)) (Err BadCode)) ≡ any_groups 4 top s
     unfolding any_groups
     fifth-byte = let e : i ≡ 4 = omega arith in rw (e, drop-cons s 4 0 here) at r.said
 
-    pub reading-fifth : get_or s 4 0 ≤ top → before v unit 4 (Value (get_or s 4 0) 1) ≡ any_groups 4 top s
+    pub reading-fifth : get_or s 4 0 ≤ top → before v unit 4 (Ok (get_or s 4 0, 1)) ≡ any_groups 4 top s
     reading-fifth h = rw (le-leb (get_or s 4 0) top h) at fifth-byte
 
-    pub reading-above : top < get_or s 4 0 → Refused 7 ≡ any_groups 4 top s
+    pub reading-above : top < get_or s 4 0 → Err BadCode ≡ any_groups 4 top s
     reading-above h = rw (lt-leb (get_or s 4 0) top h) at fifth-byte
 
 -- a value v that s gives in n bytes, in any form
@@ -92,12 +94,12 @@ pub record AnyGroup (k top : ℕ) (s : List ℕ) (v n : ℕ) : Type 0 where
   pub zero-last : v ≡ 0 → get_or s (n - 1) 0 ≡ 0
   pub single : n ≡ 1 → v ≡ get_or s 0 0
 
-abbrev pub IsAny : ℕ → ℕ → List ℕ → Read → Type 0
-IsAny k top s (Value v n) = AnyGroup k top s v n
-IsAny k top s (Refused j) = Unit
+abbrev pub IsAny : ℕ → ℕ → List ℕ → Coded ℕ → Type 0
+IsAny k top s (Ok (v, n)) = AnyGroup k top s v n
+IsAny k top s (Err j) = Unit
 
-any-more : (k top b : ℕ) (s : List ℕ) (g : Read) → IsAny k top s g → IsAny (suc k) top (b ∷ s) (grouped b g)
-any-more k top b s (Value v n) h =
+any-more : (k top b : ℕ) (s : List ℕ) (g : Coded ℕ) → IsAny k top s g → IsAny (suc k) top (b ∷ s) (grouped b g)
+any-more k top b s (Ok (v, n)) h =
     let e : n + 1 - 1 ≡ suc (n - 1) = omega arith in
     record {
       small = rw pow-suc (omega arith);
@@ -108,7 +110,7 @@ any-more k top b s (Value v n) h =
       zero-last = λ z. rw e (h.zero-last (omega arith));
       single = λ l. absurd (omega arith);
     }
-any-more k top b s (Refused j) h = tt
+any-more k top b s (Err j) h = tt
 
 last-any : (k top b : ℕ) (s : List ℕ) → b < (top + 1) * 128 ^ k → (top < 128 → b < 128) → AnyGroup k top (b ∷ s) b 1
 last-any k top b s h l =
@@ -125,11 +127,11 @@ is_any (suc k) top (b ∷ s) =
     (λ t. last-any (suc k) top b s (rw pow-suc (omega (arith, ltb-true b 128 t, one-le-pow k 128 (lit≤ tt)))) (λ m. ltb-true b 128 t))
     (λ _. any-more k top b s (any_groups k top s) (is_any k top s))
 
-pub any-group : (k top : ℕ) (s : List ℕ) {v n : ℕ} → Value v n ≡ any_groups k top s → AnyGroup k top s v n
+pub any-group : (k top : ℕ) (s : List ℕ) {v n : ℕ} → Ok (v, n) ≡ any_groups k top s → AnyGroup k top s v n
 any-group k top s e = subst⁻¹ (IsAny k top s) e (is_any k top s)
 
 -- no form is shorter than the written one
-pub any-least : (k top : ℕ) (s : List ℕ) {v n : ℕ} → top < 128 → Value v n ≡ any_groups k top s → length (write_groups k v) ≤ n
+pub any-least : (k top : ℕ) (s : List ℕ) {v n : ℕ} → top < 128 → Ok (v, n) ≡ any_groups k top s → length (write_groups k v) ≤ n
 any-least k top s {v = v} {n = n} t e = go n (any-group k top s e).some ((any-group k top s e).fits t)
   where
     go : (m : ℕ) → 1 ≤ m → v < 128 ^ m → length (write_groups k v) ≤ m
@@ -143,7 +145,7 @@ padded-length (suc k) v = ap suc (padded-length k (v / 128))
 
 -- every padded form is read, as its value, in all of its bytes
 pub padded-read : (j k top v : ℕ) (rest : List ℕ) → j ≤ k → top < 128 → v < 128 ^ suc j → v < (top + 1) * 128 ^ k
-    → any_groups k top (padded_groups j v ++ rest) ≡ Value v (suc j)
+    → any_groups k top (padded_groups j v ++ rest) ≡ Ok (v, suc j)
 unfolding any_groups padded_groups
 padded-read zero zero top v rest l t h m =
     let e : v % 128 ≡ v = omega arith in
@@ -156,7 +158,7 @@ padded-read (suc j) (suc k) top v rest l t h m =
     simp (
       le-ltb (128 + v % 128) 128 (omega arith),
       padded-read j k top (v / 128) rest (omega arith) t (omega (arith, rw pow-suc at h)) (omega (arith, rw pow-suc at m)),
-    ) (ap₂ Value (omega arith) (omega arith))
+    ) (ap₂ (λ (v n : ℕ). Ok (v, n)) (omega arith) (omega arith))
 
 -- s starts with a form of the value v that it gives in n bytes
 pub record Padded (s : List ℕ) (v n : ℕ) : Type 0 where
@@ -164,20 +166,20 @@ pub record Padded (s : List ℕ) (v n : ℕ) : Type 0 where
   pub size : n ≡ suc more
   pub form : s ≡ padded_groups more v ++ drop n s
 
-abbrev IsPadded : List ℕ → Read → Type 0
-IsPadded s (Value v n) = Padded s v n
-IsPadded s (Refused j) = Unit
+abbrev IsPadded : List ℕ → Coded ℕ → Type 0
+IsPadded s (Ok (v, n)) = Padded s v n
+IsPadded s (Err j) = Unit
 
-padded-more : (b : ℕ) (s : List ℕ) (g : Read) → 128 ≤ b → b < 256 → IsPadded s g → IsPadded (b ∷ s) (grouped b g)
+padded-more : (b : ℕ) (s : List ℕ) (g : Coded ℕ) → 128 ≤ b → b < 256 → IsPadded s g → IsPadded (b ∷ s) (grouped b g)
 unfolding padded_groups
-padded-more b s (Value v n) hb hl w =
+padded-more b s (Ok (v, n)) hb hl w =
     let d : v ≡ (b % 128 + 128 * v) / 128 = omega arith in
     record {
       more = suc w.more;
       size = omega (arith, w.size);
       form = simp (add-one) (ap₂ ◌∷◌ (omega arith) (w.form ∙ ap (λ (x : ℕ). padded_groups w.more x ++ drop n s) d));
     }
-padded-more b s (Refused j) hb hl w = tt
+padded-more b s (Err j) hb hl w = tt
 
 last-padded : (b : ℕ) (s : List ℕ) → b < 128 → Padded (b ∷ s) b 1
 unfolding padded_groups
@@ -194,7 +196,7 @@ is-padded (suc k) top (b ∷ s) ht hs =
     (λ t. padded-more b s (any_groups k top s) (ltb-false b 128 t) (hs 0) (is-padded k top s ht (λ i. hs (suc i))))
 
 -- nothing but a padded form is read
-pub any-form : (k top : ℕ) (s : List ℕ) {v n : ℕ} → top < 128 → Bytes s → Value v n ≡ any_groups k top s → Padded s v n
+pub any-form : (k top : ℕ) (s : List ℕ) {v n : ℕ} → top < 128 → Bytes s → Ok (v, n) ≡ any_groups k top s → Padded s v n
 any-form k top s ht hs e = subst⁻¹ (IsPadded s) e (is-padded k top s ht hs)
 
 -- the padded form with no group of 0 behind the others is the written one
@@ -214,59 +216,59 @@ padded-shortest (suc j) (suc k) v l h m =
     (padded-shortest j k (v / 128) (omega arith) (omega (arith, rw pow-suc at h)) (omega (arith, rw (le-ltb v 128 s) at m)))))
 
 -- a code that is not cut is the same with the bytes e added
-same-grouped : (b : ℕ) (g h : Read) → ((Refused 9 ≡ g → ⊥) → h ≡ g) → (Refused 9 ≡ grouped b g → ⊥) → grouped b h ≡ grouped b g
-same-grouped b (Value v n) h f p = ap (grouped b) (f (λ z. clash cc))
-same-grouped b (Refused k) h f p = ap (grouped b) (f p)
+same-grouped : (b : ℕ) (g h : Coded ℕ) → ((Err BadData ≡ g → ⊥) → h ≡ g) → (Err BadData ≡ grouped b g → ⊥) → grouped b h ≡ grouped b g
+same-grouped b (Ok (v, n)) h f p = ap (grouped b) (f (λ z. clash cc))
+same-grouped b (Err k) h f p = ap (grouped b) (f p)
 
-pub any_same : (e : List ℕ) (k top : ℕ) (s : List ℕ) → (Refused 9 ≡ any_groups k top s → ⊥) → any_groups k top (s ++ e) ≡ any_groups k top s
+pub any_same : (e : List ℕ) (k top : ℕ) (s : List ℕ) → (Err BadData ≡ any_groups k top s → ⊥) → any_groups k top (s ++ e) ≡ any_groups k top s
 unfolding any_groups
 any_same e k top [] p = absurd (p refl)
 any_same e zero top (b ∷ s) p = refl
 any_same e (suc k) top (b ∷ s) p = go (any_same e k top s) (ltb b 128) p
   where
-    go : ((Refused 9 ≡ any_groups k top s → ⊥) → any_groups k top (s ++ e) ≡ any_groups k top s) → (t : Bool)
-        → (Refused 9 ≡ pick t (Value b 1) (grouped b (any_groups k top s)) → ⊥)
-        → pick t (Value b 1) (grouped b (any_groups k top (s ++ e))) ≡ pick t (Value b 1) (grouped b (any_groups k top s))
+    go : ((Err BadData ≡ any_groups k top s → ⊥) → any_groups k top (s ++ e) ≡ any_groups k top s) → (t : Bool)
+        → (Err BadData ≡ pick t (Ok (b, 1)) (grouped b (any_groups k top s)) → ⊥)
+        → pick t (Ok (b, 1)) (grouped b (any_groups k top (s ++ e))) ≡ pick t (Ok (b, 1)) (grouped b (any_groups k top s))
     go f true q = refl
     go f false q = same-grouped b (any_groups k top s) (any_groups k top (s ++ e)) f q
 
 -- a code that is cut ends, with the bytes e added, past the old end
-abbrev Past : List ℕ → Read → Type 0
-Past s (Value v n) = length s < n
-Past s (Refused j) = Unit
+abbrev Past : List ℕ → Coded ℕ → Type 0
+Past s (Ok (v, n)) = length s < n
+Past s (Err j) = Unit
 
-past-grouped : (b : ℕ) (s : List ℕ) (g h : Read) → (Refused 9 ≡ g → Past s h) → Refused 9 ≡ grouped b g → Past (b ∷ s) (grouped b h)
-past-grouped b s g (Refused j) f p = tt
-past-grouped b s (Refused k) (Value v n) f p = omega (arith, f p)
-past-grouped b s (Value w m) (Value v n) f p = clash cc
+past-grouped : (b : ℕ) (s : List ℕ) (g h : Coded ℕ) → (Err BadData ≡ g → Past s h) → Err BadData ≡ grouped b g → Past (b ∷ s) (grouped b h)
+past-grouped b s g (Err j) f p = tt
+past-grouped b s (Err k) (Ok (v, n)) f p = omega (arith, f p)
+past-grouped b s (Ok (w, m)) (Ok (v, n)) f p = clash cc
 
-past : (e : List ℕ) (k top : ℕ) (s : List ℕ) → Refused 9 ≡ any_groups k top s → Past s (any_groups k top (s ++ e))
+past : (e : List ℕ) (k top : ℕ) (s : List ℕ) → Err BadData ≡ any_groups k top s → Past s (any_groups k top (s ++ e))
 unfolding any_groups
 past e k top [] p = go (any_groups k top e) refl
   where
-    go : (r : Read) → r ≡ any_groups k top e → Past [] r
-    go (Value v n) q = (any-group k top e q).some
-    go (Refused j) q = tt
+    go : (r : Coded ℕ) → r ≡ any_groups k top e → Past [] r
+    go (Ok (v, n)) q = (any-group k top e q).some
+    go (Err j) q = tt
 past e zero top (b ∷ s) p = go (leb b top) p
   where
-    go : (t : Bool) → Refused 9 ≡ pick t (Value b 1) (Refused 7) → Past (b ∷ s) (pick (leb b top) (Value b 1) (Refused 7))
+    go : (t : Bool) → Err BadData ≡ pick {A = Coded ℕ} t (Ok (b, 1)) (Err BadCode) → Past (b ∷ s) (pick (leb b top) (Ok (b, 1)) (Err BadCode))
     go true q = clash cc
-    go false q = let z : ◌≡◌ {A = ℕ} 9 7 = cc in absurd (omega arith)
+    go false q = clash cc
 past e (suc k) top (b ∷ s) p = go (past e k top s) (ltb b 128) p
   where
-    go : (Refused 9 ≡ any_groups k top s → Past s (any_groups k top (s ++ e))) → (t : Bool)
-        → Refused 9 ≡ pick t (Value b 1) (grouped b (any_groups k top s))
-        → Past (b ∷ s) (pick t (Value b 1) (grouped b (any_groups k top (s ++ e))))
+    go : (Err BadData ≡ any_groups k top s → Past s (any_groups k top (s ++ e))) → (t : Bool)
+        → Err BadData ≡ pick t (Ok (b, 1)) (grouped b (any_groups k top s))
+        → Past (b ∷ s) (pick t (Ok (b, 1)) (grouped b (any_groups k top (s ++ e))))
     go f true q = clash cc
     go f false q = past-grouped b s (any_groups k top s) (any_groups k top (s ++ e)) f q
 
-pub any-past : (e : List ℕ) (k top : ℕ) (s : List ℕ) {v n : ℕ} → Refused 9 ≡ any_groups k top s → Value v n ≡ any_groups k top (s ++ e) → length s < n
+pub any-past : (e : List ℕ) (k top : ℕ) (s : List ℕ) {v n : ℕ} → Err BadData ≡ any_groups k top s → Ok (v, n) ≡ any_groups k top (s ++ e) → length s < n
 any-past e k top s p q = subst⁻¹ (Past s) q (past e k top s p)
 
 -- a refusal is 7 or 9
-abbrev SevenOrNine : Read → Type 0
-SevenOrNine (Value v n) = Unit
-SevenOrNine (Refused j) = (j ≡ 7) ⊎ (j ≡ 9)
+abbrev SevenOrNine : Coded ℕ → Type 0
+SevenOrNine (Ok (v, n)) = Unit
+SevenOrNine (Err j) = (j ≡ BadCode) ⊎ (j ≡ BadData)
 
 seven-or-nine : (k top : ℕ) (s : List ℕ) → SevenOrNine (any_groups k top s)
 unfolding any_groups
@@ -274,9 +276,9 @@ seven-or-nine k top [] = inr refl
 seven-or-nine zero top (b ∷ s) = pick-holds SevenOrNine (leb b top) (λ _. tt) (λ _. inl refl)
 seven-or-nine (suc k) top (b ∷ s) = pick-holds SevenOrNine (ltb b 128) (λ _. tt) (λ _. go (any_groups k top s) (seven-or-nine k top s))
   where
-    go : (g : Read) → SevenOrNine g → SevenOrNine (grouped b g)
-    go (Value v n) h = tt
-    go (Refused j) h = h
+    go : (g : Coded ℕ) → SevenOrNine g → SevenOrNine (grouped b g)
+    go (Ok (v, n)) h = tt
+    go (Err j) h = h
 
-pub any-refused : (k top : ℕ) (s : List ℕ) {j : ℕ} → Refused j ≡ any_groups k top s → (j ≡ 7) ⊎ (j ≡ 9)
+pub any-refused : (k top : ℕ) (s : List ℕ) {j : Refusal} → Err j ≡ any_groups k top s → (j ≡ BadCode) ⊎ (j ≡ BadData)
 any-refused k top s e = subst⁻¹ SevenOrNine e (seven-or-nine k top s)

@@ -1,4 +1,6 @@
 -- Laws of numbers in a fixed number of bytes, at every width. Assumes nothing.
+use Rattle.std.specs.Prelude.{Err, Ok}
+use Rattle.base.specs.Coded.{Coded}
 use mathlib.Core.Path.{◌≡◌, refl, sym, ap, ap₂, ◌∙◌, subst⁻¹}
 use mathlib.Core.List.{List, [], ◌∷◌, ◌++◌}
 use Prim.Native.Nat.{ℕ, zero, suc, ◌+◌, ◌*◌, ◌-◌, ◌/◌, ◌%◌, ◌^◌, ◌≤◌, ◌<◌}
@@ -10,8 +12,6 @@ use lib.Arith.{mod-mul}
 use lib.ListN.{length, get_or, drop, length-append}
 use lib.Seq.{drop-cons}
 use borrow.Author.Tests.{le-leb, leb-true}
-use Rattle.base.specs.declared.Read.{Read}
-use Rattle.base.specs.declared.Read.TheVariants.{Value, Refused}
 use Rattle.base.proofs.Tests.{pick-holds}
 use Rattle.base.proofs.Parts.{Bytes}
 use Rattle.counts.specs.Fixed.{fixed_from, read_fixed, fixed_bytes, prefixed}
@@ -84,22 +84,22 @@ fixed-bytes zero v i = omega arith
 fixed-bytes (suc n) v zero = omega arith
 fixed-bytes (suc n) v (suc i) = fixed-bytes n v i
 
-abbrev IsFixed : ℕ → ℕ → List ℕ → Read → Type 0
-IsFixed n high s (Value v m) = FixedRead n high s v m
-IsFixed n high s (Refused k) = Unit
+abbrev IsFixed : ℕ → ℕ → List ℕ → Coded ℕ → Type 0
+IsFixed n high s (Ok (v, m)) = FixedRead n high s v m
+IsFixed n high s (Err k) = Unit
 
-pub fixed-read : (n high : ℕ) (s : List ℕ) {v m : ℕ} → Value v m ≡ read_fixed n high s → FixedRead n high s v m
+pub fixed-read : (n high : ℕ) (s : List ℕ) {v m : ℕ} → Ok (v, m) ≡ read_fixed n high s → FixedRead n high s v m
 fixed-read n high s e =
     subst⁻¹ (IsFixed n high s) e
     (pick-holds (IsFixed n high s) (leb n (length s)) (λ t. record { value = refl; size = refl; within = leb-true n (length s) t }) (λ _. tt))
 
-pub read-fixed-written : (n high v : ℕ) (rest : List ℕ) → read_fixed n high (fixed_bytes n v ++ rest) ≡ Value (high * 256 ^ n + v % 256 ^ n) n
+pub read-fixed-written : (n high v : ℕ) (rest : List ℕ) → read_fixed n high (fixed_bytes n v ++ rest) ≡ Ok (high * 256 ^ n + v % 256 ^ n, n)
 read-fixed-written n high v rest =
     rw (le-leb n (length (fixed_bytes n v ++ rest)) (simp (length-append, length-fixed) (omega arith)))
-    (ap (λ (w : ℕ). Value w n) (fixed-written n high v rest))
+    (ap (λ (w : ℕ). Ok (w, n)) (fixed-written n high v rest))
 
 -- a number behind a prefix, whose first byte has the bits of high: it is read back, whatever follows, and is the written form of what it gives
-pub prefixed-written : (n high v : ℕ) (rest : List ℕ) → v / 256 ^ n ≡ high → read_fixed n high (fixed_bytes n v ++ rest) ≡ Value v n
+pub prefixed-written : (n high v : ℕ) (rest : List ℕ) → v / 256 ^ n ≡ high → read_fixed n high (fixed_bytes n v ++ rest) ≡ Ok (v, n)
 prefixed-written n high v rest e =
     let g : high * 256 ^ n + v % 256 ^ n ≡ v = rw e at (div-add-mod' v (256 ^ n)) in
     rw (read-fixed-written n high v rest, g)

@@ -1,4 +1,5 @@
 -- Laws of the written groups: how a writing goes on, one byte at a time, and the length and the bytes of the form. Assumes nothing.
+use Rattle.std.specs.Prelude.{Ok}
 use mathlib.Core.Path.{◌≡◌, refl, ◌∙◌}
 use mathlib.Core.List.{List, [], ◌∷◌}
 use Prim.Native.Nat.{ℕ, zero, suc, ◌+◌, ◌-◌, ◌/◌, ◌%◌, ◌^◌, ◌≤◌, ◌<◌}
@@ -10,7 +11,6 @@ use lib.ListN.{length, set, length-set}
 use lib.Seq.{sets}
 use borrow.Author.Tests.{lt-ltb, le-ltb, ltb-true}
 use Rattle.base.specs.Writing.{bytes, Writes}
-use Rattle.base.specs.declared.Wrote.TheVariants.{Length}
 use Rattle.base.proofs.Tests.{by_order, pick-holds}
 use Rattle.base.proofs.Parts.{Bytes}
 use Rattle.base.proofs.ByteLaws.{no-bytes, cons-bytes}
@@ -105,7 +105,7 @@ module _ (v : ℕ) (d₀ : List ℕ) (rest i : ℕ) (d : List ℕ) (s : Storing 
       }
 
   pub storing-end : (n : ℕ) → n ≡ length (write_groups 4 v) → n ≤ i + 1 → n ≤ length d₀
-      → Writes (bytes (write_groups 4 v)) d₀ (Length n) (set d i (rest % 128))
+      → Writes (bytes (write_groups 4 v)) d₀ (Ok n) (set d i (rest % 128))
   storing-end n m h l =
       let e = write-last (4 - i) rest (omega (arith, s.left)) in
       let w = stored (write_groups 4 v) d₀ (omega arith) in

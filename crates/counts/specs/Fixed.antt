@@ -1,8 +1,8 @@
 -- Numbers in a fixed number of bytes, high first. To be believed.
-use Rattle.std.specs.Prelude.{ℕ, zero, suc, ◌+◌, ◌*◌, ◌/◌, ◌%◌, ◌^◌, List, [], ◌∷◌, leb, length}
+use Rattle.base.specs.Coded.{Coded}
+use Rattle.base.specs.declared.Refusal.TheVariants.{BadData}
+use Rattle.std.specs.Prelude.{ℕ, zero, suc, ◌+◌, ◌*◌, ◌/◌, ◌%◌, ◌^◌, List, [], ◌∷◌, leb, length, Err, Ok}
 use Rattle.base.specs.Pick.{pick}
-use Rattle.base.specs.declared.Read.{Read}
-use Rattle.base.specs.declared.Read.TheVariants.{Value, Refused}
 
 -- the number of n bytes more behind the bits that high has, each byte above those after it
 unfoldable pub fixed_from : ℕ → ℕ → List ℕ → ℕ
@@ -11,8 +11,8 @@ fixed_from (suc n) high [] = high
 fixed_from (suc n) high (b ∷ s) = fixed_from n (high * 256 + b) s
 
 -- n bytes behind the bits that high has: "eight bytes, high first"; 9 where they end early
-abbrev pub read_fixed : ℕ → ℕ → List ℕ → Read
-read_fixed n high s = pick (leb n (length s)) (Value (fixed_from n high s) n) (Refused 9)
+abbrev pub read_fixed : ℕ → ℕ → List ℕ → Coded ℕ
+read_fixed n high s = pick (leb n (length s)) (Ok (fixed_from n high s, n)) (Err BadData)
 
 -- the n low bytes of v, high first
 unfoldable pub fixed_bytes : ℕ → ℕ → List ℕ

@@ -1,4 +1,6 @@
 -- The first interval of a zone. Assumes nothing.
+use Rattle.base.specs.declared.Refusal.{Refusal}
+use Rattle.std.specs.Prelude.{Err, Ok, Result}
 use mathlib.Core.Path.{◌≡◌, refl, sym, ap, ◌∙◌, subst}
 use mathlib.Core.List.{List, [], ◌∷◌}
 use Prim.Native.Nat.{ℕ, suc, ◌-◌}
@@ -30,24 +32,22 @@ use Rattle.zones.proofs.ReadLaws.{listed-front}
 use Rattle.zones.proofs.SoundLaws.{zone-sound}
 use Rattle.lookups.proofs.WalkLaws.{Scanned, scan-bad, scan-got}
 use Rattle.cursors.specs.declared.Cursor.{Cursor}
-use Rattle.cursors.specs.declared.Opened.{Opened}
-use Rattle.cursors.specs.declared.Opened.TheVariants.{Cursor as Opens, Refused}
 use Rattle.cursors.specs.Cursors.{found_in, read_of, Onward, ListAt, next_start, in-list, Points, IntervalsAt, FirstAt, OpenedAs}
 use Rattle.cursors.proofs.StepLaws.{FirstOf, first-of}
 
 module _ (pool : ℕ) (s : List ℕ) where
-  pub opened-bad : (k : ℕ) → parse_zone pool s ≡ bad k → OpenedAs pool s (Refused k)
+  pub opened-bad : (k : Refusal) → parse_zone pool s ≡ bad k → OpenedAs pool s (Err k)
   opened-bad k e = record { to = e }
 
-  pub opened-at : (ending : ZoneEnd) (c : Cursor) (m : ℕ) → m ≡ 0 → Points pool s ending c × Holds c.held m → OpenedAs pool s (Opens c ending)
+  pub opened-at : (ending : ZoneEnd) (c : Cursor) (m : ℕ) → m ≡ 0 → Points pool s ending c × Holds c.held m → OpenedAs pool s (Ok (c, ending))
   opened-at ending c m z h = record { to = (h.0, omega (arith, h.1.from)) }
 
   -- by what was given
-  module _ (r : Opened) (h : OpenedAs pool s r) where
-    pub refused-is : (k : ℕ) → r ≡ Refused k → parse_zone pool s ≡ bad k
+  module _ (r : Result (Cursor × ZoneEnd) Refusal) (h : OpenedAs pool s r) where
+    pub refused-is : (k : Refusal) → r ≡ Err k → parse_zone pool s ≡ bad k
     refused-is k e = (subst (OpenedAs pool s) e h).to
 
-    pub cursor-is : (c : Cursor) (ending : ZoneEnd) → r ≡ Opens c ending → Points pool s ending c × (c.held.start ≡ 0)
+    pub cursor-is : (c : Cursor) (ending : ZoneEnd) → r ≡ Ok (c, ending) → Points pool s ending c × (c.held.start ≡ 0)
     cursor-is c ending e = (subst (OpenedAs pool s) e h).to
 
   -- a fixed zone is one interval, all of time
@@ -66,7 +66,7 @@ module _ (pool : ℕ) (s : List ℕ) where
     }
 
     pub opened-fixed : (i : Interval) (place : ℕ)
-        → OpenedAs pool s (Opens (record { held = record { wall = offset; savings = 86400000; name = n; start = 0; end = end_of_time }; left = 0; next = i; place = place }) Untailed)
+        → OpenedAs pool s (Ok (record { held = record { wall = offset; savings = 86400000; name = n; start = 0; end = end_of_time }; left = 0; next = i; place = place }, Untailed))
     unfolding next_start
     opened-fixed i place = record {
       to = (
@@ -88,7 +88,7 @@ module _ (pool : ℕ) (s : List ℕ) where
     abbrev intervals : Parsed (List Interval)
     intervals = many (parse_interval pool) start_of n end_of_time (drop place s)
 
-    pub listed-bad : (k : ℕ) → Stands s (scan_of 0 intervals) (no k) → OpenedAs pool s (Refused k)
+    pub listed-bad : (k : Refusal) → Stands s (scan_of 0 intervals) (no k) → OpenedAs pool s (Err k)
     listed-bad k h = opened-bad k (f.goes ∙ scan-bad 0 s intervals (after_intervals pool f.id) k h)
 
     module _ (c : Scan) (e : ℕ) (h : Stands s (scan_of 0 intervals) (at c e)) where
@@ -98,7 +98,7 @@ module _ (pool : ℕ) (s : List ℕ) where
       last : c.last ≡ behind start_of end_of_time read.list
       last = ap (λ (x : Scan). x.last) read.scans ∙ last-start 0 read.list
 
-      pub end_refused : (k : ℕ) → EndOf (λ id is. after_intervals pool id is (drop e s)) c.last (EndRefused k) → OpenedAs pool s (Refused k)
+      pub end_refused : (k : Refusal) → EndOf (λ id is. after_intervals pool id is (drop e s)) c.last (EndRefused k) → OpenedAs pool s (Err k)
       end_refused k g = opened-bad k (f.goes ∙ read.goes ∙ g.means f.id read.list last)
 
       first-at : (end : ℕ) (b : Ending) → parse_zone pool s ≡ got (record { id = f.id; body = listed read.list end b }) [] → (r : ZoneEnd) → r ≡ read_of b
@@ -135,7 +135,7 @@ module _ (pool : ℕ) (s : List ℕ) where
     first : FirstOf pool end_of_time (n - 1) (drop place s) a.list a.rest
     first = first-of pool end_of_time (n - 1) (drop place s) a.list a.rest (ap (λ (m : ℕ). many (parse_interval pool) start_of m end_of_time (drop place s)) (sym split) ∙ a.read)
 
-    pub first-none : {G : Type 0} (k : ℕ) → Stands s (parse_interval pool end_of_time (drop place s)) (no k) → G
+    pub first-none : {G : Type 0} (k : Refusal) → Stands s (parse_interval pool end_of_time (drop place s)) (no k) → G
     first-none k h = bad-got (sym h.means ∙ first.is)
 
     module _ (i : Interval) (e : ℕ) (h : Stands s (parse_interval pool end_of_time (drop place s)) (at i e)) where

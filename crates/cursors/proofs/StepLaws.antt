@@ -1,4 +1,5 @@
 -- How a cursor goes on. Assumes nothing.
+use Rattle.base.specs.declared.Refusal.{Refusal}
 use mathlib.Core.Path.{◌≡◌, refl, sym, ap, ◌∙◌, subst}
 use mathlib.Core.List.{List, [], ◌∷◌}
 use Prim.Native.Nat.{ℕ, suc, ◌-◌, ◌≤◌, ◌<◌}
@@ -38,7 +39,7 @@ module _ (r : ZoneEnd) where
   unfolding list_end
   end-tailed n e = rw e
 
-  pub end_refused : (k : ℕ) → r ≡ EndRefused k → end_of_time ≡ list_end r
+  pub end_refused : (k : Refusal) → r ≡ EndRefused k → end_of_time ≡ list_end r
   unfolding list_end
   end_refused k e = rw e
 
@@ -133,7 +134,7 @@ module _ (pool : ℕ) (s : List ℕ) where
               ending-is = a.ending-is;
             })
 
-    pub at_none : {G : Type 0} → (left ≡ 0 → ⊥) → (k : ℕ) → Stands s (parse_interval pool i.start (drop place s)) (no k) → G
+    pub at_none : {G : Type 0} → (left ≡ 0 → ⊥) → (k : Refusal) → Stands s (parse_interval pool i.start (drop place s)) (no k) → G
     at_none {G} z k h = go a.list refl
       where
         go : (is : List Interval) → a.list ≡ is → G
@@ -292,5 +293,5 @@ module _ (pool : ℕ) (s : List ℕ) where
     pub no-untailed : {G : Type 0} → TailNext → ending ≡ Untailed → G
     no-untailed w e = let f : Tailed w.tail ≡ Untailed = sym w.ending-is ∙ e in clash cc
 
-    pub no-refused : {G : Type 0} → TailNext → (k : ℕ) → ending ≡ EndRefused k → G
+    pub no-refused : {G : Type 0} → TailNext → (k : Refusal) → ending ≡ EndRefused k → G
     no-refused w k e = let f : Tailed w.tail ≡ EndRefused k = sym w.ending-is ∙ e in clash cc

@@ -1,6 +1,7 @@
 -- What a cursor over a zone's intervals stands for. The code's way, tied to the zone's lookup by `held_same` (proofs/CursorLaws.antt): what a
 -- cursor holds is what the lookup gives at each instant of the interval.
-use Rattle.std.specs.Prelude.{ℕ, ◌+◌, ◌≤◌, ◌<◌, ◌≡◌, List, [], ◌∷◌, length, drop}
+use Rattle.base.specs.declared.Refusal.{Refusal}
+use Rattle.std.specs.Prelude.{ℕ, ◌+◌, ◌≤◌, ◌<◌, ◌≡◌, List, [], ◌∷◌, length, drop, Err, Ok, Result}
 use Rattle.base.specs.Parsed.{Parsed, got, bad, many}
 use Rattle.base.specs.Moment.{Finite, end_of_time}
 use Rattle.intervals.specs.declared.Interval.{Interval}
@@ -18,8 +19,6 @@ use Rattle.zones.specs.declared.Found.{Found}
 use Rattle.zones.specs.declared.ZoneEnd.{ZoneEnd}
 use Rattle.zones.specs.declared.ZoneEnd.TheVariants.{Untailed, Tailed, Refused as EndRefused}
 use Rattle.cursors.specs.declared.Cursor.{Cursor}
-use Rattle.cursors.specs.declared.Opened.{Opened}
-use Rattle.cursors.specs.declared.Opened.TheVariants.{Cursor as Opens, Refused}
 
 -- the interval that holds the instant t, of a zone that was read
 unfoldable pub found_in : ℕ → Parsed Zone → Found
@@ -139,10 +138,10 @@ pub record FirstAt (pool : ℕ) (s : List ℕ) (n place : ℕ) (ending : ZoneEnd
   pub zone-is : parse_zone pool s ≡ got (record { id = id; body = listed list end behind }) []
   pub ending-is : ending ≡ read_of behind
 
--- a cursor at the first interval, or the number of the zone's fault
-abbrev pub OpenedTo : ℕ → List ℕ → Opened → Type 0
-OpenedTo pool s (Opens c ending) = Points pool s ending c × (c.held.start ≡ 0)
-OpenedTo pool s (Refused k) = parse_zone pool s ≡ bad k
+-- a cursor at the first interval, or the zone's fault
+abbrev pub OpenedTo : ℕ → List ℕ → Result (Cursor × ZoneEnd) Refusal → Type 0
+OpenedTo pool s (Ok (c, ending)) = Points pool s ending c × (c.held.start ≡ 0)
+OpenedTo pool s (Err k) = parse_zone pool s ≡ bad k
 
-pub record OpenedAs (pool : ℕ) (s : List ℕ) (r : Opened) : Type 0 where
+pub record OpenedAs (pool : ℕ) (s : List ℕ) (r : Result (Cursor × ZoneEnd) Refusal) : Type 0 where
   pub to : OpenedTo pool s r

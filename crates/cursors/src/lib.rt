@@ -4,7 +4,7 @@
 #![tactic(auto)]
 
 use intervals::Interval;
-use zones::{Found, ZoneEnd};
+use zones::Found;
 
 // Where a walk over a zone's intervals stands: the interval held, how many listed ones are behind it, the next of them and the place of what
 // stands behind that. The zone's ending goes beside it: it stays the same, and is larger than all the rest.
@@ -14,11 +14,4 @@ pub struct Cursor {
     pub left: u64,
     pub next: Interval,
     pub place: usize,
-}
-
-// A cursor at the zone's first interval and the zone's ending, or the number of the zone's fault.
-#[derive(Clone, Copy)]
-pub enum Opened {
-    Cursor(Cursor, ZoneEnd),
-    Refused(u8),
 }

@@ -1,4 +1,7 @@
 -- The check and the question agree: on a well-formed file a question answers, or gives 12 or 14, and nothing else. Assumes nothing.
+use Rattle.answers.specs.declared.Found.{Found}
+use Rattle.std.specs.Prelude.{Result}
+use Rattle.base.specs.Coded.{Fault}
 use mathlib.Core.Path.{◌≡◌, refl, sym, ap, ◌∙◌, subst, subst⁻¹}
 use mathlib.Core.Bool.{Bool, true, false}
 use mathlib.Core.List.{List, [], ◌∷◌, ◌++◌}
@@ -22,7 +25,6 @@ use Rattle.base.specs.All.{All, all_none, all-also}
 use Rattle.answers.specs.Numbers.{given_by_answer}
 use Rattle.questions.specs.Question.{ask}
 use Rattle.answers.specs.declared.Mark.TheVariants.{All as Whole}
-use Rattle.answers.specs.declared.Answer.{Answer}
 use Rattle.field_checks.specs.Check.{WellFormed, file_pool, HasId}
 use Rattle.demands.specs.Zones.{InRange, Asked, NoZone}
 use Rattle.demands.specs.Whole.{Agrees, answers, no-zone, no-instant}
@@ -88,8 +90,8 @@ unfolding ask
 agree ed f id z w = by-instant (eqb (instant_of z) 0) refl
   where
     in-range : InRange z → ((g : Field) × Asked f id g) ⊎ NoZone f id → Agrees f (given_by_answer (ask f id z Whole ed))
-    in-range h (inl a) = subst⁻¹ (λ (x : Answer). Agrees f (given_by_answer x)) (zone-there ed f id z a.0 (length f) w a.1 h (omega arith)).answered answers
-    in-range h (inr n) = subst⁻¹ (λ (x : Answer). Agrees f (given_by_answer x)) (missing-whole ed f id z w n h) no-zone
+    in-range h (inl a) = subst⁻¹ (λ (x : Result Found Fault). Agrees f (given_by_answer x)) (zone-there ed f id z a.0 (length f) w a.1 h (omega arith)).answered answers
+    in-range h (inr n) = subst⁻¹ (λ (x : Result Found Fault). Agrees f (given_by_answer x)) (missing-whole ed f id z w n h) no-zone
 
     by-instant : (b : Bool) → eqb (instant_of z) 0 ≡ b → Agrees f (given_by_answer (ask f id z Whole ed))
     by-instant true e = rw e no-instant

@@ -1,4 +1,6 @@
 -- The question beside the check: what it keeps and where it answers. Assumes nothing.
+use Rattle.base.specs.declared.Refusal.{Refusal}
+use Rattle.base.specs.declared.Refusal.TheVariants.{SecondZone}
 use mathlib.Core.Path.{◌≡◌, refl, sym, ap, ◌∙◌}
 use mathlib.Core.Bool.{Bool, true, false}
 use mathlib.Core.List.{List, []}
@@ -40,7 +42,7 @@ pub record Passed (ts : List (List ℕ)) (id : List ℕ) (g : Field) : Type 0 wh
   pub low : g.id ≤ 1
   pub other : HasId ts id g → ⊥
 
-no-keep : {M A G : Type 0} {n : ℕ} {m : M} → ◌≡◌ {A = Content M A} (fault n) (keep m) → G
+no-keep : {M A G : Type 0} {n : Refusal} {m : M} → ◌≡◌ {A = Content M A} (fault n) (keep m) → G
 no-keep e = clash cc
 
 module _ (ts : List (List ℕ)) (id : List ℕ) (ed : Edition) (t : ℕ) (x x' : Memory) (y : Pool) (r : Alike ts x y) (g : Field) where
@@ -79,7 +81,7 @@ module _ (ts : List (List ℕ)) (id : List ℕ) (ed : Edition) (t : ℕ) (x x' :
   unfolding new_id
   same-pool z q k = go (among (get_or x.pool z.id []) x.ids) k
     where
-      go : (b : Bool) → pick {A = Content Memory ⊥} b (fault 13) (keep (with_id x (get_or x.pool z.id []))) ≡ keep x' → x'.pool ≡ x.pool
+      go : (b : Bool) → pick {A = Content Memory ⊥} b (fault SecondZone) (keep (with_id x (get_or x.pool z.id []))) ≡ keep x' → x'.pool ≡ x.pool
       go true e = no-keep e
       go false e = let w : with_id x (get_or x.pool z.id []) ≡ x' = cc in ap (λ (m : Memory). m.pool) (sym w)
 

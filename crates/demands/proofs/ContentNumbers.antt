@@ -1,4 +1,9 @@
 -- The numbers with which a field's contents are refused: 4, or 7 to 11; 19 in field 3. Assumes nothing.
+use Rattle.base.specs.Refusals.{refusal_number}
+use Rattle.base.specs.declared.Refusal.{Refusal}
+use Rattle.std.specs.Prelude.{Err, Ok}
+use Rattle.base.specs.Coded.{Coded}
+use Rattle.base.specs.declared.Refusal.TheVariants.{BadCode, BadData, BadInterval, BadRecurrence, BadText, SecondAlias, TooLarge}
 use mathlib.Core.Path.{◌≡◌, refl, sym}
 use mathlib.Core.Bool.{Bool, true, false}
 use mathlib.Core.List.{List, [], ◌∷◌, ◌++◌}
@@ -10,8 +15,6 @@ use lib.ListN.{length, get_or, drop}
 use Rattle.base.specs.Pick.{pick, both}
 use Rattle.base.specs.Parsed.{Parsed, got, bad, bind, behind_code, parse, parse_byte, ended, prepend, many, behind}
 use Rattle.base.specs.Moment.{finite, end_of_time}
-use Rattle.base.specs.declared.Read.{Read}
-use Rattle.base.specs.declared.Read.TheVariants.{Value, Refused}
 use Rattle.counts.specs.Groups.{read_groups}
 use Rattle.counts.specs.Count.{read_count}
 use Rattle.counts.specs.Fixed.{read_fixed, fixed_from}
@@ -34,31 +37,31 @@ use Rattle.aliases.specs.Field.{after_key, parse_entry, parse_entries, all_entri
 use Rattle.demands.specs.Numbers.{OfContent, too_large, faulty}
 
 -- a code is refused with 7 or 9
-abbrev Codes : Read → Type 0
-Codes (Value v n) = Unit {0}
-Codes (Refused k) = (k ≡ 7) ⊎ (k ≡ 9)
+abbrev Codes : Coded ℕ → Type 0
+Codes (Ok (v, n)) = Unit {0}
+Codes (Err k) = (k ≡ BadCode) ⊎ (k ≡ BadData)
 
-pick-codes : (t : Bool) (x y : Read) → Codes x → Codes y → Codes (pick t x y)
+pick-codes : (t : Bool) (x y : Coded ℕ) → Codes x → Codes y → Codes (pick t x y)
 pick-codes true x y h k = h
 pick-codes false x y h k = k
 
 groups-codes : (k top : ℕ) (s : List ℕ) → Codes (read_groups k top s)
 groups-codes k top s = go (read_groups k top s) refl
   where
-    go : (r : Read) → read_groups k top s ≡ r → Codes r
-    go (Value v n) e = tt
-    go (Refused j) e = group-refused k top s (sym e)
+    go : (r : Coded ℕ) → read_groups k top s ≡ r → Codes r
+    go (Ok (v, n)) e = tt
+    go (Err j) e = group-refused k top s (sym e)
 
 fixed-codes : (n high : ℕ) (s : List ℕ) → Codes (read_fixed n high s)
-fixed-codes n high s = pick-codes (leb n (length s)) (Value (fixed_from n high s) n) (Refused 9) tt (inr refl)
+fixed-codes n high s = pick-codes (leb n (length s)) (Ok (fixed_from n high s, n)) (Err BadData) tt (inr refl)
 
 offset-codes : (n coarser sum : ℕ) → Codes (offset_of n coarser sum)
 offset-codes n coarser sum =
-    pick-codes (in_day sum) (pick (eqb (sum % coarser) 0) (Refused 7) (Value sum n)) (Refused 7) (pick-codes (eqb (sum % coarser) 0) (Refused 7) (Value sum n) (inl refl) tt) (inl refl)
+    pick-codes (in_day sum) (pick (eqb (sum % coarser) 0) (Err BadCode) (Ok (sum, n))) (Err BadCode) (pick-codes (eqb (sum % coarser) 0) (Err BadCode) (Ok (sum, n)) (inl refl) tt) (inl refl)
 
-units-codes : (unit coarser : ℕ) (r : Read) → Codes r → Codes (in_units unit coarser r)
-units-codes unit coarser (Value v n) h = offset-codes (n + 1) coarser (v * unit)
-units-codes unit coarser (Refused k) h = h
+units-codes : (unit coarser : ℕ) (r : Coded ℕ) → Codes r → Codes (in_units unit coarser r)
+units-codes unit coarser (Ok (v, n)) h = offset-codes (n + 1) coarser (v * unit)
+units-codes unit coarser (Err k) h = h
 
 sum_codes : (s : List ℕ) → Codes (read_sum s)
 unfolding read_sum
@@ -70,7 +73,7 @@ sum_codes (b ∷ s) =
     (pick-codes (ltb b 224) _ _ (units-codes 1 1000 (read_fixed 3 (b % 32) s) (fixed-codes 3 (b % 32) s)) (inl refl))))
 
 range-codes : (n t : ℕ) → Codes (in_range n t)
-range-codes n t = pick-codes (finite t) (Value t n) (Refused 7) tt (inl refl)
+range-codes n t = pick-codes (finite t) (Ok (t, n)) (Err BadCode) tt (inl refl)
 
 count-codes : (previous v n : ℕ) → Codes (from_count previous v n)
 unfolding from_count
@@ -80,22 +83,22 @@ count-codes previous v n =
     (pick-codes (ltb v 128) _ _ (inl refl)
     (pick-codes (ltb v 2097152) _ _ (pick-codes (finite previous) _ _ (range-codes n (previous + v * hour)) (inl refl)) (range-codes n (year1800 + v * minute)))))
 
-ticks-codes : (n : ℕ) (r : Read) → Codes r → Codes (from_ticks n r)
-ticks-codes n (Value raw m) h = range-codes (n + m) (from_raw raw)
-ticks-codes n (Refused k) h = h
+ticks-codes : (n : ℕ) (r : Coded ℕ) → Codes r → Codes (from_ticks n r)
+ticks-codes n (Ok (raw, m)) h = range-codes (n + m) (from_raw raw)
+ticks-codes n (Err k) h = h
 
 moment-codes : (previous : ℕ) (s : List ℕ) → Codes (read_moment previous s)
 unfolding read_moment
 moment-codes previous s = go (read_count s) (groups-codes 4 7 s)
   where
-    go : (r : Read) → Codes r → Codes (after_transition previous s r)
-    go (Value v n) h = pick-codes (eqb v 2) _ _ (ticks-codes n (read_fixed 8 0 (drop n s)) (fixed-codes 8 0 (drop n s))) (count-codes previous v n)
-    go (Refused k) h = h
+    go : (r : Coded ℕ) → Codes r → Codes (after_transition previous s r)
+    go (Ok (v, n)) h = pick-codes (eqb v 2) _ _ (ticks-codes n (read_fixed 8 0 (drop n s)) (fixed-codes 8 0 (drop n s))) (count-codes previous v n)
+    go (Err k) h = h
 
 -- contents
 abbrev pub Fine : {A : Type 0} → Parsed A → Type 0
 Fine (got a r) = Unit {0}
-Fine (bad n) = OfContent n
+Fine (bad n) = OfContent (refusal_number n)
 
 seven : OfContent 7
 seven = faulty (omega arith) (omega arith)
@@ -121,16 +124,16 @@ either : {A : Type 0} (t : Bool) (x y : Parsed A) → Fine x → Fine y → Fine
 either true x y h k = h
 either false x y h k = k
 
-code : (read : List ℕ → Read) (s : List ℕ) → Codes (read s) → Fine (parse read s)
+code : (read : List ℕ → Coded ℕ) (s : List ℕ) → Codes (read s) → Fine (parse read s)
 code read s = go (read s)
   where
-    of : (k : ℕ) → (k ≡ 7) ⊎ (k ≡ 9) → OfContent k
+    of : (k : Refusal) → (k ≡ BadCode) ⊎ (k ≡ BadData) → OfContent (refusal_number k)
     of k (inl e) = rw e seven
     of k (inr e) = rw e nine
 
-    go : (r : Read) → Codes r → Fine (behind_code s r)
-    go (Value v n) h = tt
-    go (Refused k) h = of k h
+    go : (r : Coded ℕ) → Codes r → Fine (behind_code s r)
+    go (Ok (v, n)) h = tt
+    go (Err k) h = of k h
 
 byte : (s : List ℕ) → Fine (parse_byte s)
 unfolding parse_byte
@@ -144,15 +147,15 @@ end a (b ∷ s) = nine
 
 name : (pool : ℕ) (s : List ℕ) → Fine (parse_name pool s)
 unfolding parse_name judge_name
-name pool s = row (parse read_count s) (judge_name pool) (code read_count s (groups-codes 4 7 s)) (λ n r. either (ltb n pool) (got n r) (bad 8) tt eight)
+name pool s = row (parse read_count s) (judge_name pool) (code read_count s (groups-codes 4 7 s)) (λ n r. either (ltb n pool) (got n r) (bad BadText) tt eight)
 
 rule : (s : List ℕ) → Fine (parse_rule s)
 unfolding parse_rule after_byte parse_month after_month parse_day after_day parse_time after_time
 rule s =
-    row (parse_byte s) after_byte (byte s) (λ b r₁. either (byte_ok b) (parse_month b r₁) (bad 11)
-    (row (parse read_count r₁) (after_month b) (code read_count r₁ (groups-codes 4 7 r₁)) (λ m r₂. either (month_ok m) (parse_day b m r₂) (bad 11)
-    (row (parse read_zigzag r₂) (after_day b m) (code read_zigzag r₂ (groups-codes 4 15 r₂)) (λ z r₃. either (day_ok m z) (parse_time b m z r₃) (bad 11)
-    (row (parse read_sum r₃) (after_time b m z) (code read_sum r₃ (sum_codes r₃)) (λ time r₄. either (time_ok time) (got (rule_of b m z time) r₄) (bad 11) tt eleven))
+    row (parse_byte s) after_byte (byte s) (λ b r₁. either (byte_ok b) (parse_month b r₁) (bad BadRecurrence)
+    (row (parse read_count r₁) (after_month b) (code read_count r₁ (groups-codes 4 7 r₁)) (λ m r₂. either (month_ok m) (parse_day b m r₂) (bad BadRecurrence)
+    (row (parse read_zigzag r₂) (after_day b m) (code read_zigzag r₂ (groups-codes 4 15 r₂)) (λ z r₃. either (day_ok m z) (parse_time b m z r₃) (bad BadRecurrence)
+    (row (parse read_sum r₃) (after_time b m z) (code read_sum r₃ (sum_codes r₃)) (λ time r₄. either (time_ok time) (got (rule_of b m z time) r₄) (bad BadRecurrence) tt eleven))
     eleven)) eleven)) eleven)
 
 tail : (pool start : ℕ) (s : List ℕ) → Fine (parse_tail pool start s)
@@ -165,17 +168,17 @@ tail pool start s =
     (λ x r₁. row (parse_name pool r₁) (after_daylight_name x) (name pool r₁) (λ n r₂.
     row (parse_rule r₂) (parse_savings x n) (rule r₂) (λ d r₃.
     row (parse read_sum r₃) (after_savings x n d) (code read_sum r₃ (sum_codes r₃)) (λ v r₄.
-    either (sum_ok x.offset v) (got (tail_of x n d v) r₄) (bad 11) tt eleven))))
+    either (sum_ok x.offset v) (got (tail_of x n d v) r₄) (bad BadRecurrence) tt eleven))))
 
 interval : (pool prev : ℕ) (s : List ℕ) → Fine (parse_interval pool prev s)
 unfolding parse_interval after_start parse_details after_name after_wall judge_standard
 interval pool prev s =
     row (parse (read_moment prev) s) (after_start pool prev) (code (read_moment prev) s (moment-codes prev s)) (λ m r₁.
-    either (rises prev m) (parse_details pool m r₁) (bad 10)
+    either (rises prev m) (parse_details pool m r₁) (bad BadInterval)
     (row (parse_name pool r₁) (after_name m) (name pool r₁) (λ n r₂.
     row (parse read_sum r₂) (after_wall m n) (code read_sum r₂ (sum_codes r₂)) (λ w r₃.
     row (parse read_sum r₃) (judge_standard m n w) (code read_sum r₃ (sum_codes r₃)) (λ v r₄.
-    either (in_day (standard_sum w v)) (got (record { start = m; name = n; wall = w; savings = v }) r₄) (bad 10) tt ten))))
+    either (in_day (standard_sum w v)) (got (record { start = m; name = n; wall = w; savings = v }) r₄) (bad BadInterval) tt ten))))
     ten)
 
 intervals : (pool n prev : ℕ) (s : List ℕ) → Fine (many (parse_interval pool) start_of n prev s)
@@ -191,12 +194,12 @@ unfolding parse_zone after_id after_flag parse_fixed after_fixed_offset parse_li
 zone-numbers pool s =
     row (parse_name pool s) (after_id pool) (name pool s) (λ id r₁.
     row (parse_byte r₁) (after_flag pool id) (byte r₁) (λ flag r₂.
-    either (eqb flag 1) (parse_fixed pool id r₂) (pick (eqb flag 2) (parse_listed pool id r₂) (bad 9))
+    either (eqb flag 1) (parse_fixed pool id r₂) (pick (eqb flag 2) (parse_listed pool id r₂) (bad BadData))
     (row (parse read_sum r₂) (after_fixed_offset pool id) (code read_sum r₂ (sum_codes r₂)) (λ offset r₃. named pool id offset r₃))
-    (either (eqb flag 2) (parse_listed pool id r₂) (bad 9)
+    (either (eqb flag 2) (parse_listed pool id r₂) (bad BadData)
     (row (parse read_count r₂) (after_count pool id) (code read_count r₂ (groups-codes 4 7 r₂)) (λ n r₃.
-    either (eqb n 0) (bad 10) _ ten
-    (either (ltb 4096 n) (bad 4) _ (too_large refl)
+    either (eqb n 0) (bad BadInterval) _ ten
+    (either (ltb 4096 n) (bad TooLarge) _ (too_large refl)
     (row (many (parse_interval pool) start_of n end_of_time r₃) (after_intervals pool id) (intervals pool n end_of_time r₃) (λ is r₄.
     row (parse (read_moment (behind start_of end_of_time is)) r₄) (after_end pool id is) (code (read_moment (behind start_of end_of_time is)) r₄ (moment-codes (behind start_of end_of_time is) r₄)) (λ e r₅.
     row (parse_byte r₅) (after_tail_byte pool id is e) (byte r₅) (λ b r₆. ending pool id is e b r₆)))))))
@@ -209,17 +212,17 @@ zone-numbers pool s =
 
     ending : (pool id : ℕ) (is : List Interval) (e b : ℕ) (r : List ℕ) → Fine (after_tail_byte pool id is e b r)
     ending pool id is e b r =
-        either (eqb b 0) (pick (eqb e end_of_time) (zone_of id (listed is e untailed) r) (bad 10)) _
-        (either (eqb e end_of_time) (zone_of id (listed is e untailed) r) (bad 10) (end (record { id = id; body = listed is e untailed }) r) ten)
-        (either (eqb b 1) (pick (both (ltb (behind start_of end_of_time is) e) (ltb e end_of_time)) (parse_tailed pool id is e r) (bad 10)) (bad 9)
-        (either (both (ltb (behind start_of end_of_time is) e) (ltb e end_of_time)) (parse_tailed pool id is e r) (bad 10)
+        either (eqb b 0) (pick (eqb e end_of_time) (zone_of id (listed is e untailed) r) (bad BadInterval)) _
+        (either (eqb e end_of_time) (zone_of id (listed is e untailed) r) (bad BadInterval) (end (record { id = id; body = listed is e untailed }) r) ten)
+        (either (eqb b 1) (pick (both (ltb (behind start_of end_of_time is) e) (ltb e end_of_time)) (parse_tailed pool id is e r) (bad BadInterval)) (bad BadData)
+        (either (both (ltb (behind start_of end_of_time is) e) (ltb e end_of_time)) (parse_tailed pool id is e r) (bad BadInterval)
         (row (parse_tail pool e r) (after_tail id is e) (tail pool e r) (λ t q. end (record { id = id; body = listed is e (tailed t) }) q)) ten)
         nine)
 
 -- field 3: besides, 19
 abbrev pub FineAliases : {A : Type 0} → Parsed A → Type 0
 FineAliases (got a r) = Unit {0}
-FineAliases (bad n) = OfContent n ⊎ (n ≡ 19)
+FineAliases (bad n) = OfContent (refusal_number n) ⊎ (refusal_number n ≡ 19)
 
 weaken : {A : Type 0} (p : Parsed A) → Fine p → FineAliases p
 weaken (got a r) h = tt
@@ -229,7 +232,7 @@ alias-row : {A B : Type 0} (p : Parsed A) (k : A → List ℕ → Parsed B) → 
 alias-row (got a r) k h f = f a r
 alias-row (bad n) k h f = h
 
-alias-key : {A : Type 0} (t : Bool) (y : Parsed A) → FineAliases y → FineAliases (pick t (bad 19) y)
+alias-key : {A : Type 0} (t : Bool) (y : Parsed A) → FineAliases y → FineAliases (pick t (bad SecondAlias) y)
 alias-key true y k = inr refl
 alias-key false y k = k
 

@@ -1,4 +1,8 @@
 -- Worked questions under both editions, computed. Assumes nothing.
+use Rattle.answers.specs.declared.Found.{Found}
+use Rattle.base.specs.Coded.{Fault}
+use Rattle.std.specs.Prelude.{Err, Ok, Result}
+use Rattle.base.specs.declared.Refusal.TheVariants.{BadData, BadText}
 use mathlib.Core.Path.{◌≡◌, refl}
 use mathlib.Core.List.{List, [], ◌∷◌}
 use Prim.Native.Nat.{ℕ}
@@ -32,12 +36,10 @@ use Rattle.locate.specs.Asked.{says}
 use Rattle.questions.specs.Question.{ask}
 use Rattle.named_fields.specs.Named.{zone_in, zones_of, says as named_says, ask_named}
 use Rattle.answers.specs.declared.Mark.TheVariants.{All}
-use Rattle.answers.specs.declared.Answer.{Answer}
-use Rattle.answers.specs.declared.Answer.TheVariants.{In, Refused}
 
 -- offset zero at all of time, with the name of one byte at a place
-abbrev utc : ℕ → Answer
-utc place = In (record {
+abbrev utc : ℕ → Result Found Fault
+utc place = Ok (record {
   wall = pos 0;
   savings = pos 0;
   standard = pos 0;
@@ -59,14 +61,14 @@ two c size d = 0 ∷ 0 ∷ 0 ∷ 0 ∷ 0 ∷ 5 ∷ 2 ∷ 1 ∷ 65 ∷ 1 ∷ c �
 abbrev aliased : List ℕ
 aliased = 0 ∷ 0 ∷ 0 ∷ 0 ∷ 0 ∷ 7 ∷ 3 ∷ 1 ∷ 65 ∷ 1 ∷ 66 ∷ 1 ∷ 67 ∷ 1 ∷ 4 ∷ 0 ∷ 1 ∷ 48 ∷ 2 ∷ 3 ∷ 3 ∷ 1 ∷ 1 ∷ 0 ∷ []
 
-abbrev asked : Edition → List ℕ → Answer
+abbrev asked : Edition → List ℕ → Result Found Fault
 asked ed f = ask f (65 ∷ []) (pos 0) All ed
 
 -- a name past the pool, and one with a byte behind it, are faults under both; a listed zone keeps its interval's name
 pub alike :
     asked One (one 4 (1 ∷ 48 ∷ 5 ∷ [])) ∷ asked Two (one 4 (1 ∷ 48 ∷ 5 ∷ [])) ∷ asked One (one 5 (1 ∷ 48 ∷ 0 ∷ 0 ∷ [])) ∷ asked Two (one 5 (1 ∷ 48 ∷ 0 ∷ 0 ∷ []))
     ∷ asked One (two 66 9 (2 ∷ 1 ∷ 0 ∷ 1 ∷ 48 ∷ 48 ∷ 1 ∷ 0 ∷ [])) ∷ asked Two (two 66 9 (2 ∷ 1 ∷ 0 ∷ 1 ∷ 48 ∷ 48 ∷ 1 ∷ 0 ∷ [])) ∷ []
-    ≡ Refused 8 9 ∷ Refused 8 9 ∷ Refused 9 9 ∷ Refused 9 9 ∷ utc 10 ∷ utc 10 ∷ []
+    ≡ Err (BadText, 9) ∷ Err (BadText, 9) ∷ Err (BadData, 9) ∷ Err (BadData, 9) ∷ utc 10 ∷ utc 10 ∷ []
 unfolding ask ask_named says named_says biased_of walk iterate step act frame version zeros field order sized any_groups read_groups many counted all_strings ended chars text_sized equal read_starts starts_in parse_zone after_id after_flag parse_fixed after_fixed_offset zone_of parse_byte parse_name judge_name read_sum parse_listed after_count after_intervals after_end after_tail_byte behind read_moment from_count parse_interval after_start parse_details after_name after_wall judge_standard holding in_list behind_list fixed_name_of in_body nameless under zone_in zones_of keys target_of lookup after_key parse_entry parse_entries all_entries parse_aliases among
 alike = refl
 

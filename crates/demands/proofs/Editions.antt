@@ -1,4 +1,6 @@
 -- ASK 11: both editions give the same, the name of a fixed zone aside, which is its ID under edition 1. Assumes nothing.
+use Rattle.base.specs.declared.Refusal.TheVariants.{OutOfRange}
+use Rattle.std.specs.Prelude.{Err, Ok}
 use mathlib.Core.Path.{◌≡◌, refl, sym, ap, ◌∙◌, subst}
 use mathlib.Core.Bool.{Bool, true, false}
 use mathlib.Core.List.{List, []}
@@ -25,7 +27,6 @@ use Rattle.field_checks.specs.Check.{WellFormed, file_pool}
 use Rattle.answers.specs.Answers.{Pool, no_pool, answered, name_of}
 use Rattle.answers.specs.declared.Mark.{Mark}
 use Rattle.answers.specs.declared.Found.{Found}
-use Rattle.answers.specs.declared.Answer.TheVariants.{In, Refused}
 use Rattle.locate.specs.Asked.{Held, held, holder, of_held}
 use Rattle.locate.proofs.HeldLaws.{walk-held}
 use Rattle.questions.specs.Question.{answer_at, question, finish, ask}
@@ -48,9 +49,9 @@ module _ {M : Type 0} (mark : Mark) (t : ℕ) where
   by-walk (found v p) = go (fixed-or-same v.zone.body)
     where
       go : (nameless v.zone.body ≡ v.zone.body) ⊎ ((offset : ℕ) × (n : FixedName) × (v.zone.body ≡ fixed offset n))
-          → SameButName {M = M} (found v p) (In (answer_at One t v.pool v.zone)) (In (answer_at Two t v.pool v.zone))
+          → SameButName {M = M} (found v p) (Ok (answer_at One t v.pool v.zone)) (Ok (answer_at Two t v.pool v.zone))
       go (inl e) =
-          subst (λ (b : Body). SameButName {M = M} (found v p) (In (answered v.pool (in_body t v.zone.id b))) (In (answer_at Two t v.pool v.zone)))
+          subst (λ (b : Body). SameButName {M = M} (found v p) (Ok (answered v.pool (in_body t v.zone.id b))) (Ok (answer_at Two t v.pool v.zone)))
           (sym e) same
       go (inr (offset, n, e)) =
           name-aside (record { at = v; past = p; is = refl; offset = offset; name = n; body_is = e }) (aside v.pool t v.zone.id v.zone.body)
@@ -64,8 +65,8 @@ unfolding ask
 editions bs id z mark = go (eqb (instant_of z) 0)
   where
     go : (b : Bool)
-        → SameButName (walk (holder id) no_pool bs) (pick b (Refused 14 0) (finish mark (walk (question One id (instant_of z)) no_pool bs)))
-        (pick b (Refused 14 0) (finish mark (walk (question Two id (instant_of z)) no_pool bs)))
+        → SameButName (walk (holder id) no_pool bs) (pick b (Err (OutOfRange, 0)) (finish mark (walk (question One id (instant_of z)) no_pool bs)))
+        (pick b (Err (OutOfRange, 0)) (finish mark (walk (question Two id (instant_of z)) no_pool bs)))
     go true = same
     go false =
         rw (walk-held (answer_at One (instant_of z)) id bs, walk-held (answer_at Two (instant_of z)) id bs)
@@ -78,8 +79,8 @@ unfolding ask_named
 named-editions bs name z mark = go (eqb (instant_of z) 0)
   where
     go : (b : Bool)
-        → SameButName (walk (naming held name) nothing bs) (pick b (Refused 14 0) (finish mark (walk (naming (answer_at One (instant_of z)) name) nothing bs)))
-        (pick b (Refused 14 0) (finish mark (walk (naming (answer_at Two (instant_of z)) name) nothing bs)))
+        → SameButName (walk (naming held name) nothing bs) (pick b (Err (OutOfRange, 0)) (finish mark (walk (naming (answer_at One (instant_of z)) name) nothing bs)))
+        (pick b (Err (OutOfRange, 0)) (finish mark (walk (naming (answer_at Two (instant_of z)) name) nothing bs)))
     go true = same
     go false =
         rw (named-walk (answer_at One (instant_of z)) name bs, named-walk (answer_at Two (instant_of z)) name bs)
@@ -93,11 +94,11 @@ name_in id _ _ (in-tail is end m x l) offset n e = clash cc
 
 -- "UNDER 1 A FIXED ZONE'S NAME IS ITS ID WHATEVER FOLLOWS": in a well-formed file the asked bytes themselves
 pub shows-id : (f id : List ℕ) (z : ℤ) (g : Field) → WellFormed f → (a : Asked f id g) → InRange z → (offset : ℕ) (n : FixedName) → a.has.zone.body ≡ fixed offset n
-    → (mark : Mark) (x : Found) → ask f id z mark One ≡ In x → name_of f x ≡ id
+    → (mark : Mark) (x : Found) → ask f id z mark One ≡ Ok x → name_of f x ≡ id
 unfolding nameless under fixed_name_of
 shows-id f id z g w a h offset n e mark x k =
     let r = right One f id z g w a h in
-    let s : In r.given ≡ In x = sym (r.marked mark) ∙ k in
+    let s : Ok r.given ≡ Ok x = sym (r.marked mark) ∙ k in
     let u : r.given ≡ x = cc in
     let i : r.interval.name ≡ a.has.zone.id = name_in a.has.zone.id (nameless a.has.zone.body) r.interval r.of-zone offset absent (ap nameless e) in
     ap (name_of f) (sym u) ∙ r.named ∙ ap (λ (j : ℕ). get_or (file_pool (fields f)) j []) i ∙ a.has.bytes

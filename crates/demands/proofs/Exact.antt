@@ -1,4 +1,6 @@
 -- DEMAND 3, exactly: of a well-formed file, any first part of it, and an instant in range. Assumes nothing.
+use Rattle.base.specs.declared.Refusal.TheVariants.{NotFound}
+use Rattle.std.specs.Prelude.{Err, Ok}
 use mathlib.Core.Path.{◌≡◌, refl, sym, ap, ◌∙◌, subst}
 use mathlib.Core.Bool.{Bool, true, false}
 use mathlib.Core.List.{List, [], ◌∷◌, ◌++◌}
@@ -33,7 +35,6 @@ use Rattle.answers.specs.Answers.{Pool, no_pool, answered, name_of}
 use Rattle.questions.specs.Question.{question, finish, ask}
 use Rattle.answers.specs.declared.Mark.{Mark}
 use Rattle.answers.specs.declared.Mark.TheVariants.{More, All as Whole}
-use Rattle.answers.specs.declared.Answer.TheVariants.{In, Refused}
 use Rattle.questions.proofs.NameLaws.{standing-name}
 use Rattle.field_checks.specs.Check.{start, job, WellFormed, file_pool, HasId}
 use Rattle.demands.specs.Zones.{InRange, Asked, NoZone}
@@ -105,9 +106,9 @@ zone-there ed f id z g k w a h l =
     a.before g a.behind a.splits (passed f id a.before (g ∷ a.behind) a.splits low first) (omega (arith, a.has.is-zone))
     (λ x x' y r e. (answered y (in_zone t (under ed a.has.zone)), answers (file_pool (fields f)) id ed t x x' y r g a.has e)) in
     let x = exactly (question ed id t) no_pool f v.0 g.past k v.1 l in
-    let part : FieldOf (take k f) g → ask (take k f) id z More ed ≡ In v.0
+    let part : FieldOf (take k f) g → ask (take k f) id z More ed ≡ Ok v.0
     = λ b. asks (take k f) id z More ed h ∙ ap (finish More) (x.from_then (there-past f k l g b) ∙ v.1) in
-    let all : ask f id z Whole ed ≡ In v.0 = asks f id z Whole ed h ∙ ap (finish Whole) v.1 in
+    let all : ask f id z Whole ed ≡ Ok v.0 = asks f id z Whole ed h ∙ ap (finish Whole) v.1 in
     record {
       given = v.0;
       answered = all;
@@ -132,7 +133,7 @@ zone-missing ed f id z k w n h l =
     }
 
 -- The whole file, as all there is, says 12 where it lacks the zone: at the first byte of a field with an ID above 1, or at its end.
-pub missing-whole : (ed : Edition) (f id : List ℕ) (z : ℤ) → WellFormed f → NoZone f id → InRange z → ask f id z Whole ed ≡ Refused 12 (absent_at f)
+pub missing-whole : (ed : Edition) (f id : List ℕ) (z : ℤ) → WellFormed f → NoZone f id → InRange z → ask f id z Whole ed ≡ Err (NotFound, absent_at f)
 missing-whole ed f id z w n h =
     let t : ℕ = instant_of z in
     let s = up-to-first (fields f) in
@@ -146,6 +147,6 @@ missing-whole ed f id z w n h =
     walk-fields (question ed id t) no_pool f (length f) c.whole ∙ rw u.1 in
     rw (asks f id z Whole ed h, o) (go (first_above 1 (fields f)) u.0)
   where
-    go : (a : Option ℕ) (m : Pool) → finish Whole (outcome (stop_at a (end_at (length f))) m) ≡ Refused 12 (or_end f a)
+    go : (a : Option ℕ) (m : Pool) → finish Whole (outcome (stop_at a (end_at (length f))) m) ≡ Err (NotFound, or_end f a)
     go none m = refl
     go (some q) m = refl

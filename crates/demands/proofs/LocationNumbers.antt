@@ -1,4 +1,9 @@
 -- The numbers with which fields 6 and 7 are refused: 7 to 9, or 20. Assumes nothing.
+use Rattle.std.specs.Prelude.{Err, Ok}
+use Rattle.base.specs.Coded.{Coded}
+use Rattle.base.specs.Refusals.{refusal_number}
+use Rattle.base.specs.declared.Refusal.{Refusal}
+use Rattle.base.specs.declared.Refusal.TheVariants.{BadCode, BadData, BadLocation, BadText}
 use mathlib.Core.Path.{◌≡◌, refl, sym}
 use mathlib.Core.Bool.{Bool, true, false}
 use mathlib.Core.List.{List, [], ◌∷◌}
@@ -9,8 +14,6 @@ use lib.Dec.{ltb}
 use lib.IntN.{ℤ, pos, negsuc}
 use Rattle.base.specs.Pick.{pick}
 use Rattle.base.specs.Parsed.{Parsed, got, bad, bind, behind_code, parse, ended, prepend, many}
-use Rattle.base.specs.declared.Read.{Read}
-use Rattle.base.specs.declared.Read.TheVariants.{Value, Refused}
 use Rattle.counts.specs.Count.{read_count}
 use Rattle.counts.specs.Groups.{read_groups}
 use Rattle.counts.proofs.ShortestLaws.{group-refused}
@@ -24,7 +27,7 @@ use Rattle.demands.specs.Numbers.{OfLocations, misread, out_of_range}
 
 abbrev pub Located : {A : Type 0} → Parsed A → Type 0
 Located (got a r) = Unit {0}
-Located (bad n) = OfLocations n
+Located (bad n) = OfLocations (refusal_number n)
 
 nine : OfLocations 9
 nine = misread (omega arith) (omega arith)
@@ -40,22 +43,22 @@ either false x y h k = k
 code : (k top : ℕ) (s : List ℕ) → Located (parse (read_groups k top) s)
 code k top s = go (read_groups k top s) refl
   where
-    of : (n : ℕ) → (n ≡ 7) ⊎ (n ≡ 9) → OfLocations n
-    of n (inl e) = misread (omega arith) (omega arith)
-    of n (inr e) = misread (omega arith) (omega arith)
+    of : (n : Refusal) → (n ≡ BadCode) ⊎ (n ≡ BadData) → OfLocations (refusal_number n)
+    of n (inl e) = rw e (misread (omega arith) (omega arith))
+    of n (inr e) = rw e nine
 
-    go : (r : Read) → read_groups k top s ≡ r → Located (behind_code s r)
-    go (Value v n) e = tt
-    go (Refused j) e = of j (group-refused k top s (sym e))
+    go : (r : Coded ℕ) → read_groups k top s ≡ r → Located (behind_code s r)
+    go (Ok (v, n)) e = tt
+    go (Err j) e = of j (group-refused k top s (sym e))
 
 name : (pool : ℕ) (s : List ℕ) → Located (parse_name pool s)
 unfolding parse_name judge_name
-name pool s = row (parse read_count s) (judge_name pool) (code 4 7 s) (λ n r. either (ltb n pool) (got n r) (bad 8) tt (misread (omega arith) (omega arith)))
+name pool s = row (parse read_count s) (judge_name pool) (code 4 7 s) (λ n r. either (ltb n pool) (got n r) (bad BadText) tt (misread (omega arith) (omega arith)))
 
 seconds : (most : ℕ) (s : List ℕ) → Located (parse_seconds most s)
 unfolding parse_seconds judge_seconds
 seconds most s =
-    row (parse read_zigzag s) (judge_seconds most) (code 4 15 s) (λ v r. either (within most (unzigzag_of v)) (got v r) (bad 20) tt (out_of_range refl))
+    row (parse read_zigzag s) (judge_seconds most) (code 4 15 s) (λ v r. either (within most (unzigzag_of v)) (got v r) (bad BadLocation) tt (out_of_range refl))
 
 number : (field : LocationField) (s : List ℕ) → Located (parse_number field s)
 unfolding parse_number judge_number not_negative

@@ -1,4 +1,7 @@
 -- The named question beside the check: it keeps what the check keeps, up to the zone or field 3 that decides it. Assumes nothing.
+use Rattle.base.specs.declared.Refusal.{Refusal}
+use Rattle.base.specs.declared.Refusal.TheVariants.{BadData, NotFound, TooManySteps}
+use Rattle.std.specs.Prelude.{Err, Ok, Result}
 use mathlib.Core.Path.{◌≡◌, refl, sym, ap, ◌∙◌, subst}
 use mathlib.Core.Bool.{Bool, true, false}
 use mathlib.Core.List.{List, [], ◌++◌}
@@ -13,8 +16,6 @@ use Rattle.base.specs.Run.{stop}
 use Rattle.base.specs.Parsed.{Parsed, got, bad}
 use Rattle.base.proofs.Tests.{clash}
 use Rattle.texts.specs.Text.{read_text}
-use Rattle.texts.specs.declared.Text.{Text}
-use Rattle.texts.specs.declared.Text.TheVariants.{Part, Refused as Untext}
 use Rattle.pool.specs.Pool.{strings_of}
 use Rattle.zones.specs.Content.{Zone}
 use Rattle.zones.specs.Editions.{under}
@@ -54,11 +55,11 @@ module _ (ts : List (List ℕ)) (id : List ℕ) (ed : Edition) (t : ℕ) (x x' :
   named-answers h e = rw (lt-ltb g.id 2 (omega (arith, h.is-zone)), answers ts id ed t x x' k.pool r g h e)
 
   -- field 2
-  text-keeps : (u : Text) → text_in x g.start (length g.body) u ≡ keep x' → (text_says {A = Found} k (length g.body) u ≡ keep k) × (x'.pool ≡ x.pool)
-  text-keeps (Untext n) e = clash cc
-  text-keeps (Part b n) e = go (eqb (b + n) (length g.body)) e
+  text-keeps : (u : Result (ℕ × ℕ) Refusal) → text_in x g.start (length g.body) u ≡ keep x' → (text_says {A = Found} k (length g.body) u ≡ keep k) × (x'.pool ≡ x.pool)
+  text-keeps (Err n) e = clash cc
+  text-keeps (Ok (b, n)) e = go (eqb (b + n) (length g.body)) e
     where
-      go : (y : Bool) → pick {A = Content Memory ⊥} y (keep (with_text x (placed (g.start + b) n))) (fault 9) ≡ keep x' → (pick {A = Content Known Found} y (keep k) (fault 9) ≡ keep k) × (x'.pool ≡ x.pool)
+      go : (y : Bool) → pick {A = Content Memory ⊥} y (keep (with_text x (placed (g.start + b) n))) (fault BadData) ≡ keep x' → (pick {A = Content Known Found} y (keep k) (fault BadData) ≡ keep k) × (x'.pool ≡ x.pool)
       go true q = let w : with_text x (placed (g.start + b) n) ≡ x' = cc in (refl, ap (λ (m : Memory). m.pool) (sym w))
       go false q = clash cc
 
@@ -97,8 +98,8 @@ module _ (ts : List (List ℕ)) (id : List ℕ) (ed : Edition) (t : ℕ) (x x' :
 -- where a name leads is a stop
 abbrev pub resolved_at : Edition → ℕ → Field → Pool → Named Zone → Out Known Found
 resolved_at ed t g p (here b) = found (answered p (in_zone t (under ed b))) g.past
-resolved_at ed t g p unknown = refused 12 g.place
-resolved_at ed t g p deep = refused 18 g.place
+resolved_at ed t g p unknown = refused NotFound g.place
+resolved_at ed t g p deep = refused TooManySteps g.place
 
 pub resolved-stops : (ed : Edition) (t : ℕ) (g : Field) (p : Pool) (n : Named Zone) → verdict g (resolved (answer_at ed t) p n) ≡ stop (resolved_at ed t g p n)
 resolved-stops ed t g p (here b) = refl

@@ -1,4 +1,5 @@
 -- DEMAND 3 FOR THE NAMED QUESTION, standing answers and exactly. Assumes nothing.
+use Rattle.std.specs.Prelude.{Ok}
 use mathlib.Core.Path.{◌≡◌, refl, sym, ap, ◌∙◌, subst}
 use mathlib.Core.Bool.{Bool, true, false}
 use mathlib.Core.List.{List, [], ◌∷◌, ◌++◌, append-nil, append_assoc}
@@ -35,7 +36,6 @@ use Rattle.answers.specs.Answers.{Pool, no_pool, answered, name_of}
 use Rattle.answers.specs.declared.Mark.{Mark}
 use Rattle.answers.specs.declared.Mark.TheVariants.{More, All as Whole}
 use Rattle.answers.specs.declared.Found.{Found}
-use Rattle.answers.specs.declared.Answer.TheVariants.{In}
 use Rattle.locate.specs.Asked.{says as asked_says}
 use Rattle.questions.specs.Question.{answer_at, question, finish, ask}
 use Rattle.named_fields.specs.Named.{Seen, zone_in, Known, nothing, zones_of, seen_of, says, naming, ask_named}
@@ -184,7 +184,7 @@ module _ (ed : Edition) (f id : List ℕ) where
         }
 
     -- and what it is
-    pub zone-given : WellFormed f → (g : Field) (a : Asked f id g) → ask f id z Whole ed ≡ In (answered (first_pool (fields f)) (in_zone t (under ed a.has.zone)))
+    pub zone-given : WellFormed f → (g : Field) (a : Asked f id g) → ask f id z Whole ed ≡ Ok (answered (first_pool (fields f)) (in_zone t (under ed a.has.zone)))
     zone-given w g a =
         let low = all_map {Q = λ (e : Field). e.id ≤ 1} (λ g' e. omega (arith, e.rising, a.has.is-zone)) (chain-split f false 0 4 a.before g a.behind (rw a.splits at (listing-chain f 255))) in
         let r = reach t a.before g a.behind w a.splits (prior a.before (g ∷ a.behind) a.splits (all_map (λ g' e. omega arith) low) (none_before f id g w a)) in
@@ -193,7 +193,7 @@ module _ (ed : Edition) (f id : List ℕ) where
         let q : walk (question ed id t) no_pool f ≡ found v g.past =
         walk-stops (question ed id t) no_pool f (length f) r.whole a.before g a.behind r.known.pool (found v g.past) a.splits (omega (arith, a.has.is-zone)) (pass-asked id ed t a.before nothing r.known low r.kept) p in
         let o : r.known.pool ≡ first_pool (fields f) = reached-pool a.before g a.behind a.splits (omega (arith, a.has.is-zone)) r.known t r.kept in
-        asks f id z Whole ed h ∙ ap (finish Whole) q ∙ ap (λ (y : Pool). In (answered y (in_zone t (under ed a.has.zone)))) o
+        asks f id z Whole ed h ∙ ap (finish Whole) q ∙ ap (λ (y : Pool). Ok (answered y (in_zone t (under ed a.has.zone)))) o
 
     -- NO ZONE'S ID, and a field 3
     final-named : (g : Field) (p : Pool) (n : Named Zone) → finish More (resolved_at ed t g p n) ≡ finish Whole (resolved_at ed t g p n)

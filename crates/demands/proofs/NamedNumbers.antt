@@ -1,4 +1,8 @@
 -- The numbers of a named question. Assumes nothing.
+use Rattle.base.specs.declared.Refusal.{Refusal}
+use Rattle.base.specs.Refusals.{refusal_number}
+use Rattle.base.specs.declared.Refusal.TheVariants.{BadData, CutShort, NotFound, OutOfRange}
+use Rattle.std.specs.Prelude.{Err, Ok, Result}
 use mathlib.Core.Path.{◌≡◌, refl}
 use mathlib.Core.Bool.{Bool, true, false}
 use mathlib.Core.List.{List}
@@ -12,8 +16,6 @@ use Rattle.base.specs.Pick.{pick}
 use Rattle.base.specs.Parsed.{Parsed, got, bad as fault_of}
 use Rattle.signed.specs.Instant.{instant_of}
 use Rattle.texts.specs.Text.{read_text}
-use Rattle.texts.specs.declared.Text.{Text}
-use Rattle.texts.specs.declared.Text.TheVariants.{Part, Refused as Untext}
 use Rattle.texts.proofs.RefusalLaws.{text-faulty}
 use Rattle.pool.specs.Pool.{strings_of}
 use Rattle.zones.specs.Content.{Zone}
@@ -28,7 +30,6 @@ use Rattle.zones.specs.declared.Edition.{Edition}
 use Rattle.answers.specs.declared.Mark.{Mark}
 use Rattle.answers.specs.declared.Mark.TheVariants.{More, All as Whole}
 use Rattle.answers.specs.declared.Found.{Found}
-use Rattle.answers.specs.declared.Answer.TheVariants.{Refused}
 use Rattle.locate.specs.Asked.{says as asked_says}
 use Rattle.questions.specs.Question.{answer_at, finish}
 use Rattle.named_fields.specs.Named.{zone_in, Known, nothing, remembered, text_says, resolved, alias_says, says, naming, ask_named}
@@ -56,11 +57,11 @@ module _ {A : Type 0} (h : Pool → Zone → A) (x : List ℕ) where
       by-id (answer v) q = tt
       by-id (keep p) q = tt
 
-      by-text : (u : Text) → read_text g.body ≡ u → SaidBy (text_says k (length g.body) u)
-      by-text (Untext n) e = named-file n (of-text n (text-faulty g.body n e))
-      by-text (Part b n) e = by (eqb (b + n) (length g.body))
+      by-text : (u : Result (ℕ × ℕ) Refusal) → read_text g.body ≡ u → SaidBy (text_says k (length g.body) u)
+      by-text (Err n) e = named-file (refusal_number n) (of-text n (text-faulty g.body n e))
+      by-text (Ok (b, n)) e = by (eqb (b + n) (length g.body))
         where
-          by : (t : Bool) → SaidBy (pick t (keep k) (bad 9))
+          by : (t : Bool) → SaidBy (pick t (keep k) (bad BadData))
           by true = tt
           by false = named-file 9 (record { low = omega arith; high = omega arith })
 
@@ -71,7 +72,7 @@ module _ {A : Type 0} (h : Pool → Zone → A) (x : List ℕ) where
 
       by-aliases : (p : Parsed Dictionary) → FineAliases p → SaidBy (alias_says h x k p)
       by-aliases (got es r) q = by-lookup (lookup (zone_in k.zones) es most x)
-      by-aliases (fault_of n) (inl q) = named-file n (of-content n q)
+      by-aliases (fault_of n) (inl q) = named-file (refusal_number n) (of-content (refusal_number n) q)
       by-aliases (fault_of n) (inr q) = named-second-key q
 
       go : (t u : Bool)
@@ -89,16 +90,16 @@ pub named-numbers : (bs x : List ℕ) (z : ℤ) (mark : Mark) (ed : Edition) →
 unfolding ask_named
 named-numbers bs x z mark ed = go (eqb (instant_of z) 0)
   where
-    by-mark : (m : Mark) (n p : ℕ) → OfQuestion n → InTable OfNamed (given_by_answer (Refused (waiting m n) p))
+    by-mark : (m : Mark) (n : Refusal) (p : ℕ) → OfQuestion (refusal_number n) → InTable OfNamed (given_by_answer (Err (waiting m n, p)))
     by-mark More n p h = named-question (not_yet refl)
     by-mark Whole n p h = named-question h
 
     done : (o : Out Known Found) → Comes (naming (answer_at ed (instant_of z)) x) OfNamed (λ i. Unit {0}) named-file (named-above 3) o → InTable OfNamed (given_by_answer (finish mark o))
     done (found v p) h = tt
     done (refused n p) h = h
-    done (cut p) h = by-mark mark 2 p (question-cut refl)
-    done (ended m p) h = by-mark mark 12 p (no-zone refl)
+    done (cut p) h = by-mark mark CutShort p (question-cut refl)
+    done (ended m p) h = by-mark mark NotFound p (no-zone refl)
 
-    go : (b : Bool) → InTable OfNamed (given_by_answer (pick b (Refused 14 0) (finish mark (walk (naming (answer_at ed (instant_of z)) x) nothing bs))))
+    go : (b : Bool) → InTable OfNamed (given_by_answer (pick b (Err (OutOfRange, 0)) (finish mark (walk (naming (answer_at ed (instant_of z)) x) nothing bs))))
     go true = named-question (no-instant refl)
     go false = done (walk (naming (answer_at ed (instant_of z)) x) nothing bs) (naming-numbers (answer_at ed (instant_of z)) x bs)

@@ -1,4 +1,5 @@
 -- AN ALIAS THAT LEADS TO A ZONE gets that zone's own answer. Assumes nothing.
+use Rattle.std.specs.Prelude.{Ok}
 use mathlib.Core.Path.{◌≡◌, refl, sym, ap, ◌∙◌}
 use mathlib.Core.Bool.{Bool, true, false}
 use mathlib.Core.List.{List, [], ◌∷◌, ◌++◌}
@@ -28,7 +29,6 @@ use Rattle.frames.specs.Frame.{Field}
 use Rattle.frames.specs.Fields.{fields}
 use Rattle.field_checks.specs.Check.{WellFormed, file_pool, HasId}
 use Rattle.answers.specs.declared.Mark.TheVariants.{All as Whole}
-use Rattle.answers.specs.declared.Answer.TheVariants.{In}
 use Rattle.questions.specs.Question.{ask, answer_at}
 use Rattle.named_fields.specs.Named.{Seen, zone_in, seen_in, zones_of, seen_of, ask_named}
 use Rattle.demands.specs.Zones.{InRange, Asked, NoZone}
@@ -83,11 +83,11 @@ pub alias-target : (ed : Edition) (f id : List ℕ) (z : ℤ) (g : Field) (b : Z
 alias-target ed f id z g b w n a h e =
     let l : Leads (zone_in (seen_of (file_pool (fields f)) (fields f))) (entries_of (file_pool (fields f)) g.body) 8 id b =
     rw e at (lookup-says (zone_in (seen_of (file_pool (fields f)) (fields f))) (entries_of (file_pool (fields f)) g.body) 8 id) in
-    let i : ask_named f id z Whole ed ≡ In (answer_at ed (instant_of z) (first_pool (fields f)) b) = (by-alias ed f id z h w n g a (length f) (omega arith)).answer-is ∙ rw e in
+    let i : ask_named f id z Whole ed ≡ Ok (answer_at ed (instant_of z) (first_pool (fields f)) b) = (by-alias ed f id z h w n g a (length f) (omega arith)).answer-is ∙ rw e in
     record { zone = b; leads = l; number = rw i; as-target = i ∙ sym (go l.last l.zone-is (asked-or-none f l.last)) }
   where
     go : (y : List ℕ) → zone_in (seen_of (file_pool (fields f)) (fields f)) y ≡ some b → ((g' : Field) × Asked f y g') ⊎ NoZone f y
-        → ask f y z Whole ed ≡ In (answer_at ed (instant_of z) (first_pool (fields f)) b)
+        → ask f y z Whole ed ≡ Ok (answer_at ed (instant_of z) (first_pool (fields f)) b)
     go y q (inr m) = let o : some b ≡ none = sym q ∙ no-seen (file_pool (fields f)) y (fields f) m in clash cc
     go y q (inl p) =
         let k : Asked f y p.0 = p.1 in
@@ -95,4 +95,4 @@ alias-target ed f id z g b w n a h e =
         ap (λ (gs : List Field). zone_in (seen_of (file_pool (fields f)) gs) y) k.splits ∙ none_seen (file_pool (fields f)) y k.before (p.0 ∷ k.behind) (none_before f y p.0 w k) ∙ first-seen (file_pool (fields f)) y p.0 k.behind k.has in
         let s : some b ≡ some k.has.zone = sym q ∙ o in
         let u : k.has.zone ≡ b = cc in
-        zone-given ed f y z h w p.0 k ∙ ap (λ (v : Zone). In (answer_at ed (instant_of z) (first_pool (fields f)) v)) u
+        zone-given ed f y z h w p.0 k ∙ ap (λ (v : Zone). Ok (answer_at ed (instant_of z) (first_pool (fields f)) v)) u

@@ -1,5 +1,9 @@
 -- A file with a fixed zone without a name meets the premises of demands 2 and 3: shown well formed, its zone right at every instant in range
 -- and in every first part of the file, and answers computed. Assumes nothing.
+use Rattle.answers.specs.declared.Found.{Found}
+use Rattle.base.specs.Coded.{Fault}
+use Rattle.std.specs.Prelude.{Err, Ok, Result}
+use Rattle.base.specs.declared.Refusal.TheVariants.{CutShort, NotYet}
 use mathlib.Core.Path.{◌≡◌, refl}
 use mathlib.Core.List.{List, [], ◌∷◌}
 use Prim.Native.Nat.{ℕ, ◌≤◌}
@@ -31,8 +35,6 @@ use Rattle.rewrite.proofs.AbsenceExample.{nameless, nameless-well-formed}
 use Rattle.locate.specs.Asked.{says}
 use Rattle.questions.specs.Question.{ask}
 use Rattle.answers.specs.declared.Mark.TheVariants.{All, More}
-use Rattle.answers.specs.declared.Answer.{Answer}
-use Rattle.answers.specs.declared.Answer.TheVariants.{In, Refused}
 use Rattle.demands.specs.Zones.{InRange, Asked}
 use Rattle.demands.specs.Right.{Answered}
 use Rattle.demands.specs.Parts.{marked, There}
@@ -83,8 +85,8 @@ abbrev cut : List ℕ
 cut = 0 ∷ 0 ∷ 0 ∷ 0 ∷ 0 ∷ 3 ∷ 1 ∷ 1 ∷ 65 ∷ 1 ∷ 4 ∷ 0 ∷ 1 ∷ 48 ∷ []
 
 -- UTC at all of time, with the name of a length at a place
-abbrev utc : ℕ → ℕ → Answer
-utc place length = In (record {
+abbrev utc : ℕ → ℕ → Result Found Fault
+utc place length = Ok (record {
   wall = pos 0;
   savings = pos 0;
   standard = pos 0;
@@ -98,6 +100,6 @@ utc place length = In (record {
 -- not arrived is not absent
 pub answers :
     ask nameless a (pos 0) More Two ∷ ask second a (pos 0) More Two ∷ ask empty [] (pos 0) More Two ∷ ask cut a (pos 0) More Two ∷ ask cut a (pos 0) All Two ∷ []
-    ≡ utc 8 1 ∷ utc 10 1 ∷ utc 8 0 ∷ Refused 1 9 ∷ Refused 2 9 ∷ []
+    ≡ utc 8 1 ∷ utc 10 1 ∷ utc 8 0 ∷ Err (NotYet, 9) ∷ Err (CutShort, 9) ∷ []
 unfolding ask says biased_of walk iterate step act frame version zeros field order sized any_groups read_groups many counted all_strings ended chars text_sized equal read_starts starts_in parse_zone after_id after_flag parse_fixed after_fixed_offset zone_of parse_byte parse_name judge_name read_sum fixed_name_of in_body under
 answers = refl

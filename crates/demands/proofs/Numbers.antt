@@ -1,4 +1,11 @@
 -- THE NUMBERS GIVEN BACK are those that document 01's table has for a check, the version text, normalizing and a question. Assumes nothing.
+use Rattle.base.specs.declared.Refusal.{Refusal}
+use Rattle.std.specs.Prelude.{Err, Ok, Result}
+use Rattle.base.specs.Coded.{Coded, Fault}
+use Rattle.base.specs.declared.Refusal.TheVariants.{BadCode, BadData, CutShort, FieldOrder, FirstField, NotFound, OutOfRange, SecondZone, TooLarge, TooShort, WrongVersion}
+use Rattle.base.specs.Refusals.{refusal_number}
+use Rattle.std.specs.declared.option.Option.{Option}
+use Rattle.std.specs.declared.option.Option.TheVariants.{Some, None}
 use mathlib.Core.Path.{◌≡◌, refl}
 use mathlib.Core.Bool.{Bool, true, false}
 use mathlib.Core.List.{List, [], ◌∷◌}
@@ -8,7 +15,7 @@ use native.Mathlib.Omega.{arith}
 use lib.Dec.{ltb, leb, eqb}
 use lib.IntN.{ℤ}
 use lib.ListN.{length, take, drop, get_or}
-use borrow.Author.Tests.{eqb-false, ltb-true}
+use borrow.Author.Tests.{ltb-true}
 use Rattle.base.specs.Pick.{pick}
 use Rattle.base.specs.Equal.{equal}
 use Rattle.base.specs.All.{All, all_none, all-also}
@@ -18,12 +25,8 @@ use Rattle.base.proofs.ByteLaws.{tail-bytes}
 use Rattle.base.proofs.AllLaws.{all_head, all_tail}
 use Rattle.base.specs.Parsed.{Parsed, got, bad as fault_of}
 use Rattle.base.specs.Run.{next, iterate, follow}
-use Rattle.base.specs.declared.Read.{Read}
-use Rattle.base.specs.declared.Read.TheVariants.{Value, Refused as Unread}
 use Rattle.signed.specs.Instant.{instant_of}
 use Rattle.texts.specs.Text.{read_text}
-use Rattle.texts.specs.declared.Text.{Text}
-use Rattle.texts.specs.declared.Text.TheVariants.{Part, Refused as Untext}
 use Rattle.texts.proofs.RefusalLaws.{Faulty, text-faulty}
 use Rattle.pool.specs.Pool.{Pool as PoolContent, parse_pool, strings_of}
 use Rattle.pool.proofs.PoolLaws.{pool-faulty}
@@ -33,7 +36,7 @@ use Rattle.zones.specs.declared.Edition.{Edition}
 use Rattle.ids.specs.Ids.{among}
 use Rattle.aliases.specs.Dictionary.{Dictionary}
 use Rattle.aliases.specs.Field.{parse_aliases}
-use Rattle.frames.specs.Frame.{largest, once, order, zeros, version, sized, field, frame, Field, read_size}
+use Rattle.frames.specs.Frame.{largest, once, order, zeros, version, sized, allowed, field, frame, Field, read_size}
 use Rattle.frames.specs.Machine.{Out, found, refused, cut, ended, Content, bad, answer, keep, Job, State, state_at, field_at, verdict, onward, act, step, walk}
 use Rattle.frames.specs.declared.Frame.{Frame}
 use Rattle.frames.specs.declared.Frame.TheVariants.{End, Cut, Refused, Version, Whole}
@@ -46,11 +49,8 @@ use Rattle.field_checks.specs.Numbers.{given_by_verdict, given_by_version_text}
 use Rattle.field_checks.specs.declared.Conclusion.{Conclusion}
 use Rattle.rewrite.specs.Preferred.{preferred, given, rewrite_of}
 use Rattle.rewrite.specs.Numbers.{given_by_rewritten}
-use Rattle.rewrite.specs.declared.Rewritten.TheVariants.{Length, Refused as Unwritten}
 use Rattle.field_checks.proofs.WellFormedLaws.{good-well-formed}
 use Rattle.field_checks.specs.declared.Conclusion.TheVariants.{Refused as Unfit, Bare, WithText}
-use Rattle.field_checks.specs.declared.Verdict.{Verdict}
-use Rattle.field_checks.specs.declared.Verdict.TheVariants.{Good, Refused as Ill}
 use Rattle.answers.specs.Answers.{Pool, no_pool, waiting}
 use Rattle.answers.specs.Numbers.{given_by_answer}
 use Rattle.locate.specs.Asked.{pool_says, zone_says, says, asking}
@@ -58,7 +58,6 @@ use Rattle.questions.specs.Question.{answer_at, question, finish, ask}
 use Rattle.answers.specs.declared.Mark.{Mark}
 use Rattle.answers.specs.declared.Mark.TheVariants.{More, All as Whole'}
 use Rattle.answers.specs.declared.Found.{Found}
-use Rattle.answers.specs.declared.Answer.TheVariants.{Refused as No}
 use Rattle.demands.specs.Numbers.{OfContent, too_large, faulty, OfFile, OfCheck, check-cut, check-fault, second-zone, second_key, InTable, location-fault, misread, out_of_range}
 use Rattle.demands.specs.Numbers.{OfNormalize, normalize-check, no_room, OfVersion, version-check, no_text}
 use Rattle.demands.specs.Numbers.{OfQuestion, not_yet, question-cut, question-fault, no-zone, no-instant}
@@ -69,9 +68,11 @@ pub of-content : (n : ℕ) → OfContent n → OfFile n
 of-content n (too_large e) = record { low = omega arith; high = omega arith }
 of-content n (faulty l h) = record { low = omega arith; high = h }
 
-pub of-text : (n : ℕ) → Faulty n → OfFile n
-of-text n (inl e) = record { low = omega arith; high = omega arith }
-of-text n (inr h) = record { low = omega (arith, h.0); high = omega (arith, h.1) }
+pub of-text : (n : Refusal) → Faulty n → OfFile (refusal_number n)
+of-text n (inl e) = rw e (record { low = omega arith; high = omega arith })
+of-text n (inr (inl e)) = rw e (record { low = omega arith; high = omega arith })
+of-text n (inr (inr (inl e))) = rw e (record { low = omega arith; high = omega arith })
+of-text n (inr (inr (inr e))) = rw e (record { low = omega arith; high = omega arith })
 
 all_drop : {R : ℕ → Type 0} (n : ℕ) (xs : List ℕ) → All R xs → All R (drop n xs)
 all_drop zero xs a = a
@@ -87,14 +88,14 @@ any (x ∷ xs) = all-also tt (any xs)
 module _ {M A : Type 0} (J : Job M A) (P R : ℕ → Type 0) (of-file : (n : ℕ) → OfFile n → P n)
     (above : (i : ℕ) → R i → ltb J.last i ≡ true → P 12) where
   abbrev pub Says : Content M A → Type 0
-  Says (bad n) = P n
+  Says (bad n) = P (refusal_number n)
   Says (answer v) = Unit {0}
   Says (keep m) = Unit {0}
 
   abbrev Reads : Frame → Type 0
   Reads End = Unit {0}
   Reads Cut = Unit {0}
-  Reads (Refused n) = P n
+  Reads (Refused n) = P (refusal_number n)
   Reads Version = Unit {0}
   Reads (Whole i h n) = Unit {0}
 
@@ -105,45 +106,52 @@ module _ {M A : Type 0} (J : Job M A) (P R : ℕ → Type 0) (of-file : (n : ℕ
   numbered : (n : ℕ) → 3 ≤ n → n ≤ 11 → P n
   numbered n l h = of-file n (record { low = l; high = h })
 
-  order-number : (seen : Bool) (prev i : ℕ) → (order seen prev i ≡ 0 → ⊥) → P (order seen prev i)
+  abbrev Orders : Option Refusal → Type 0
+  Orders None = Unit {0}
+  Orders (Some k) = P (refusal_number k)
+
+  order-number : (seen : Bool) (prev i : ℕ) → Orders (order seen prev i)
   unfolding order
   order-number false prev i = go (eqb i 0)
     where
-      go : (t : Bool) → (◌≡◌ {A = ℕ} (pick t 0 6) 0 → ⊥) → P (pick t 0 6)
-      go true h = absurd (h refl)
-      go false h = numbered 6 (omega arith) (omega arith)
+      go : (t : Bool) → Orders (pick t None (Some FirstField))
+      go true = tt
+      go false = numbered 6 (omega arith) (omega arith)
   order-number true prev i = go (ltb i prev) (eqb i prev) (once i)
     where
-      go : (t u v : Bool) → (◌≡◌ {A = ℕ} (pick t 5 (pick u (pick v 5 0) 0)) 0 → ⊥) → P (pick t 5 (pick u (pick v 5 0) 0))
-      go true u v h = numbered 5 (omega arith) (omega arith)
-      go false true true h = numbered 5 (omega arith) (omega arith)
-      go false true false h = absurd (h refl)
-      go false false v h = absurd (h refl)
+      go : (t u v : Bool) → Orders (pick t (Some FieldOrder) (pick u (pick v (Some FieldOrder) None) None))
+      go true u v = numbered 5 (omega arith) (omega arith)
+      go false true true = numbered 5 (omega arith) (omega arith)
+      go false true false = tt
+      go false false v = tt
 
-  sized-number : (at i : ℕ) (r : List ℕ) (x : Read) → Reads (sized at i r x)
+  allowed-number : (o : Option Refusal) (x : Frame) → Orders o → Reads x → Reads (allowed o x)
+  allowed-number None x q h = h
+  allowed-number (Some k) x q h = q
+
+  sized-number : (at i : ℕ) (r : List ℕ) (x : Coded ℕ) → Reads (sized at i r x)
   unfolding sized
-  sized-number at i r (Unread n) = either (eqb n 9) Cut (Refused 7) (λ e. tt) (λ e. numbered 7 (omega arith) (omega arith))
-  sized-number at i r (Value v u) =
-      either (ltb largest (at + (1 + u + v))) (Refused 4) _ (λ e. numbered 4 (omega arith) (omega arith))
+  sized-number at i r (Err n) = either (eqb (refusal_number n) 9) Cut (Refused BadCode) (λ e. tt) (λ e. numbered 7 (omega arith) (omega arith))
+  sized-number at i r (Ok (v, u)) =
+      either (ltb largest (at + (1 + u + v))) (Refused TooLarge) _ (λ e. numbered 4 (omega arith) (omega arith))
       (λ e. either (leb (u + v) (length r)) (Whole i (1 + u) v) Cut (λ e. tt) (λ e. tt))
 
   frame-number : (at : ℕ) (seen : Bool) (prev : ℕ) (r : List ℕ) → All R r → Reads (frame J.last at seen prev r)
   unfolding frame version field
   frame-number at seen prev r a =
       either (eqb at 0) (version r) _
-      (λ e. either (leb 4 (length r)) _ Cut (λ e. either (zeros (take 4 r)) Version (Refused 3) (λ e. tt) (λ e. numbered 3 (omega arith) (omega arith))) (λ e. tt))
+      (λ e. either (leb 4 (length r)) _ Cut (λ e. either (zeros (take 4 r)) Version (Refused WrongVersion) (λ e. tt) (λ e. numbered 3 (omega arith) (omega arith))) (λ e. tt))
       (λ e. of_field r a)
     where
       of_field : (r : List ℕ) → All R r → Reads (field J.last at seen prev r)
       of_field [] a = tt
       of_field (i ∷ r) a =
-          either (eqb (order seen prev i) 0) _ (Refused (order seen prev i))
-          (λ e. either (ltb J.last i) (Refused 12) _ (above i (all_head a)) (λ e. sized-number at i r (read_size r)))
-          (λ e. order-number seen prev i (eqb-false (order seen prev i) 0 e))
+          allowed-number (order seen prev i) _ (order-number seen prev i)
+          (either (ltb J.last i) (Refused NotFound) _ (above i (all_head a)) (λ e. sized-number at i r (read_size r)))
 
   abbrev pub Comes : Out M A → Type 0
   Comes (found v p) = Unit {0}
-  Comes (refused n p) = P n
+  Comes (refused n p) = P (refusal_number n)
   Comes (cut p) = Unit {0}
   Comes (ended m p) = Unit {0}
 
@@ -197,22 +205,22 @@ kept-zone m d = go (parse_zone (length m.pool) d) (zone-numbers (length m.pool) 
     go : (p : Parsed Zone) → Fine p → Kept (zone_in m p)
     go (got z r) h = new (among (get_or m.pool z.id []) m.ids)
       where
-        new : (t : Bool) → Kept (pick t (bad 13) (keep (with_id m (get_or m.pool z.id []))))
+        new : (t : Bool) → Kept (pick t (bad SecondZone) (keep (with_id m (get_or m.pool z.id []))))
         new true = second-zone refl
         new false = tt
-    go (fault_of n) h = check-fault (of-content n h)
+    go (fault_of n) h = check-fault (of-content (refusal_number n) h)
 
 kept-text : (m : Memory) (a : ℕ) (d : List ℕ) → Kept (text_kept m a d)
 unfolding text_kept
 kept-text m a d = go (read_text d) refl
   where
-    two : (b n : ℕ) (t : Bool) → Kept (pick t (keep (with_text m (placed (a + b) n))) (bad 9))
+    two : (b n : ℕ) (t : Bool) → Kept (pick t (keep (with_text m (placed (a + b) n))) (bad BadData))
     two b n true = tt
     two b n false = check-fault (record { low = omega arith; high = omega arith })
 
-    go : (t : Text) → read_text d ≡ t → Kept (text_in m a (length d) t)
-    go (Untext n) e = check-fault (of-text n (text-faulty d n e))
-    go (Part b n) e = two b n (eqb (b + n) (length d))
+    go : (t : Result (ℕ × ℕ) Refusal) → read_text d ≡ t → Kept (text_in m a (length d) t)
+    go (Err n) e = check-fault (of-text n (text-faulty d n e))
+    go (Ok (b, n)) e = two b n (eqb (b + n) (length d))
 
 kept-aliases : (m : Memory) (d : List ℕ) → Kept (aliases_kept m d)
 unfolding aliases_kept
@@ -220,7 +228,7 @@ kept-aliases m d = go (parse_aliases m.pool d) (aliases-numbers m.pool d)
   where
     go : (p : Parsed Dictionary) → FineAliases p → Kept (aliases_in m p)
     go (got es r) h = tt
-    go (fault_of n) (inl h) = check-fault (of-content n h)
+    go (fault_of n) (inl h) = check-fault (of-content (refusal_number n) h)
     go (fault_of n) (inr h) = second_key h
 
 kept-locations : (m : Memory) (field : LocationField) (d : List ℕ) → Kept (locations_kept m field d)
@@ -250,7 +258,7 @@ bytes-all (b ∷ s) h = let l : b ≤ 255 = omega (arith, h 0) in all-also l (by
 
 -- what the walk of the check comes to
 abbrev Ends : Conclusion → Type 0
-Ends (Unfit n p) = OfCheck n
+Ends (Unfit n p) = OfCheck (refusal_number n)
 Ends (Bare p) = Unit {0}
 Ends (WithText a n) = Unit {0}
 
@@ -261,12 +269,12 @@ conclusion-numbers f b = go (walk job start f) (walk-number job OfCheck (λ i. i
     last : (t : TextPlace) (p : ℕ) → Ends (concluded t p)
     last nowhere p = by (eqb p 4)
       where
-        by : (t : Bool) → Ends (pick t (Unfit 6 p) (Bare p))
+        by : (t : Bool) → Ends (pick t (Unfit FirstField p) (Bare p))
         by true = check-fault (record { low = omega arith; high = omega arith })
         by false = tt
     last (placed b n) p = by (eqb p 4)
       where
-        by : (t : Bool) → Ends (pick t (Unfit 6 p) (WithText b n))
+        by : (t : Bool) → Ends (pick t (Unfit FirstField p) (WithText b n))
         by true = check-fault (record { low = omega arith; high = omega arith })
         by false = tt
 
@@ -289,13 +297,13 @@ check-numbers f b = verdict-numbers (conclusion f) (conclusion-numbers f b)
 pub check-zero : (f : List ℕ) → Bytes f → number_given (given_by_verdict (check_of f)) ≡ 0 → WellFormed f
 check-zero f b e = good-well-formed f (go (check_of f) (check-numbers f b) e)
   where
-    go : (v : Verdict) → InTable OfCheck (given_by_verdict v) → number_given (given_by_verdict v) ≡ 0 → v ≡ Good
-    go Good h e = refl
-    go (Ill n p) (check-cut q) e = absurd (omega arith)
-    go (Ill n p) (check-fault q) e = absurd (omega (arith, q.low))
-    go (Ill n p) (second-zone q) e = absurd (omega arith)
-    go (Ill n p) (second_key q) e = absurd (omega arith)
-    go (Ill n p) (location-fault q) e = absurd (omega arith)
+    go : (v : Result (Unit {0}) Fault) → InTable OfCheck (given_by_verdict v) → number_given (given_by_verdict v) ≡ 0 → v ≡ Ok tt
+    go (Ok tt) h e = refl
+    go (Err (n, p)) (check-cut q) e = absurd (omega arith)
+    go (Err (n, p)) (check-fault q) e = absurd (omega (arith, q.low))
+    go (Err (n, p)) (second-zone q) e = absurd (omega arith)
+    go (Err (n, p)) (second_key q) e = absurd (omega arith)
+    go (Err (n, p)) (location-fault q) e = absurd (omega arith)
 
 -- THE VERSION TEXT GIVES 0, 2 TO 11, 12, 13, 19 OR 20
 pub version-numbers : (f : List ℕ) → Bytes f → InTable OfVersion (given_by_version_text (version_of f))
@@ -311,13 +319,13 @@ pub normalize-numbers : (f d : List ℕ) → Bytes f → InTable OfNormalize (gi
 unfolding rewrite_of
 normalize-numbers f d b = go (check_of f) (check-numbers f b)
   where
-    by-room : (t : Bool) → InTable OfNormalize (given_by_rewritten (pick t (Length (length (preferred f))) (Unwritten 15 0)))
+    by-room : (t : Bool) → InTable OfNormalize (given_by_rewritten (pick t (Ok (length (preferred f))) (Err (TooShort, 0))))
     by-room true = tt
     by-room false = no_room refl
 
-    go : (v : Verdict) → InTable OfCheck (given_by_verdict v) → InTable OfNormalize (given_by_rewritten (given v (preferred f) d))
-    go (Ill n p) h = normalize-check h
-    go Good h = by-room (leb (length (preferred f)) (length d))
+    go : (v : Result (Unit {0}) Fault) → InTable OfCheck (given_by_verdict v) → InTable OfNormalize (given_by_rewritten (given v (preferred f) d))
+    go (Err (n, p)) h = normalize-check h
+    go (Ok tt) h = by-room (leb (length (preferred f)) (length d))
 
 -- A QUESTION GIVES 0 TO 12 OR 14, whatever the bytes, and never 13
 pub ask-file : (n : ℕ) → OfFile n → OfQuestion n
@@ -344,11 +352,11 @@ module _ {A : Type 0} (P : ℕ → Type 0) (of-file : (n : ℕ) → OfFile n →
 
       by-pool : (p : PoolContent) → parse_pool g.body ≡ p → Said (pool_says g p)
       by-pool (got ts r) e = tt
-      by-pool (fault_of n) e = of-file n (of-text n (pool-faulty g.body n e))
+      by-pool (fault_of n) e = of-file (refusal_number n) (of-text n (pool-faulty g.body n e))
 
       by-zone : (p : Parsed Zone) → Fine p → Said (zone_says h id y p)
       by-zone (got z r) f = one (equal (get_or (strings_of y.body) z.id []) id) (answer (h y z)) (keep y) tt tt
-      by-zone (fault_of n) f = of-file n (of-content n f)
+      by-zone (fault_of n) f = of-file (refusal_number n) (of-content (refusal_number n) f)
 
   pub asking-numbers : (bs : List ℕ) → Comes (asking h id) P (λ i. Unit {0}) of-file above (walk (asking h id) no_pool bs)
   asking-numbers bs = walk-number (asking h id) P (λ i. Unit {0}) of-file above said no_pool bs (any bs)
@@ -357,16 +365,16 @@ pub question-numbers : (bs id : List ℕ) (z : ℤ) (mark : Mark) (ed : Edition)
 unfolding ask
 question-numbers bs id z mark ed = go (eqb (instant_of z) 0)
   where
-    by-mark : (m : Mark) (n p : ℕ) → OfQuestion n → InTable OfQuestion (given_by_answer (No (waiting m n) p))
+    by-mark : (m : Mark) (n : Refusal) (p : ℕ) → OfQuestion (refusal_number n) → InTable OfQuestion (given_by_answer (Err (waiting m n, p)))
     by-mark More n p h = not_yet refl
     by-mark Whole' n p h = h
 
     done : (o : Out Pool Found) → Comes (question ed id (instant_of z)) OfQuestion (λ i. Unit {0}) ask-file ask-above o → InTable OfQuestion (given_by_answer (finish mark o))
     done (found x p) h = tt
     done (refused n p) h = h
-    done (cut p) h = by-mark mark 2 p (question-cut refl)
-    done (ended m p) h = by-mark mark 12 p (no-zone refl)
+    done (cut p) h = by-mark mark CutShort p (question-cut refl)
+    done (ended m p) h = by-mark mark NotFound p (no-zone refl)
 
-    go : (b : Bool) → InTable OfQuestion (given_by_answer (pick b (No 14 0) (finish mark (walk (question ed id (instant_of z)) no_pool bs))))
+    go : (b : Bool) → InTable OfQuestion (given_by_answer (pick b (Err (OutOfRange, 0)) (finish mark (walk (question ed id (instant_of z)) no_pool bs))))
     go true = no-instant refl
     go false = done (walk (question ed id (instant_of z)) no_pool bs) (asking-numbers OfQuestion ask-file ask-above (answer_at ed (instant_of z)) id bs)

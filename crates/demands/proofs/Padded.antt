@@ -1,5 +1,7 @@
 -- A file whose sizes are padded meets the premises of demands 2 and 3: its zone right at every instant in range and in every first part of the
 -- file, the parts that end among the groups of 0 included; and answers computed. Assumes nothing.
+use Rattle.std.specs.Prelude.{Err}
+use Rattle.base.specs.declared.Refusal.TheVariants.{BadCode, CutShort, NotFound, NotYet, TooLarge}
 use mathlib.Core.Path.{◌≡◌, refl}
 use mathlib.Core.List.{List, [], ◌∷◌, ◌++◌}
 use Prim.Native.Nat.{ℕ, ◌≤◌}
@@ -32,7 +34,6 @@ use Rattle.field_checks.proofs.WellFormedLaws.{good-well-formed}
 use Rattle.locate.specs.Asked.{says}
 use Rattle.questions.specs.Question.{ask}
 use Rattle.answers.specs.declared.Mark.TheVariants.{All, More}
-use Rattle.answers.specs.declared.Answer.TheVariants.{Refused}
 use Rattle.demands.specs.Zones.{InRange, Asked}
 use Rattle.demands.specs.Right.{Answered}
 use Rattle.demands.specs.Parts.{marked, There}
@@ -91,6 +92,6 @@ pub answers :
     ask (begun (131 ∷ 128 ∷ [])) a (pos 0) More Two ∷ ask (begun (131 ∷ 128 ∷ 128 ∷ 128 ∷ [])) a (pos 0) All Two
     ∷ ask (begun (131 ∷ 128 ∷ 128 ∷ 128 ∷ 128 ∷ [])) a (pos 0) More Two ∷ ask (limited (238 ∷ 255 ∷ 255 ∷ 1 ∷ [])) a (pos 0) More Two
     ∷ ask (limited (238 ∷ 255 ∷ 255 ∷ 129 ∷ 0 ∷ [])) a (pos 0) More Two ∷ ask (padded ++ 2 ∷ []) (66 ∷ []) (pos 0) More Two ∷ []
-    ≡ Refused 1 4 ∷ Refused 2 4 ∷ Refused 7 4 ∷ Refused 1 13 ∷ Refused 4 13 ∷ Refused 12 18 ∷ []
+    ≡ Err (NotYet, 4) ∷ Err (CutShort, 4) ∷ Err (BadCode, 4) ∷ Err (NotYet, 13) ∷ Err (TooLarge, 13) ∷ Err (NotFound, 18) ∷ []
 unfolding ask says biased_of walk iterate step act frame version zeros field order sized any_groups read_groups many counted all_strings ended chars text_sized equal read_starts starts_in parse_zone after_id after_flag parse_fixed after_fixed_offset zone_of parse_byte parse_name judge_name read_sum fixed_name_of in_body under
 answers = refl

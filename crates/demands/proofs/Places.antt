@@ -1,4 +1,6 @@
 -- THE PLACE OF A REFUSAL is one of the bytes, or their end. Assumes nothing.
+use Rattle.base.specs.Coded.{Fault}
+use Rattle.std.specs.Prelude.{Err, Ok, Result}
 use mathlib.Core.Path.{subst⁻¹}
 use mathlib.Core.List.{List, [], ◌∷◌}
 use Prim.Native.Nat.{ℕ, ◌≤◌}
@@ -21,17 +23,13 @@ use Rattle.field_checks.specs.Check.{TextPlace, nowhere, placed, Memory, start, 
 use Rattle.field_checks.specs.Numbers.{given_by_verdict, given_by_version_text}
 use Rattle.field_checks.specs.declared.Conclusion.{Conclusion}
 use Rattle.field_checks.specs.declared.Conclusion.TheVariants.{Refused as Unfit, Bare, WithText}
-use Rattle.field_checks.specs.declared.Verdict.{Verdict}
-use Rattle.field_checks.specs.declared.Verdict.TheVariants.{Good, Refused as Ill}
 use Rattle.answers.specs.Answers.{Pool, no_pool}
 use Rattle.answers.specs.Numbers.{given_by_answer}
 use Rattle.answers.specs.declared.Mark.{Mark}
 use Rattle.answers.specs.declared.Found.{Found}
-use Rattle.answers.specs.declared.Answer.{Answer}
 use Rattle.questions.specs.Question.{question, finish, ask}
 use Rattle.rewrite.specs.Preferred.{preferred, given, rewrite_of}
 use Rattle.rewrite.specs.Numbers.{given_by_rewritten}
-use Rattle.rewrite.specs.declared.Rewritten.{Rewritten}
 use Rattle.demands.specs.Places.{PlacedIn}
 
 abbrev At : {M A : Type 0} → ℕ → Out M A → Type 0
@@ -69,7 +67,7 @@ walk-place J m bs =
 pub question-place : (bs id : List ℕ) (z : ℤ) (mark : Mark) (ed : Edition) → PlacedIn bs (given_by_answer (ask bs id z mark ed))
 unfolding ask
 question-place bs id z mark ed =
-    pick-holds (λ (a : Answer). PlacedIn bs (given_by_answer a)) (eqb (instant_of z) 0)
+    pick-holds (λ (a : Result Found Fault). PlacedIn bs (given_by_answer a)) (eqb (instant_of z) 0)
     (λ e. record { place = omega arith })
     (λ e. done (walk (question ed id (instant_of z)) no_pool bs) (walk-place (question ed id (instant_of z)) no_pool bs))
   where
@@ -123,8 +121,8 @@ module _ (f : List ℕ) where
   unfolding rewrite_of
   normalize-place d = go (check_of f) check-place
     where
-      go : (v : Verdict) → PlacedIn f (given_by_verdict v) → PlacedIn f (given_by_rewritten (given v (preferred f) d))
-      go (Ill n p) h = record { place = h.place }
-      go Good h =
-          pick-holds (λ (r : Rewritten). PlacedIn f (given_by_rewritten r)) (leb (length (preferred f)) (length d))
+      go : (v : Result (Unit {0}) Fault) → PlacedIn f (given_by_verdict v) → PlacedIn f (given_by_rewritten (given v (preferred f) d))
+      go (Err (n, p)) h = record { place = h.place }
+      go (Ok tt) h =
+          pick-holds (λ (r : Result ℕ Fault). PlacedIn f (given_by_rewritten r)) (leb (length (preferred f)) (length d))
           (λ e. record { place = omega arith }) (λ e. record { place = omega arith })

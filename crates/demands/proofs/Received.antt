@@ -1,5 +1,7 @@
 -- DEMAND 3 FOR A RECEIVER, between two resets: what was said stays as pieces come; the numbers of its questions, and its place.
 -- Assumes nothing.
+use Rattle.base.specs.declared.Refusal.TheVariants.{TooShort}
+use Rattle.std.specs.Prelude.{Err}
 use mathlib.Core.Path.{◌≡◌, refl, sym, ◌∙◌, ap, subst}
 use mathlib.Core.List.{List, [], ◌++◌}
 use Prim.Native.Nat.{ℕ, ◌≤◌}
@@ -24,7 +26,6 @@ use Rattle.answers.specs.Answers.{number_of}
 use Rattle.answers.specs.Numbers.{given_by_answer}
 use Rattle.answers.specs.declared.Mark.{Mark}
 use Rattle.answers.specs.declared.Mark.TheVariants.{More}
-use Rattle.answers.specs.declared.Answer.TheVariants.{Refused}
 use Rattle.demands.specs.Zones.{InRange}
 use Rattle.demands.specs.Parts.{Expecting, ask_more}
 use Rattle.demands.specs.Received.{ask_on, ask_more_on, ask_named_on, StandingOn, StandingNamedOn, PartOn}
@@ -44,8 +45,8 @@ pub demand-3-received : (ed : Edition) (e : Expecting) (d : List ℕ) (cs : List
 demand-3-received ed e d cs ps id z mark =
     let s = run (start d) cs in
     let g = grows d cs ps in
-    let a : ask_more_on e s id z ed ≡ ask_more e (held_in s) id z ed = on-made (Refused 15 0) (λ bs. ask_more e bs id z ed) d cs in
-    let b = on-made (Refused 15 0) (λ bs. ask bs id z mark ed) d (cs ++ in_pieces ps) in
+    let a : ask_more_on e s id z ed ≡ ask_more e (held_in s) id z ed = on-made (Err (TooShort, 0)) (λ bs. ask_more e bs id z ed) d cs in
+    let b = on-made (Err (TooShort, 0)) (λ bs. ask bs id z mark ed) d (cs ++ in_pieces ps) in
     let w = demand-3 ed e (held_in s) g.more id z mark in
     record {
       same = λ n. b ∙ ap (λ (bs : List ℕ). ask bs id z mark ed) g.behind ∙ w.same (λ k. n (ap number_of a ∙ k)) ∙ sym a;
@@ -57,8 +58,8 @@ pub demand-3-received-named : (ed : Edition) (d : List ℕ) (cs : List Call) (ps
 demand-3-received-named ed d cs ps name z mark =
     let s = run (start d) cs in
     let g = grows d cs ps in
-    let a : ask_named_on s name z More ed ≡ ask_named (held_in s) name z More ed = on-made (Refused 15 0) (λ bs. ask_named bs name z More ed) d cs in
-    let b = on-made (Refused 15 0) (λ bs. ask_named bs name z mark ed) d (cs ++ in_pieces ps) in
+    let a : ask_named_on s name z More ed ≡ ask_named (held_in s) name z More ed = on-made (Err (TooShort, 0)) (λ bs. ask_named bs name z More ed) d cs in
+    let b = on-made (Err (TooShort, 0)) (λ bs. ask_named bs name z mark ed) d (cs ++ in_pieces ps) in
     let w = standing-named ed (held_in s) g.more name z mark in
     record {
       same = λ n. b ∙ ap (λ (bs : List ℕ). ask_named bs name z mark ed) g.behind ∙ w.same (λ k. n (ap number_of a ∙ k)) ∙ sym a;
@@ -69,7 +70,7 @@ demand-3-received-named ed d cs ps name z mark =
 pub demand-3-received-part : (ed : Edition) (e : Expecting) (d : List ℕ) (cs : List Call) (f id : List ℕ) (z : ℤ) (k : ℕ) → WellFormed f → InRange z → k ≤ length f
     → accepted (length d) [] cs ≡ take k f → PartOn ed e (run (start d) cs) f id z k
 demand-3-received-part ed e d cs f id z k w r l h = record {
-  answers = asks-accepted (Refused 15 0) (λ bs. ask_more e bs id z ed) d cs ∙ ap (λ (bs : List ℕ). ask_more e bs id z ed) h;
+  answers = asks-accepted (Err (TooShort, 0)) (λ bs. ask_more e bs id z ed) d cs ∙ ap (λ (bs : List ℕ). ask_more e bs id z ed) h;
   part = demand-3-part ed e f id z k w r l;
 }
 
@@ -87,7 +88,7 @@ held-numbers P given full q e h r d =
 
 pub received-numbers : (s : State) (id : List ℕ) (z : ℤ) (mark : Mark) (ed : Edition) → InTable (OfHeld OfQuestion) (given_by_answer (ask_on s id z mark ed))
 received-numbers s id z mark ed =
-    held-numbers OfQuestion given_by_answer (Refused 15 0) (λ bs. ask bs id z mark ed) refl (λ bs. question-numbers bs id z mark ed) s.receiver s.buffer
+    held-numbers OfQuestion given_by_answer (Err (TooShort, 0)) (λ bs. ask bs id z mark ed) refl (λ bs. question-numbers bs id z mark ed) s.receiver s.buffer
 
 -- of a well-formed file every field is whole: its place is its length
 pub whole-place : (f : List ℕ) → WellFormed f → unfinished f ≡ length f

@@ -1,5 +1,9 @@
 -- THE QUESTIONS AND THE REWRITER: on a well-formed file every question that means "this is all" gives the same on the preferred file, places of refusals apart.
 -- Assumes nothing.
+use Rattle.answers.specs.declared.Found.{Found}
+use Rattle.base.specs.declared.Refusal.{Refusal}
+use Rattle.base.specs.Coded.{Fault}
+use Rattle.std.specs.Prelude.{Err, Result}
 use mathlib.Core.Path.{◌≡◌, refl, sym, ap, ◌∙◌, subst, subst⁻¹}
 use mathlib.Core.Bool.{Bool, true, false}
 use mathlib.Core.List.{List, [], ◌∷◌}
@@ -26,8 +30,6 @@ use Rattle.frames.proofs.ChainLaws.{listing-chain}
 use Rattle.answers.specs.Answers.{number_of}
 use Rattle.questions.specs.Question.{ask}
 use Rattle.answers.specs.declared.Mark.TheVariants.{All as Whole}
-use Rattle.answers.specs.declared.Answer.{Answer}
-use Rattle.answers.specs.declared.Answer.TheVariants.{Refused}
 use Rattle.field_checks.specs.Check.{WellFormed, file_pool, HasId}
 use Rattle.rewrite.specs.Preferred.{preferred}
 use Rattle.rewrite.proofs.KeptLaws.{FieldKept}
@@ -43,12 +45,12 @@ use Rattle.demands.specs.Right.{Right}
 use Rattle.demands.specs.Same.{SameFound, SameAnswer, both-answer, both-refuse}
 use Rattle.demands.proofs.Right.{right}
 
-pub same-number : (f h : List ℕ) (a b : Answer) → SameAnswer f h a b → number_of a ≡ number_of b
+pub same-number : (f h : List ℕ) (a b : Result Found Fault) → SameAnswer f h a b → number_of a ≡ number_of b
 same-number f h a b (both-answer s) = refl
 same-number f h a b both-refuse = refl
 
 -- two refusals with one number
-refusals : (f h : List ℕ) (a b : Answer) {n p q : ℕ} → a ≡ Refused n p → b ≡ Refused n q → SameAnswer f h a b
+refusals : (f h : List ℕ) (a b : Result Found Fault) {n : Refusal} {p q : ℕ} → a ≡ Err (n, p) → b ≡ Err (n, q) → SameAnswer f h a b
 refusals f h a b d e = rw (d, e) both-refuse
 
 module _ (f : List ℕ) (w : WellFormed f) (b : Bytes f) where

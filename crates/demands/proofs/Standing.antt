@@ -1,4 +1,7 @@
 -- DEMAND 3, standing answers: "More bytes never change what we have said." Assumes nothing.
+use Rattle.base.specs.declared.Refusal.TheVariants.{OutOfRange}
+use Rattle.base.specs.Coded.{Fault}
+use Rattle.std.specs.Prelude.{Err, Result}
 use mathlib.Core.Path.{◌≡◌, refl}
 use mathlib.Core.Bool.{Bool, true, false}
 use mathlib.Core.List.{List, ◌++◌}
@@ -16,7 +19,6 @@ use Rattle.questions.specs.Question.{question, finish, ask}
 use Rattle.answers.specs.declared.Mark.{Mark}
 use Rattle.answers.specs.declared.Mark.TheVariants.{More}
 use Rattle.answers.specs.declared.Found.{Found}
-use Rattle.answers.specs.declared.Answer.TheVariants.{Refused}
 
 -- what is not "not yet" is settled
 settled : {M : Type 0} (o : Out M Found) → (number_of (finish More o) ≡ 1 → ⊥) → final o ≡ true
@@ -41,8 +43,8 @@ waits (ended m p) h = refl
 
 -- of any job that answers as a question does, behind 14
 pub standing-job : {M : Type 0} (J : Job M Found) (m : M) (bs more : List ℕ) (mark : Mark) (t : Bool)
-    → (number_of (pick t (Refused 14 0) (finish More (walk J m bs))) ≡ 1 → ⊥)
-    → pick t (Refused 14 0) (finish mark (walk J m (bs ++ more))) ≡ pick t (Refused 14 0) (finish More (walk J m bs))
+    → (number_of (pick t (Err (OutOfRange, 0)) (finish More (walk J m bs))) ≡ 1 → ⊥)
+    → pick {A = Result Found Fault} t (Err (OutOfRange, 0)) (finish mark (walk J m (bs ++ more))) ≡ pick t (Err (OutOfRange, 0)) (finish More (walk J m bs))
 standing-job J m bs more mark true h = refl
 standing-job J m bs more mark false h =
     let s = settled (walk J m bs) h in

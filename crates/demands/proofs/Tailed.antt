@@ -1,5 +1,8 @@
 -- A file that meets demand 2's premises with a list and a tail behind another zone: shown well formed, its zones right at every instant in
 -- range, and answers computed at the changes. Assumes nothing.
+use Rattle.answers.specs.declared.Found.{Found}
+use Rattle.base.specs.Coded.{Fault}
+use Rattle.std.specs.Prelude.{Err, Ok, Result}
 use mathlib.Core.Path.{◌≡◌, refl}
 use mathlib.Core.List.{List, [], ◌∷◌, map}
 use Prim.Native.Nat.{ℕ, ◌*◌, ◌-◌}
@@ -40,8 +43,6 @@ use Rattle.field_checks.proofs.WellFormedLaws.{good-well-formed}
 use Rattle.locate.specs.Asked.{says}
 use Rattle.questions.specs.Question.{ask, ask_plain}
 use Rattle.answers.specs.Answers.{name_of}
-use Rattle.answers.specs.declared.Answer.{Answer}
-use Rattle.answers.specs.declared.Answer.TheVariants.{In, Refused}
 use Rattle.demands.specs.Right.{Answered}
 use Rattle.demands.proofs.Right.{demand-2}
 
@@ -84,9 +85,9 @@ pub data Values : Type 0 where
   values : ℤ → ℤ → ℤ → List ℕ → ℤ → ℤ → Values
   none : Values
 
-abbrev values_of : Answer → Values
-values_of (In x) = values x.wall x.savings x.standard (name_of file x) x.start x.end
-values_of (Refused n p) = none
+abbrev values_of : Result Found Fault → Values
+values_of (Ok x) = values x.wall x.savings x.standard (name_of file x) x.start x.end
+values_of (Err (n, p)) = none
 
 abbrev asked : ℤ → Values
 asked z = values_of (ask_plain file (90 ∷ []) z Two)

@@ -1,11 +1,13 @@
 -- TWELVE WORKED CASES OF DOCUMENT 01, each with the sentence that it is; of its plain lines Ask 1's. `worked` (proofs/Worked.antt) says that they hold; the other worked
 -- values are run by programs (docs/STATEMENTS.md says which). To be believed.
-use Rattle.std.specs.Prelude.{List, [], ◌∷◌, ◌++◌, ℕ, ◌+◌, ◌*◌, ◌-◌, ℤ, pos, negsuc, take}
+use Rattle.answers.specs.declared.Found.{Found}
+use Rattle.base.specs.Refusals.{refusal_number}
+use Rattle.base.specs.Coded.{Coded, Fault}
+use Rattle.std.specs.Prelude.{List, [], ◌∷◌, ◌++◌, ℕ, ◌+◌, ◌*◌, ◌-◌, ℤ, pos, negsuc, take, Err, Ok, Result}
 use Rattle.base.specs.Moment.{epoch}
 use Rattle.base.specs.Numbers.{GivenBack, answering, refusing}
 use Rattle.base.specs.Parsed.{Parsed, got, bad}
 use Rattle.base.specs.Writing.{Form, bytes, unfit}
-use Rattle.signed.specs.declared.Number.{Number}
 use Rattle.signed.specs.Number.{given_by_number}
 use Rattle.counts.specs.Count.{count_form}
 use Rattle.counts.specs.SignedCount.{read_signed_count}
@@ -21,14 +23,12 @@ use Rattle.answers.specs.Answers.{name_of}
 use Rattle.answers.specs.Numbers.{given_by_answer}
 use Rattle.answers.specs.declared.Mark.{Mark}
 use Rattle.answers.specs.declared.Mark.TheVariants.{More, All}
-use Rattle.answers.specs.declared.Answer.{Answer}
-use Rattle.answers.specs.declared.Answer.TheVariants.{In, Refused}
 
 -- what is asked: a count written; a signed count, an offset or a transition (behind a previous one) read; a rule's bytes in a year, where
 -- both wall offsets are zero; a marked or a plain question of some bytes
 pub data Asking : Type 0 where
   writing : ℕ → Asking
-  reading : (List ℕ → Number) → List ℕ → Asking
+  reading : (List ℕ → Coded ℤ) → List ℕ → Asking
   rule : List ℕ → ℕ → Asking
   question : List ℕ → List ℕ → ℤ → Mark → Asking
   plain : List ℕ → List ℕ → ℤ → Asking
@@ -51,16 +51,16 @@ refusal n p = told (refusing n p)
 
 abbrev pub of_form : Form → Given
 of_form (bytes xs) = code xs
-of_form (unfit n) = refusal n 0
+of_form (unfit n) = refusal (refusal_number n) 0
 
 -- "years 0 and below allowed": a year is counted from -399
 abbrev pub of_rule : ℕ → Parsed Rule → Given
 of_rule y (got r q) = falls (falls_on r (y + 399)) (occurrence r (subtracted r.mode 86400000 86400000) (y + 399) - epoch)
-of_rule y (bad n) = refusal n 0
+of_rule y (bad n) = refusal (refusal_number n) 0
 
-abbrev pub of_answer : List ℕ → Answer → Given
-of_answer bs (In x) = reply x.wall x.savings x.standard (name_of bs x)
-of_answer bs (Refused n p) = told (given_by_answer (Refused n p))
+abbrev pub of_answer : List ℕ → Result Found Fault → Given
+of_answer bs (Ok x) = reply x.wall x.savings x.standard (name_of bs x)
+of_answer bs (Err (n, p)) = told (given_by_answer (Err (n, p)))
 
 abbrev pub given : Asking → Given
 given (writing v) = of_form (count_form v)

@@ -1,11 +1,10 @@
 -- Ask 11: "Under 1 a fixed zone's name is its ID whatever follows; under 2 it is as today. The bytes accepted and all offsets are the same under
 -- both." Of any bytes, whatever the mark. To be believed.
-use Rattle.std.specs.Prelude.{ℕ, ◌≡◌}
+use Rattle.base.specs.Coded.{Fault}
+use Rattle.std.specs.Prelude.{ℕ, ◌≡◌, Ok, Result}
 use Rattle.zones.specs.Content.{FixedName, fixed}
 use Rattle.frames.specs.Machine.{Out, found}
 use Rattle.answers.specs.declared.Found.{Found}
-use Rattle.answers.specs.declared.Answer.{Answer}
-use Rattle.answers.specs.declared.Answer.TheVariants.{In}
 use Rattle.locate.specs.Asked.{Held}
 
 -- the walk o to the asked zone comes to a fixed one, of flag 1
@@ -26,6 +25,6 @@ pub record NameAside (x y : Found) : Type 0 where
   pub end : x.end ≡ y.end
 
 -- of the two editions: the same number and place or the same answer, and where the walk o comes to a fixed zone the same answer but for the name
-pub data SameButName {M : Type 0} (o : Out M Held) : Answer → Answer → Type 0 where
-  same : {a : Answer} → SameButName o a a
-  name-aside : {x y : Found} → ToFixed o → NameAside x y → SameButName o (In x) (In y)
+pub data SameButName {M : Type 0} (o : Out M Held) : Result Found Fault → Result Found Fault → Type 0 where
+  same : {a : Result Found Fault} → SameButName o a a
+  name-aside : {x y : Found} → ToFixed o → NameAside x y → SameButName o (Ok x) (Ok y)

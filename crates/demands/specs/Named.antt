@@ -1,6 +1,8 @@
 -- What demand 3 says of the named question: "For this question demand 3 holds with that waiting point, and for a key that isn't a zone ID the
 -- part from then on gives what the whole file gives, 18 and 12 included". To be believed.
-use Rattle.std.specs.Prelude.{ℕ, ◌≤◌, ◌<◌, ◌≡◌, List, [], ◌∷◌, ◌++◌, ◌⊎◌, ℤ, take}
+use Rattle.base.specs.declared.Refusal.TheVariants.{NotFound, TooManySteps}
+use Rattle.base.specs.Coded.{Fault}
+use Rattle.std.specs.Prelude.{ℕ, ◌≤◌, ◌<◌, ◌≡◌, List, [], ◌∷◌, ◌++◌, ◌⊎◌, ℤ, take, Err, Ok, Result}
 use Rattle.std.proofs.Math.Option.{some}
 use Rattle.base.specs.All.{All}
 use Rattle.signed.specs.Instant.{instant_of}
@@ -15,8 +17,6 @@ use Rattle.answers.specs.Answers.{Pool, no_pool, number_of, name_of}
 use Rattle.answers.specs.declared.Mark.{Mark}
 use Rattle.answers.specs.declared.Mark.TheVariants.{More, All as Whole}
 use Rattle.answers.specs.declared.Found.{Found}
-use Rattle.answers.specs.declared.Answer.{Answer}
-use Rattle.answers.specs.declared.Answer.TheVariants.{In, Refused}
 use Rattle.questions.specs.Question.{ask, answer_at}
 use Rattle.named_fields.specs.Named.{zone_in, seen_of, ask_named}
 use Rattle.demands.specs.Zones.{Asked, NoZone}
@@ -25,7 +25,7 @@ use Rattle.demands.specs.Zones.{Asked, NoZone}
 -- more expected or as all there is", "the name byte for byte"
 pub record StandingNamed (ed : Edition) (bs more id : List ℕ) (z : ℤ) (mark : Mark) : Type 0 where
   pub same : (number_of (ask_named bs id z More ed) ≡ 1 → ⊥) → ask_named (bs ++ more) id z mark ed ≡ ask_named bs id z More ed
-  pub same_name : (x : Found) → ask_named bs id z More ed ≡ In x → name_of (bs ++ more) x ≡ name_of bs x
+  pub same_name : (x : Found) → ask_named bs id z More ed ≡ Ok x → name_of (bs ++ more) x ≡ name_of bs x
 
 -- g is the file's field 3
 pub record Aliases (f : List ℕ) (g : Field) : Type 0 where
@@ -43,7 +43,7 @@ NoAliases f = All (λ h. h.id ≡ 3 → ⊥) (fields f)
 pub record Until (ed : Edition) (f id : List ℕ) (z : ℤ) (g : Field) (k : ℕ) : Type 0 where
   pub before : (FieldOf (take k f) g → ⊥) → number_of (ask_named (take k f) id z More ed) ≡ 1
   pub from_then : FieldOf (take k f) g → ask_named (take k f) id z More ed ≡ ask_named f id z Whole ed
-  pub same_name : FieldOf (take k f) g → (x : Found) → ask_named f id z Whole ed ≡ In x → name_of (take k f) x ≡ name_of f x
+  pub same_name : FieldOf (take k f) g → (x : Found) → ask_named f id z Whole ed ≡ Ok x → name_of (take k f) x ≡ name_of f x
 
 -- field 0 of a file with these fields
 unfoldable pub first_pool : List Field → Pool
@@ -51,10 +51,10 @@ first_pool [] = no_pool
 first_pool (g ∷ gs) = record { start = g.start; body = g.body }
 
 -- "Places for 18, 19 and a 12 found in field 3 are that field's ID byte"
-abbrev pub given_by : Edition → ℕ → ℕ → Pool → Named Zone → Answer
-given_by ed t place p (here b) = In (answer_at ed t p b)
-given_by ed t place p unknown = Refused 12 place
-given_by ed t place p deep = Refused 18 place
+abbrev pub given_by : Edition → ℕ → ℕ → Pool → Named Zone → Result Found Fault
+given_by ed t place p (here b) = Ok (answer_at ed t p b)
+given_by ed t place p unknown = Err (NotFound, place)
+given_by ed t place p deep = Err (TooManySteps, place)
 
 -- where the name leads in the file f, whose field 3 is g
 abbrev pub leads_to : List ℕ → List ℕ → Field → Named Zone
@@ -81,7 +81,7 @@ pub record OfTarget (ed : Edition) (f id : List ℕ) (z : ℤ) (g : Field) : Typ
 -- no zone's ID, in a file without a field 3: "'no such zone' is given once an ID above 3 has begun"
 pub record Unnamed (ed : Edition) (f id : List ℕ) (z : ℤ) (k : ℕ) : Type 0 where
   pub before : ((q : ℕ) → first_above 3 (fields f) ≡ some q → k ≤ q) → number_of (ask_named (take k f) id z More ed) ≡ 1
-  pub from_then : (q : ℕ) → first_above 3 (fields f) ≡ some q → q < k → ask_named (take k f) id z More ed ≡ Refused 12 q
+  pub from_then : (q : ℕ) → first_above 3 (fields f) ≡ some q → q < k → ask_named (take k f) id z More ed ≡ Err (NotFound, q)
 
 -- of the first k bytes of a well-formed file f
 pub record NamedPart (ed : Edition) (f id : List ℕ) (z : ℤ) (k : ℕ) : Type 0 where

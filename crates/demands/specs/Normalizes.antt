@@ -1,25 +1,25 @@
 -- What document 02 and the demands say of normalizing, of what it gives (rewrite_of) and of what it leaves in the output (output_of). To be
 -- believed.
-use Rattle.std.specs.Prelude.{ℕ, ◌≤◌, ◌<◌, ◌≡◌, List, [], ◌∷◌, ◌++◌, pos, length, drop}
+use Rattle.base.specs.Refusals.{refusal_number}
+use Rattle.base.specs.declared.Refusal.{Refusal}
+use Rattle.base.specs.Coded.{Fault}
+use Rattle.std.specs.Prelude.{ℕ, ◌≤◌, ◌<◌, ◌≡◌, List, [], ◌∷◌, ◌++◌, pos, length, drop, Err, Ok, Result}
 use Rattle.base.specs.Bytes.{Bytes}
 use Rattle.base.specs.Numbers.{GivenBack, answering, refusing, number_given, given_by_wrote}
 use Rattle.base.specs.Writing.{bytes, wrote, placed}
-use Rattle.base.specs.declared.Wrote.{Wrote}
 use Rattle.field_checks.specs.Check.{WellFormed, check_of}
-use Rattle.field_checks.specs.declared.Verdict.{Verdict}
-use Rattle.field_checks.specs.declared.Verdict.TheVariants.{Good, Refused as Ill}
 use Rattle.rewrite.specs.Preferred.{content, preferred, rewrite_of, output_of}
 use Rattle.rewrite.specs.Numbers.{given_by_rewritten}
 
 -- the check's refusal, "or rewrites": the result, of a check and a writing
-abbrev pub given_in_turn : Verdict → Wrote → GivenBack
-given_in_turn (Ill n p) w = refusing n p
-given_in_turn Good w = given_by_wrote w
+abbrev pub given_in_turn : Result (Unit {0}) Fault → Result ℕ Refusal → GivenBack
+given_in_turn (Err (n, p)) w = refusing (refusal_number n) p
+given_in_turn (Ok tt) w = given_by_wrote w
 
 -- and the output, which was d and holds e after the writing
-abbrev pub left_in_turn : Verdict → List ℕ → List ℕ → List ℕ
-left_in_turn (Ill n p) d e = d
-left_in_turn Good d e = e
+abbrev pub left_in_turn : Result (Unit {0}) Fault → List ℕ → List ℕ → List ℕ
+left_in_turn (Err (n, p)) d e = d
+left_in_turn (Ok tt) d e = e
 
 -- Ask 10: "on any bytes and room its result and output are those of the two in turn": of the check of f, then of the writing of its preferred
 -- file to the output d

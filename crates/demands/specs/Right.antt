@@ -2,7 +2,7 @@
 -- and the offset, savings, name and bounds given are those of the published format and its yearly rules." The intervals of a zone are a
 -- definition on its content (`InZone`), not by way of the lookup. By Ask 7 the standard offset is one of the values; by Ask 11 it is
 -- "said once, over the edition". To be believed.
-use Rattle.std.specs.Prelude.{ℕ, ◌≡◌, List, [], ℤ, pos, neg_ℤ, ◌-ℤ◌, ◌<ℤ◌, length, get_or}
+use Rattle.std.specs.Prelude.{ℕ, ◌≡◌, List, [], ℤ, pos, neg_ℤ, ◌-ℤ◌, ◌<ℤ◌, length, get_or, Ok}
 use Rattle.base.specs.Parsed.{got}
 use Rattle.signed.specs.Instant.{instant_of, ticks_of}
 use Rattle.signed.specs.OffsetSum.{milliseconds_of}
@@ -19,7 +19,6 @@ use Rattle.answers.specs.Answers.{number_of, name_of}
 use Rattle.questions.specs.Question.{ask, ask_plain}
 use Rattle.answers.specs.declared.Mark.{Mark}
 use Rattle.answers.specs.declared.Found.{Found}
-use Rattle.answers.specs.declared.Answer.TheVariants.{In}
 use Rattle.field_checks.specs.Check.{file_pool}
 use Rattle.demands.specs.Zones.{InRange}
 
@@ -34,8 +33,8 @@ pub record StandardRight (x : Found) : Type 0 where
 pub record Right (ed : Edition) (f id : List ℕ) (z : ℤ) (w : Zone) : Type 0 where
   pub number_is : number_of (ask_plain f id z ed) ≡ 0
   pub given : Found
-  pub plain : ask_plain f id z ed ≡ In given
-  pub marked : (mark : Mark) → ask f id z mark ed ≡ In given
+  pub plain : ask_plain f id z ed ≡ Ok given
+  pub marked : (mark : Mark) → ask f id z mark ed ≡ Ok given
   -- it is of one interval of the zone, which holds the instant, and no other does
   pub interval : Interval
   pub of-zone : InZone (under ed w) interval

@@ -1,9 +1,9 @@
 -- What a question gives on two files, places aside. To be believed.
-use Rattle.std.specs.Prelude.{ℕ, ◌≡◌, List}
+use Rattle.base.specs.declared.Refusal.{Refusal}
+use Rattle.base.specs.Coded.{Fault}
+use Rattle.std.specs.Prelude.{ℕ, ◌≡◌, List, Err, Ok, Result}
 use Rattle.answers.specs.Answers.{name_of}
 use Rattle.answers.specs.declared.Found.{Found}
-use Rattle.answers.specs.declared.Answer.{Answer}
-use Rattle.answers.specs.declared.Answer.TheVariants.{In, Refused}
 
 -- "The same answer: every value that it carries is equal, the name byte for byte": x of the file f, y of the file h
 pub record SameFound (f h : List ℕ) (x y : Found) : Type 0 where
@@ -15,6 +15,6 @@ pub record SameFound (f h : List ℕ) (x y : Found) : Type 0 where
   pub name : name_of f x ≡ name_of h y
 
 -- both files give that answer, or both the refusal with the same number
-pub data SameAnswer (f h : List ℕ) : Answer → Answer → Type 0 where
-  both-answer : {x y : Found} → SameFound f h x y → SameAnswer f h (In x) (In y)
-  both-refuse : {n p q : ℕ} → SameAnswer f h (Refused n p) (Refused n q)
+pub data SameAnswer (f h : List ℕ) : Result Found Fault → Result Found Fault → Type 0 where
+  both-answer : {x y : Found} → SameFound f h x y → SameAnswer f h (Ok x) (Ok y)
+  both-refuse : {n : Refusal} {p q : ℕ} → SameAnswer f h (Err (n, p)) (Err (n, q))

@@ -8,7 +8,8 @@ ghost use Rattle.stretches.specs.Stretches.{numbers_of};
 ghost use Rattle.differences.specs.View.{SideIn, side_stretches, Lists};
 ghost use Rattle.difference_lists.specs.Window.{end_of};
 
-use differences::{Listing, Side};
+use base::{Fault, Refusal};
+use differences::Side;
 
 // The stretches of two zones, put in the lent list.
 fn compare(
@@ -91,7 +92,7 @@ pub fn list(
     first: u64,
     last: u64,
     out: &mut [i64],
-) -> Listing
+) -> Result<usize, Fault>
     requires { SideIn f.now sf.now first x × SideIn g.now sg.now first y × Finite first × Finite last }
     ensures { Lists (side_stretches f.now x g.now y first last) out.old result out.new }
 {
@@ -99,11 +100,11 @@ pub fn list(
     let mut none = [0i64; 0];
     let n = compare(f, sf, x, g, sg, y, first, e, &mut none);
     if out.len() / 2 < n {
-        return Listing::Refused(15, 0);
+        return Err((Refusal::TooShort, 0));
     }
     if n == 0 {
-        return Listing::Listed(0);
+        return Ok(0);
     }
     let k = compare(f, sf, x, g, sg, y, first, e, out);
-    Listing::Listed(k)
+    Ok(k)
 }

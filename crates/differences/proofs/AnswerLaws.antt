@@ -1,4 +1,6 @@
 -- Where two files differ, by their questions, is where the two zones differ. Assumes nothing.
+use Rattle.base.specs.declared.Refusal.{Refusal}
+use Rattle.std.specs.Prelude.{Err, Ok}
 use mathlib.Core.Path.{◌≡◌, sym, ap, ◌∙◌, subst}
 use mathlib.Core.List.{List, []}
 use Prim.Native.Nat.{ℕ, ◌-◌, ◌≤◌, ◌<◌}
@@ -29,7 +31,6 @@ use Rattle.frames.specs.Machine.{Out, found, refused, cut, ended, walk}
 use Rattle.frames.specs.Mapped.{map_out}
 use Rattle.answers.specs.Answers.{Pool, no_pool, answered, name_of}
 use Rattle.answers.specs.declared.Mark.TheVariants.{All}
-use Rattle.answers.specs.declared.Answer.TheVariants.{In, Refused as Denied}
 use Rattle.answers.proofs.NameLaws.{Located, name-is}
 use Rattle.locate.specs.Asked.{Held, holder, of_held}
 use Rattle.locate.specs.View.{part, pool_at, Lies}
@@ -57,10 +58,10 @@ pool-located f a e l =
     record { within = omega (arith, l.order, l.inside); part = ap (λ (k : ℕ). take k (drop a f)) (sym n) }
 
 -- a question's refusal, at every instant in range
-pub asks-refused : (f id : List ℕ) (z : ℤ) → InRange z → (n p : ℕ) → Refuses (walk (holder id) no_pool f) n p → ask_all f id z ≡ Denied n p
+pub asks-refused : (f id : List ℕ) (z : ℤ) → InRange z → (n : Refusal) (p : ℕ) → Refuses (walk (holder id) no_pool f) n p → ask_all f id z ≡ Err (n, p)
 asks-refused f id z h n p r = ask-held f id z All Two h ∙ go (walk (holder id) no_pool f) r
   where
-    go : (o : Out Pool Held) → Refuses o n p → finish All (map_out (of_held (answer_at Two (instant_of z))) o) ≡ Denied n p
+    go : (o : Out Pool Held) → Refuses o n p → finish All (map_out (of_held (answer_at Two (instant_of z))) o) ≡ Err (n, p)
     go (found v q) k = absurd k
     go (refused m q) k = let a = k.0 in let b = k.1 in rw (a, b)
     go (cut q) k = let a = k.0 in let b = k.1 in rw (a, b)
@@ -85,16 +86,16 @@ module _ (f id ix : List ℕ) (t₀ : ℕ) (x : Side) (i : SideIn f ix t₀ x) (
   name_below t f' = (zone-found count t zone (zone-sound count (zone_of f x) zone [] parsed).0 f').name-ok
 
   -- answered at every instant in range
-  pub side-answers : (z : ℤ) → InRange z → ask_all f id z ≡ In (answered (pool_at f x.pool x.past) (in_zone (instant_of z) zone))
+  pub side-answers : (z : ℤ) → InRange z → ask_all f id z ≡ Ok (answered (pool_at f x.pool x.past) (in_zone (instant_of z) zone))
   unfolding under
   side-answers z r =
       holding-asks f id z All Two r (record { zone = h.held; past = h.past; is = h.is })
-      ∙ ap (λ (p : Pool). In (answered p (in_zone (instant_of z) zone))) h.pool-is
+      ∙ ap (λ (p : Pool). Ok (answered p (in_zone (instant_of z) zone))) h.pool-is
 
-  pub side-answers-at : (t : ℕ) → Finite t → ask_all f id (ticks_of t) ≡ In (answered (pool_at f x.pool x.past) (in_zone t zone))
+  pub side-answers-at : (t : ℕ) → Finite t → ask_all f id (ticks_of t) ≡ Ok (answered (pool_at f x.pool x.past) (in_zone t zone))
   side-answers-at t l =
       let r : InRange (ticks_of t) = λ e. omega (arith, l.low, instant-ticks t l) in
-      side-answers (ticks_of t) r ∙ ap (λ (u : ℕ). In (answered (pool_at f x.pool x.past) (in_zone u zone))) (instant-ticks t l)
+      side-answers (ticks_of t) r ∙ ap (λ (u : ℕ). Ok (answered (pool_at f x.pool x.past) (in_zone u zone))) (instant-ticks t l)
 
   pub side-name : (t : ℕ) → Finite t → name_of f (answered (pool_at f x.pool x.past) (in_zone t zone)) ≡ get_or (strings_of (pool_of f x)) (in_zone t zone).name []
   side-name t l = name-is f (pool_at f x.pool x.past) (in_zone t zone) (pool-located f x.pool x.past i.lies) (name_below t l)

@@ -1,4 +1,8 @@
 -- Each way out of the difference of two files. Assumes nothing.
+use Rattle.base.specs.declared.Refusal.{Refusal}
+use Rattle.base.specs.declared.Refusal.TheVariants.{OutOfRange, TooShort}
+use Rattle.base.specs.Coded.{Fault}
+use Rattle.std.specs.Prelude.{Err, Ok, Result}
 use mathlib.Core.Path.{◌≡◌, refl, sym, ap, ◌∙◌, subst}
 use mathlib.Core.List.{List, [], ◌∷◌}
 use Prim.Native.Nat.{ℕ, ◌/◌, ◌≤◌, ◌<◌}
@@ -19,29 +23,27 @@ use Rattle.stretches.proofs.StepLaws.{numbers-length, same-stretches}
 use Rattle.zone_differences.specs.Differ.{differ_at as zones_differ}
 use Rattle.differences.specs.Difference.{ask_all, differ_at, differences, listed, after_both, difference, filled, Gives}
 use Rattle.differences.specs.View.{pool_of, zone_of, SideIn, HeldBy, Refuses, side_stretches, Lists, GivesBetween}
-use Rattle.differences.specs.declared.Listing.{Listing}
-use Rattle.differences.specs.declared.Listing.TheVariants.{Listed, Refused}
 use Rattle.differences.specs.declared.Side.{Side}
 use Rattle.differences.proofs.AnswerLaws.{asks-refused, side-answers-at, differ-is}
 
 -- a list that is too small, and one that is not
 module _ (xs : List Stretch) (d : List ℤ) where
-  pub lists-short : (n : ℕ) → n ≡ length xs → length d / 2 < n → Lists xs d (Refused 15 0) d
+  pub lists-short : (n : ℕ) → n ≡ length xs → length d / 2 < n → Lists xs d (Err (TooShort, 0)) d
   unfolding listed filled
   lists-short n e h = record { result = rw (lt-leb (length xs) (length d / 2) (omega arith)); output = refl }
 
-  pub lists-all : (n k : ℕ) (e : List ℤ) → n ≡ length xs → n ≤ length d / 2 → (k ≡ length xs) × (e ≡ sets d 0 (numbers_of xs)) → Lists xs d (Listed k) e
+  pub lists-all : (n k : ℕ) (e : List ℤ) → n ≡ length xs → n ≤ length d / 2 → (k ≡ length xs) × (e ≡ sets d 0 (numbers_of xs)) → Lists xs d (Ok k) e
   unfolding listed filled
   lists-all n k e i h g = record {
-    result = rw (le-leb (length xs) (length d / 2) (omega arith)) (ap Listed g.0);
+    result = rw (le-leb (length xs) (length d / 2) (omega arith)) (ap Ok g.0);
     output = g.1 ∙ sets-eq (numbers_of xs) d 0 (omega (arith, numbers-length xs)) ∙ rw (zero-add (length (numbers_of xs)));
   }
 
-  pub lists-none : (n : ℕ) → n ≡ length xs → n ≡ 0 → Lists xs d (Listed 0) d
+  pub lists-none : (n : ℕ) → n ≡ length xs → n ≡ 0 → Lists xs d (Ok 0) d
   unfolding listed filled numbers_of
   lists-none n e z = go xs (sym e ∙ z)
     where
-      go : (ys : List Stretch) → length ys ≡ 0 → Lists ys d (Listed 0) d
+      go : (ys : List Stretch) → length ys ≡ 0 → Lists ys d (Ok 0) d
       go [] h = record { result = rw (le-leb 0 (length d / 2) (omega arith)); output = refl }
       go (y ∷ ys) h = absurd (omega arith)
 
@@ -54,12 +56,12 @@ module _ (f g id : List ℕ) (first last : ℕ) (d : List ℤ) (l : Finite first
   in-range e = omega (arith, l.low, instant-ticks first l)
 
   -- a refusal writes nothing
-  pub left-refused : (n p : ℕ) → Refuses (walk (holder id) no_pool f) n p → GivesBetween f g id first last d (Refused n p) d
+  pub left-refused : (n : Refusal) (p : ℕ) → Refuses (walk (holder id) no_pool f) n p → GivesBetween f g id first last d (Err (n, p)) d
   unfolding filled
   left-refused n p r = record { result = rw (asks-refused f id (ticks_of first) in-range n p r); output = refl }
 
   module _ (sf : List ℕ) (x : Side) (a : SideIn f sf first x × HeldBy f (walk (holder id) no_pool f) x) where
-    pub right-refused : (n p : ℕ) → Refuses (walk (holder id) no_pool g) n p → GivesBetween f g id first last d (Refused n p) d
+    pub right-refused : (n : Refusal) (p : ℕ) → Refuses (walk (holder id) no_pool g) n p → GivesBetween f g id first last d (Err (n, p)) d
     unfolding filled
     right-refused n p r = record {
       result = rw (side-answers-at f id sf first x a.0 a.1 first l, asks-refused g id (ticks_of first) in-range n p r);
@@ -67,7 +69,7 @@ module _ (f g id : List ℕ) (first last : ℕ) (d : List ℤ) (l : Finite first
     }
 
     pub both-listed : (sg : List ℕ) (y : Side) → SideIn g sg first y × HeldBy g (walk (holder id) no_pool g) y → Finite last
-        → (r : Listing) (e : List ℤ) → Lists (side_stretches f x g y first last) d r e → GivesBetween f g id first last d r e
+        → (r : Result ℕ Fault) (e : List ℤ) → Lists (side_stretches f x g y first last) d r e → GivesBetween f g id first last d r e
     both-listed sg y b m r e k =
         let same : side_stretches f x g y first last ≡ all =
         sym (same-stretches (differ_at f g id) (zones_differ (zone_of f x) (pool_of f x) (zone_of g y) (pool_of g y)) first last
@@ -80,16 +82,16 @@ module _ (f g id : List ℕ) (first last : ℕ) (d : List ℤ) (l : Finite first
 
 -- their ticks
 module _ (f g id : List ℕ) (first last : ℤ) (d : List ℤ) (a : ℕ) (h : a ≡ instant_of first) where
-  pub gives-first : a ≡ 0 → Gives f g id first last d (Refused 14 0) d
+  pub gives-first : a ≡ 0 → Gives f g id first last d (Err (OutOfRange, 0)) d
   unfolding difference filled
   gives-first z = record { result = rw (eq-eqb (instant_of first) 0 (sym h ∙ z)); output = refl }
 
   module _ (i : a ≡ 0 → ⊥) (b : ℕ) (j : b ≡ instant_of last) where
-    pub gives-last : b ≡ 0 → Gives f g id first last d (Refused 14 0) d
+    pub gives-last : b ≡ 0 → Gives f g id first last d (Err (OutOfRange, 0)) d
     unfolding difference filled
     gives-last z = record { result = rw (ne_eqb (instant_of first) 0 (λ e. i (h ∙ e)), eq-eqb (instant_of last) 0 (sym j ∙ z)); output = refl }
 
-    pub gives-between : (b ≡ 0 → ⊥) → (r : Listing) (e : List ℤ) → GivesBetween f g id a b d r e → Gives f g id first last d r e
+    pub gives-between : (b ≡ 0 → ⊥) → (r : Result ℕ Fault) (e : List ℤ) → GivesBetween f g id a b d r e → Gives f g id first last d r e
     unfolding difference
     gives-between k r e w =
         let t : ticks_of a ≡ first = ap (λ (m : ℕ). ticks_of m) h ∙ ticks-instant first (subst Finite h (instant-finite a first h i)) in

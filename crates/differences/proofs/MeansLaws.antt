@@ -1,4 +1,7 @@
 -- What the result means. Assumes nothing.
+use Rattle.base.specs.declared.Refusal.TheVariants.{OutOfRange, TooShort}
+use Rattle.base.specs.Coded.{Fault}
+use Rattle.std.specs.Prelude.{Err, Ok, Result}
 use mathlib.Core.Path.{◌≡◌, refl, ap}
 use mathlib.Core.Bool.{Bool, true, false, not}
 use mathlib.Core.List.{List}
@@ -16,14 +19,10 @@ use Rattle.signed.specs.Instant.{instant_of, InRange}
 use Rattle.signed.proofs.IntegerLaws.{instant-finite}
 use Rattle.answers.specs.Answers.{name_of}
 use Rattle.answers.specs.declared.Found.{Found}
-use Rattle.answers.specs.declared.Answer.{Answer}
-use Rattle.answers.specs.declared.Answer.TheVariants.{In, Refused as Denied}
 use Rattle.stretches.specs.Stretches.{Stretch}
 use Rattle.stretches.proofs.StretchLaws.{stretches-list}
 use Rattle.differences.specs.Difference.{ask_all, same_number, differ, differ_at, differences, listed, after_both, difference}
 use Rattle.differences.specs.Means.{SameThree, Stretches}
-use Rattle.differences.specs.declared.Listing.{Listing}
-use Rattle.differences.specs.declared.Listing.TheVariants.{Listed, Refused}
 
 -- the test of two numbers is equality
 same-number : (a b : ℤ) → same_number a b ≡ true → a ≡ b
@@ -60,25 +59,25 @@ module _ (f : List ℕ) (x : Found) (g : List ℕ) (y : Found) where
       never e a
 
 -- "a question's refusals": the two answers at the window's first instant
-after-listed : (a b : Answer) (r : Listing) (n : ℕ) → after_both a b r ≡ Listed n → r ≡ Listed n
-after-listed (Denied m p) b r n e = clash cc
-after-listed (In x) (Denied m p) r n e = clash cc
-after-listed (In x) (In y) r n e = e
+after-listed : (a b : Result Found Fault) (r : Result ℕ Fault) (n : ℕ) → after_both a b r ≡ Ok n → r ≡ Ok n
+after-listed (Err (m, p)) b r n e = clash cc
+after-listed (Ok x) (Err (m, p)) r n e = clash cc
+after-listed (Ok x) (Ok y) r n e = e
 
 -- WHAT A RESULT OF n STRETCHES MEANS
-pub difference-means : (f g id : List ℕ) (first last : ℤ) (room n : ℕ) → difference f g id first last room ≡ Listed n → Stretches f g id first last room n
+pub difference-means : (f g id : List ℕ) (first last : ℤ) (room n : ℕ) → difference f g id first last room ≡ Ok n → Stretches f g id first last room n
 unfolding difference listed
 difference-means f g id first last room n = go (eqb (instant_of first) 0) refl (eqb (instant_of last) 0) refl
   where
     all : List Stretch
     all = differences f g id first last
 
-    fits : (b : Bool) → leb (length all) room ≡ b → pick b (Listed (length all)) (Refused 15 0) ≡ Listed n → (length all ≡ n) × (n ≤ room)
+    fits : (b : Bool) → leb (length all) room ≡ b → pick {A = Result ℕ Fault} b (Ok (length all)) (Err (TooShort, 0)) ≡ Ok n → (length all ≡ n) × (n ≤ room)
     fits true h e = let q : length all ≡ n = cc in (q, omega (arith, leb-true (length all) room h))
     fits false h e = clash cc
 
     go : (s : Bool) → eqb (instant_of first) 0 ≡ s → (t : Bool) → eqb (instant_of last) 0 ≡ t
-        → pick s (Refused 14 0) (pick t (Refused 14 0) (after_both (ask_all f id first) (ask_all g id first) (pick (leb (length all) room) (Listed (length all)) (Refused 15 0)))) ≡ Listed n
+        → pick {A = Result ℕ Fault} s (Err (OutOfRange, 0)) (pick t (Err (OutOfRange, 0)) (after_both (ask_all f id first) (ask_all g id first) (pick (leb (length all) room) (Ok (length all)) (Err (TooShort, 0))))) ≡ Ok n
         → Stretches f g id first last room n
     go true a t b e = clash cc
     go false a true b e = clash cc

@@ -1,4 +1,7 @@
 -- Files worked through: their differences are computed from the definition. Assumes nothing.
+use Rattle.base.specs.declared.Refusal.TheVariants.{NotFound, OutOfRange, TooShort}
+use Rattle.base.specs.Coded.{Fault}
+use Rattle.std.specs.Prelude.{Err, Ok, Result}
 use mathlib.Core.Path.{◌≡◌, refl}
 use mathlib.Core.List.{List, [], ◌∷◌, map}
 use Prim.Native.Nat.{ℕ, ◌+◌}
@@ -28,8 +31,6 @@ use Rattle.locate.specs.Asked.{says}
 use Rattle.questions.specs.Question.{ask}
 use Rattle.stretches.specs.Stretches.{opened, closed, stretches_from, stretches}
 use Rattle.differences.specs.Difference.{differ, differences, listed, difference}
-use Rattle.differences.specs.declared.Listing.{Listing}
-use Rattle.differences.specs.declared.Listing.TheVariants.{Listed, Refused}
 
 -- the version and the pool A, B, C, before zones
 abbrev before : List ℕ → List ℕ
@@ -70,37 +71,37 @@ pub record Case : Type 0 where
   pub first : ℤ
   pub last : ℤ
   pub room : ℕ
-  pub answer : Listing
+  pub answer : Result ℕ Fault
 
-abbrev case : List ℕ → List ℕ → ℕ → ℤ → ℤ → ℕ → Listing → Case
+abbrev case : List ℕ → List ℕ → ℕ → ℤ → ℤ → ℕ → Result ℕ Fault → Case
 case f g id first last room answer = record { left = f; right = g; id = id; first = first; last = last; room = room; answer = answer }
 
 abbrev cases : List Case
 cases =
     -- one stretch from 0 to 20, though what differs changes at 10; and no room for it
-    case plain changed 65 (pos 0) (pos 30) 1 (Listed 1)
-    ∷ case changed plain 65 (pos 0) (pos 30) 0 (Refused 15 0)
+    case plain changed 65 (pos 0) (pos 30) 1 (Ok 1)
+    ∷ case changed plain 65 (pos 0) (pos 30) 0 (Err (TooShort, 0))
     -- the end of a window is out of it: from 20 on nothing differs
-    ∷ case plain changed 65 (pos 19) (pos 20) 1 (Listed 1)
-    ∷ case plain changed 65 (pos 20) (pos 30) 0 (Listed 0)
+    ∷ case plain changed 65 (pos 19) (pos 20) 1 (Ok 1)
+    ∷ case plain changed 65 (pos 20) (pos 30) 0 (Ok 0)
     -- out of range, before all else: the last tick of 9999 is in no window
-    ∷ case [] [] 65 (pos 2534023007999999999) (pos 2534023008000000000) 1 (Refused 14 0)
-    ∷ case [] [] 65 (negsuc 621355968000000000) (pos 0) 1 (Refused 14 0)
+    ∷ case [] [] 65 (pos 2534023007999999999) (pos 2534023008000000000) 1 (Err (OutOfRange, 0))
+    ∷ case [] [] 65 (negsuc 621355968000000000) (pos 0) 1 (Err (OutOfRange, 0))
     -- a window that is turned round holds no instant, and the files are asked
-    ∷ case plain changed 65 (pos 6) (pos 5) 0 (Listed 0)
-    ∷ case plain changed 67 (pos 6) (pos 5) 0 (Refused 12 19)
+    ∷ case plain changed 65 (pos 6) (pos 5) 0 (Ok 0)
+    ∷ case plain changed 67 (pos 6) (pos 5) 0 (Err (NotFound, 19))
     -- a zone that neither file has; one that the second has not
-    ∷ case (before []) (before []) 65 (pos 0) (pos 1) 0 (Refused 12 13)
-    ∷ case plain (before []) 65 (pos 0) (pos 1) 0 (Refused 12 13)
+    ∷ case (before []) (before []) 65 (pos 0) (pos 1) 0 (Err (NotFound, 13))
+    ∷ case plain (before []) 65 (pos 0) (pos 1) 0 (Err (NotFound, 13))
     -- bounds of intervals are not compared, nor pool numbers; a zone without a name has its ID
-    ∷ case plain listed-once 65 (pos 0) (pos 2) 0 (Listed 0)
-    ∷ case plain nameless 65 (pos 0) (pos 2) 0 (Listed 0)
-    ∷ case plain other-pool 65 (pos 0) (pos 2) 0 (Listed 0)
+    ∷ case plain listed-once 65 (pos 0) (pos 2) 0 (Ok 0)
+    ∷ case plain nameless 65 (pos 0) (pos 2) 0 (Ok 0)
+    ∷ case plain other-pool 65 (pos 0) (pos 2) 0 (Ok 0)
     -- what stands behind the zone isn't looked at
-    ∷ case plain damaged 65 (pos 0) (pos 1) 1 (Listed 1)
+    ∷ case plain damaged 65 (pos 0) (pos 1) 1 (Ok 1)
     ∷ []
 
-abbrev given : Case → Listing
+abbrev given : Case → Result ℕ Fault
 given c = difference c.left c.right (c.id ∷ []) c.first c.last c.room
 
 -- EACH CASE GIVES ITS ANSWER

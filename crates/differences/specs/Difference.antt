@@ -2,7 +2,9 @@
 -- time order, by first instant and end, each stretch of it where offset, savings or name differ and that can't be made longer; a
 -- question's refusals on the first file come first, then on the second, then 15 exactly if the lent list is too small." It is said of what
 -- the question answers at each instant. To be believed.
-use Rattle.std.specs.Prelude.{ℕ, ◌/◌, ◌≡◌, Bool, false, not, List, ◌++◌, ℤ, leb, eqb, length, drop}
+use Rattle.base.specs.declared.Refusal.TheVariants.{OutOfRange, TooShort}
+use Rattle.base.specs.Coded.{Fault}
+use Rattle.std.specs.Prelude.{ℕ, ◌/◌, ◌≡◌, Bool, false, not, List, ◌++◌, ℤ, leb, eqb, length, drop, Err, Ok, Result}
 use Rattle.std.specs.Int.Signed.{le_z}
 use Rattle.base.specs.Pick.{pick, both}
 use Rattle.base.specs.Equal.{equal}
@@ -11,15 +13,11 @@ use Rattle.zones.specs.declared.Edition.TheVariants.{Two}
 use Rattle.answers.specs.Answers.{name_of}
 use Rattle.answers.specs.declared.Mark.TheVariants.{All}
 use Rattle.answers.specs.declared.Found.{Found}
-use Rattle.answers.specs.declared.Answer.{Answer}
-use Rattle.answers.specs.declared.Answer.TheVariants.{In, Refused as Denied}
 use Rattle.questions.specs.Question.{ask}
 use Rattle.stretches.specs.Stretches.{Stretch, stretches, numbers_of}
-use Rattle.differences.specs.declared.Listing.{Listing}
-use Rattle.differences.specs.declared.Listing.TheVariants.{Listed, Refused}
 
 -- "Their questions mean 'this is all', edition 2"
-abbrev pub ask_all : List ℕ → List ℕ → ℤ → Answer
+abbrev pub ask_all : List ℕ → List ℕ → ℤ → Result Found Fault
 ask_all f id z = ask f id z All Two
 
 abbrev pub same_number : ℤ → ℤ → Bool
@@ -29,10 +27,10 @@ same_number a b = both (le_z a b) (le_z b a)
 unfoldable pub differ : List ℕ → Found → List ℕ → Found → Bool
 differ f x g y = not (both (same_number x.wall y.wall) (both (same_number x.savings y.savings) (equal (name_of f x) (name_of g y))))
 
-abbrev pub answers_differ : List ℕ → Answer → List ℕ → Answer → Bool
-answers_differ f (In x) g (In y) = differ f x g y
-answers_differ f (In x) g (Denied n p) = false
-answers_differ f (Denied n p) g y = false
+abbrev pub answers_differ : List ℕ → Result Found Fault → List ℕ → Result Found Fault → Bool
+answers_differ f (Ok x) g (Ok y) = differ f x g y
+answers_differ f (Ok x) g (Err (n, p)) = false
+answers_differ f (Err (n, p)) g y = false
 
 -- at an instant, given as a moment
 abbrev pub differ_at : List ℕ → List ℕ → List ℕ → ℕ → Bool
@@ -43,27 +41,27 @@ abbrev pub differences : List ℕ → List ℕ → List ℕ → ℤ → ℤ → 
 differences f g id first last = stretches (differ_at f g id) (instant_of first) (instant_of last)
 
 -- "15 exactly if the lent list is too small": room is how many stretches it has places for
-unfoldable pub listed : List Stretch → ℕ → Listing
-listed xs room = pick (leb (length xs) room) (Listed (length xs)) (Refused 15 0)
+unfoldable pub listed : List Stretch → ℕ → Result ℕ Fault
+listed xs room = pick (leb (length xs) room) (Ok (length xs)) (Err (TooShort, 0))
 
 -- "a question's refusals on the first file come first, then on the second"
-abbrev pub after_both : Answer → Answer → Listing → Listing
-after_both (Denied n p) y r = Refused n p
-after_both (In x) (Denied n p) r = Refused n p
-after_both (In x) (In y) r = r
+abbrev pub after_both : Result Found Fault → Result Found Fault → Result ℕ Fault → Result ℕ Fault
+after_both (Err (n, p)) y r = Err (n, p)
+after_both (Ok x) (Err (n, p)) r = Err (n, p)
+after_both (Ok x) (Ok y) r = r
 
 -- "14 if either is out of range"; a question's refusals are the same at every instant in range
-unfoldable pub difference : List ℕ → List ℕ → List ℕ → ℤ → ℤ → ℕ → Listing
+unfoldable pub difference : List ℕ → List ℕ → List ℕ → ℤ → ℤ → ℕ → Result ℕ Fault
 difference f g id first last room =
-    pick (eqb (instant_of first) 0) (Refused 14 0) (pick (eqb (instant_of last) 0) (Refused 14 0)
+    pick (eqb (instant_of first) 0) (Err (OutOfRange, 0)) (pick (eqb (instant_of last) 0) (Err (OutOfRange, 0))
     (after_both (ask_all f id first) (ask_all g id first) (listed (differences f g id first last) room)))
 
 -- "whatever fills lent room gives how many entries .., later ones as found"; "Every refusal keeps all lent output as found"
-unfoldable pub filled : Listing → List Stretch → List ℤ → List ℤ
-filled (Listed n) xs d = numbers_of xs ++ drop (length (numbers_of xs)) d
-filled (Refused n p) xs d = d
+unfoldable pub filled : Result ℕ Fault → List Stretch → List ℤ → List ℤ
+filled (Ok n) xs d = numbers_of xs ++ drop (length (numbers_of xs)) d
+filled (Err (n, p)) xs d = d
 
 -- THE RESULT r AND THE LIST e at the return, where the list was d: two numbers a stretch
-pub record Gives (f g id : List ℕ) (first last : ℤ) (d : List ℤ) (r : Listing) (e : List ℤ) : Type 0 where
+pub record Gives (f g id : List ℕ) (first last : ℤ) (d : List ℤ) (r : Result ℕ Fault) (e : List ℤ) : Type 0 where
   pub result : r ≡ difference f g id first last (length d / 2)
   pub output : e ≡ filled r (differences f g id first last) d

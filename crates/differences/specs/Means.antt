@@ -1,13 +1,12 @@
 -- What the stretches given mean, without going over the instants. To be believed; `difference-means` (proofs/MeansLaws.antt) shows it.
-use Rattle.std.specs.Prelude.{◌≡◌, List, ℕ, ◌≤◌, ℤ, length}
+use Rattle.base.specs.Coded.{Fault}
+use Rattle.std.specs.Prelude.{◌≡◌, List, ℕ, ◌≤◌, ℤ, length, Err, Ok, Result}
 use Rattle.signed.specs.Instant.{instant_of, InRange}
 use Rattle.answers.specs.Answers.{name_of}
 use Rattle.answers.specs.declared.Found.{Found}
 use Rattle.stretches.specs.Stretches.{Stretch}
 use Rattle.stretches.specs.Maximal.{Lists}
 use Rattle.differences.specs.Difference.{differ_at}
-use Rattle.differences.specs.declared.Listing.{Listing}
-use Rattle.differences.specs.declared.Listing.TheVariants.{Listed, Refused}
 
 -- "offset, savings or name": all three are the same
 pub record SameThree (f : List ℕ) (x : Found) (g : List ℕ) (y : Found) : Type 0 where
@@ -25,9 +24,9 @@ pub record Stretches (f g id : List ℕ) (first last : ℤ) (room n : ℕ) : Typ
   pub fits : n ≤ room
 
 -- how large a result's numbers are: no more stretches than there are moments, and a refusal's place fits a result of the C functions
-abbrev pub BoundedTo : Listing → Type 0
-BoundedTo (Listed n) = n ≤ 3281606784000000000
-BoundedTo (Refused n p) = p ≤ 4194304
+abbrev pub BoundedTo : Result ℕ Fault → Type 0
+BoundedTo (Ok n) = n ≤ 3281606784000000000
+BoundedTo (Err (n, p)) = p ≤ 4194304
 
-pub record Bounded (r : Listing) : Type 0 where
+pub record Bounded (r : Result ℕ Fault) : Type 0 where
   pub to : BoundedTo r

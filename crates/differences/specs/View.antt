@@ -1,5 +1,8 @@
 -- What the code's results stand for. The code's way, tied to the questions by `gives-listed` (proofs/GiveLaws.antt).
-use Rattle.std.specs.Prelude.{ℕ, ◌/◌, ◌≤◌, ◌≡◌, List, [], ℤ, length}
+use Rattle.base.specs.declared.Refusal.{Refusal}
+use Rattle.base.specs.declared.Refusal.TheVariants.{CutShort, NotFound}
+use Rattle.base.specs.Coded.{Fault}
+use Rattle.std.specs.Prelude.{ℕ, ◌/◌, ◌≤◌, ◌≡◌, List, [], ℤ, length, Err, Ok, Result}
 use Rattle.base.specs.Parsed.{got}
 use Rattle.signed.specs.Instant.{ticks_of}
 use Rattle.pool.specs.Pool.{strings_of}
@@ -13,10 +16,7 @@ use Rattle.stretches.specs.Stretches.{Stretch, stretches}
 use Rattle.cursors.specs.Cursors.{At}
 use Rattle.zone_differences.specs.Differ.{differ_at as zones_differ}
 use Rattle.differences.specs.Difference.{ask_all, differ_at, listed, after_both, filled}
-use Rattle.differences.specs.declared.Listing.{Listing}
 use Rattle.differences.specs.declared.Side.{Side}
-use Rattle.differences.specs.declared.Asked.{Asked}
-use Rattle.differences.specs.declared.Asked.TheVariants.{Zone, Refused}
 
 -- the data of field 0, and those of the zone
 abbrev pub pool_of : List ℕ → Side → List ℕ
@@ -43,17 +43,17 @@ pub record HeldBy (s : List ℕ) (o : Out Pool Held) (x : Side) : Type 0 where
   pub parsed : parse_zone x.count (zone_of s x) ≡ got held.zone []
 
 -- the refusal of a walk, where the bytes are all there is: 2 inside the version or a field, 12 at the end of one
-abbrev pub Refuses : Out Pool Held → ℕ → ℕ → Type 0
+abbrev pub Refuses : Out Pool Held → Refusal → ℕ → Type 0
 Refuses (found v q) n p = ⊥
 Refuses (refused m q) n p = (n ≡ m) × (p ≡ q)
-Refuses (cut q) n p = (n ≡ 2) × (p ≡ q)
-Refuses (ended m q) n p = (n ≡ 12) × (p ≡ q)
+Refuses (cut q) n p = (n ≡ CutShort) × (p ≡ q)
+Refuses (ended m q) n p = (n ≡ NotFound) × (p ≡ q)
 
-abbrev pub AskedTo : List ℕ → Out Pool Held → List ℕ → ℕ → Asked → Type 0
-AskedTo s o ix t (Zone x) = SideIn s ix t x × HeldBy s o x
-AskedTo s o ix t (Refused n p) = Refuses o n p
+abbrev pub AskedTo : List ℕ → Out Pool Held → List ℕ → ℕ → Result Side Fault → Type 0
+AskedTo s o ix t (Ok x) = SideIn s ix t x × HeldBy s o x
+AskedTo s o ix t (Err (n, p)) = Refuses o n p
 
-pub record AskedAs (s : List ℕ) (o : Out Pool Held) (ix : List ℕ) (t : ℕ) (r : Asked) : Type 0 where
+pub record AskedAs (s : List ℕ) (o : Out Pool Held) (ix : List ℕ) (t : ℕ) (r : Result Side Fault) : Type 0 where
   pub to : AskedTo s o ix t r
 
 -- where two such zones differ
@@ -61,11 +61,11 @@ abbrev pub side_stretches : List ℕ → Side → List ℕ → Side → ℕ → 
 side_stretches f x g y first last = stretches (zones_differ (zone_of f x) (pool_of f x) (zone_of g y) (pool_of g y)) first last
 
 -- r and e are the result and the list, which was d, of the stretches xs
-pub record Lists (xs : List Stretch) (d : List ℤ) (r : Listing) (e : List ℤ) : Type 0 where
+pub record Lists (xs : List Stretch) (d : List ℤ) (r : Result ℕ Fault) (e : List ℤ) : Type 0 where
   pub result : r ≡ listed xs (length d / 2)
   pub output : e ≡ filled r xs d
 
 -- of two files, from the instant first to before the instant last
-pub record GivesBetween (f g id : List ℕ) (first last : ℕ) (d : List ℤ) (r : Listing) (e : List ℤ) : Type 0 where
+pub record GivesBetween (f g id : List ℕ) (first last : ℕ) (d : List ℤ) (r : Result ℕ Fault) (e : List ℤ) : Type 0 where
   pub result : r ≡ after_both (ask_all f id (ticks_of first)) (ask_all g id (ticks_of first)) (listed (stretches (differ_at f g id) first last) (length d / 2))
   pub output : e ≡ filled r (stretches (differ_at f g id) first last) d

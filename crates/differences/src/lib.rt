@@ -5,13 +5,6 @@
 use cursors::Cursor;
 use zones::ZoneEnd;
 
-// How many stretches there are, or the number and the place of a refusal.
-#[derive(Clone, Copy)]
-pub enum Listing {
-    Listed(usize),
-    Refused(u8, usize),
-}
-
 // The asked zone of a file: where the data of field 0 and those of the zone start and end, how many strings the pool has, the zone's
 // ending, and a cursor at the window's first instant.
 #[derive(Clone, Copy)]
@@ -23,11 +16,4 @@ pub struct Side {
     pub count: u64,
     pub ending: ZoneEnd,
     pub cursor: Cursor,
-}
-
-// The asked zone, or a question's refusal.
-#[derive(Clone, Copy)]
-pub enum Asked {
-    Zone(Side),
-    Refused(u8, usize),
 }

@@ -1,4 +1,5 @@
 -- A name leads the same way over both editions' dictionaries. Assumes nothing.
+use Rattle.base.specs.declared.Refusal.{Refusal}
 use mathlib.Core.Path.{◌≡◌, refl, sym, subst}
 use mathlib.Core.List.{List}
 use mathlib.Core.Option.{Option, none, some}
@@ -45,6 +46,6 @@ module _ (h : Pool → Zone → Found) (k : Known) (zone : List ℕ → Option F
       (sym (lookup-mapped (h k.pool) (zone_in k.zones) zone same es most x))
       (same-resolved (lookup (zone_in k.zones) es most x))
 
-  -- and faults have the same number
-  pub either-faults : (n : ℕ) → Same (alias_says h x k (bad n)) (older_says zone x (bad n))
+  -- and faults are the same
+  pub either-faults : (n : Refusal) → Same (alias_says h x k (bad n)) (older_says zone x (bad n))
   either-faults n = record { to = refl }

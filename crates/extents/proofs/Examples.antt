@@ -1,4 +1,5 @@
 -- Places of the first unfinished field, computed, and a walk that goes on. Assumes nothing.
+use Rattle.base.specs.declared.Refusal.TheVariants.{FieldOrder}
 use mathlib.Core.Path.{◌≡◌, refl}
 use mathlib.Core.List.{List, [], ◌∷◌, ◌++◌}
 use Prim.Native.Nat.{ℕ}
@@ -39,6 +40,6 @@ pub goes-on : extent_of (head ++ (9 ∷ 0 ∷ [])) none ≡ record { at = 9; pre
 unfolding steps step_of frame version zeros field sized order any_groups
 goes-on = refl
 
-pub falls : (listing 255 (head ++ (9 ∷ 0 ∷ 8 ∷ 0 ∷ []))).ending ≡ refused_at 5 9
+pub falls : (listing 255 (head ++ (9 ∷ 0 ∷ 8 ∷ 0 ∷ []))).ending ≡ refused_at FieldOrder 9
 unfolding listing scan frame version zeros field sized order any_groups
 falls = refl

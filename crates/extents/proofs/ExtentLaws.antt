@@ -1,5 +1,6 @@
 -- Where the walk over heads ends, that it can go on from there with more bytes, and that its place is that of the first unfinished field.
 -- Assumes nothing.
+use Rattle.base.specs.declared.Refusal.{Refusal}
 use mathlib.Core.Path.{◌≡◌, refl, sym, ap, ◌∙◌}
 use mathlib.Core.Bool.{Bool, true, false}
 use mathlib.Core.List.{List, ◌++◌}
@@ -125,7 +126,7 @@ module _ (s e : List ℕ) where
   extent-resumes c l = resume-from (length s) c l
 
   -- a refusal of version, ID or size stops it for good
-  pub refused-stays : (n p : ℕ) → (listing 255 s).ending ≡ refused_at n p → unfinished (s ++ e) ≡ unfinished s
+  pub refused-stays : (n : Refusal) (p : ℕ) → (listing 255 s).ending ≡ refused_at n p → unfinished (s ++ e) ≡ unfinished s
   refused-stays n p h =
       let g = listing-grows 255 s e in
       ap place_of g.ends ∙ rw (g.same (rw h)) refl

@@ -1,10 +1,10 @@
 -- How far a field goes, by the bytes of its size. Assumes nothing.
+use Rattle.base.specs.Coded.{Coded}
 use mathlib.Core.Path.{◌≡◌, sym, ap, ◌∙◌}
 use mathlib.Core.List.{List}
 use Prim.Native.Nat.{ℕ, ◌+◌, ◌*◌, ◌%◌, ◌≤◌, ◌<◌}
 use native.Mathlib.Omega.{arith}
 use lib.ListN.{length, get_or}
-use Rattle.base.specs.declared.Read.{Read}
 use Rattle.frames.specs.Frame.{read_size}
 use Rattle.counts.proofs.AnyGroupLaws.{Reading, reading-start, reading-cut, reading-last, reading-next, reading-fifth, reading-above}
 use Rattle.extents.specs.Span.{span_of}

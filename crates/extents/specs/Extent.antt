@@ -1,10 +1,18 @@
 -- How far the whole fields of some bytes go: a walk over heads alone, which can go on from where it stopped once more bytes are there.
 -- It is the check's walk without its contents (extent-place in proofs/ExtentLaws.antt: its place is that of `unfinished`).
-use Rattle.std.specs.Prelude.{ℕ, zero, suc, ◌+◌, List, length, drop, ltb}
+use Rattle.std.specs.Prelude.{ℕ, zero, suc, ◌+◌, Bool, true, false, List, length, drop, ltb}
+use Rattle.std.specs.declared.option.Option.{Option}
+use Rattle.std.specs.declared.option.Option.TheVariants.{None, Some}
+use Rattle.base.specs.declared.Refusal.{Refusal}
 use Rattle.frames.specs.Frame.{frame}
 use Rattle.frames.specs.declared.Frame.{Frame}
 use Rattle.frames.specs.declared.Frame.TheVariants.{End, Cut, Refused, Version, Whole}
 use Rattle.extents.specs.declared.Extent.{Extent}
+
+-- whether an ID may stand, by what refuses it
+abbrev pub unrefused : Option Refusal → Bool
+unrefused None = true
+unrefused (Some k) = false
 
 -- before any byte
 abbrev pub none : Extent

@@ -5,7 +5,7 @@
 ghost use Rattle.std.specs.Prelude.{◌≡◌, ◌≤◌, ◌<◌, length, eqb};
 ghost use Rattle.base.specs.Pick.{pick};
 ghost use Rattle.frames.specs.Frame.{order, read_size};
-ghost use Rattle.extents.specs.Extent.{step_of, extent_of};
+ghost use Rattle.extents.specs.Extent.{unrefused, step_of, extent_of};
 ghost use Rattle.extents.specs.Span.{span_of};
 
 use frames::Frame;
@@ -22,7 +22,7 @@ pub struct Extent {
 
 // Whether the ID `i` may stand behind a field with the ID `prev`, or as the first.
 fn may_stand(seen: bool, prev: usize, i: usize) -> bool
-    ensures { result ≡ eqb (order seen prev i) 0 }
+    ensures { result ≡ unrefused (order seen prev i) }
 {
     if seen {
         if i == prev {

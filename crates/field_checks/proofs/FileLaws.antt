@@ -1,4 +1,7 @@
 -- WELL FORMED, BY THE BYTES: a file is well formed exactly where it is version, fields and contents as document 01 has them. Assumes nothing.
+use Rattle.base.specs.declared.Refusal.{Refusal}
+use Rattle.base.specs.declared.Refusal.TheVariants.{BadData, TooLarge}
+use Rattle.std.specs.Prelude.{Err, Ok, Result}
 use mathlib.Core.Path.{◌≡◌, refl, sym, ap, ◌∙◌, subst⁻¹}
 use mathlib.Core.Bool.{Bool, true, false}
 use mathlib.Core.List.{List, [], ◌∷◌, ◌++◌, append_assoc}
@@ -19,8 +22,6 @@ use Rattle.base.proofs.ParseLaws.{bad-got, bind-good, ended-good, pick-bad, got-
 use Rattle.base.proofs.Tests.{never, clash}
 use Rattle.counts.specs.Count.{read_count}
 use Rattle.texts.specs.Text.{read_text, behind_text}
-use Rattle.texts.specs.declared.Text.{Text}
-use Rattle.texts.specs.declared.Text.TheVariants.{Part, Refused as Untext}
 use Rattle.texts.proofs.TextLaws.{held}
 use Rattle.pool.specs.Pool.{Pool, read_strings, all_strings, counted, parse_pool, strings_of}
 use Rattle.locations.specs.Content.{Location, parse_locations}
@@ -93,9 +94,9 @@ module _ (ts : List (List ℕ)) (pre : List Field) (m : Memory) (k : Known ts pr
   unfolding judged text_kept
   text-kept i t = go (read_text g.body) refl t.parsed
     where
-      go : (r : Text) → read_text g.body ≡ r → behind_text g.body r ≡ got t.text [] → Kept
-      go (Untext n) e q = bad-got q
-      go (Part a n) e q =
+      go : (r : Result (ℕ × ℕ) Refusal) → read_text g.body ≡ r → behind_text g.body r ≡ got t.text [] → Kept
+      go (Err n) e q = bad-got q
+      go (Ok (a, n)) e q =
           let w = held g.body a n e in
           let l : length (drop (a + n) g.body) ≡ 0 = ap length (got-rest q) in
           let s : a + n ≡ length g.body = omega (arith, rw length-drop at l, w.inside) in
@@ -180,11 +181,11 @@ unfolding judged text_kept
 text-is m m' g e i =
     go (read_text g.body) refl (rw (ne_eqb g.id 0 (λ z. omega arith), ne_eqb g.id 1 (λ z. omega arith), eq-eqb g.id 2 i) at e)
   where
-    go : (t : Text) → read_text g.body ≡ t → text_in m g.start (length g.body) t ≡ keep m' → TextData g.body
-    go (Untext n) q h = clash cc
-    go (Part a n) q h = by (eqb (a + n) (length g.body)) refl h
+    go : (t : Result (ℕ × ℕ) Refusal) → read_text g.body ≡ t → text_in m g.start (length g.body) t ≡ keep m' → TextData g.body
+    go (Err n) q h = clash cc
+    go (Ok (a, n)) q h = by (eqb (a + n) (length g.body)) refl h
       where
-        by : (t : Bool) → eqb (a + n) (length g.body) ≡ t → pick {A = Content Memory ⊥} t (keep (with_text m (placed (g.start + a) n))) (bad 9) ≡ keep m' → TextData g.body
+        by : (t : Bool) → eqb (a + n) (length g.body) ≡ t → pick {A = Content Memory ⊥} t (keep (with_text m (placed (g.start + a) n))) (bad BadData) ≡ keep m' → TextData g.body
         by true s k = record {
           text = take n (drop a g.body);
           parsed = rw q (ap (got (take n (drop a g.body))) (drop_of_length-le g.body {i = a + n} (omega (arith, eqb-true (a + n) (length g.body) s))));
@@ -238,7 +239,7 @@ pool-is m g e i = go (parse_pool g.body) refl (rw (eq-eqb g.id 0 i) at e)
     go (faulty n) q h = clash cc
     go (got ts r) q h =
         let a = bind-good (parse read_count g.body) counted ts r q in
-        let c = pick-bad (ltb 8192 a.first) (all_strings a.first a.rest) 4 ts r a.on in
+        let c = pick-bad (ltb 8192 a.first) (all_strings a.first a.rest) TooLarge ts r a.on in
         let d = bind-good (read_strings a.first a.rest) ended' ts r c.1 in
         let n : r ≡ [] = (ended-good d.first ts d.rest r d.on).2 in
         rw q (ap (got ts) n)

@@ -1,4 +1,7 @@
 -- THE VERSION TEXT OF A WELL-FORMED FILE, both ways: that of its field 2, and 12 at the bytes' end where there is none. Assumes nothing.
+use Rattle.base.specs.declared.Refusal.{Refusal}
+use Rattle.base.specs.declared.Refusal.TheVariants.{BadData}
+use Rattle.std.specs.Prelude.{Err, Ok, Result}
 use mathlib.Core.Path.{◌≡◌, refl, sym, ap, ◌∙◌, subst}
 use mathlib.Core.Bool.{Bool, true, false}
 use mathlib.Core.List.{List, [], ◌∷◌, ◌++◌}
@@ -16,8 +19,6 @@ use Rattle.base.specs.All.{All, all_none, all-also}
 use Rattle.base.proofs.AllLaws.{all_head, all_tail, all_right}
 use Rattle.base.specs.Parsed.{Parsed, got, bad as faulty}
 use Rattle.texts.specs.Text.{read_text}
-use Rattle.texts.specs.declared.Text.{Text}
-use Rattle.texts.specs.declared.Text.TheVariants.{Part, Refused as Untext}
 use Rattle.aliases.specs.Dictionary.{Dictionary}
 use Rattle.aliases.specs.Field.{parse_aliases}
 use Rattle.frames.specs.Frame.{Field}
@@ -46,11 +47,11 @@ unfolding judged text_kept
 kept-text m m' g i e =
     go (read_text g.body) refl (rw (ne_eqb g.id 0 (λ z. omega arith), ne_eqb g.id 1 (λ z. omega arith), eq-eqb g.id 2 i) at e)
   where
-    go : (t : Text) → read_text g.body ≡ t → text_in m g.start (length g.body) t ≡ keep m' → (a : ℕ) × (n : ℕ) × (m'.text ≡ placed a n) × InField g a n
-    go (Untext n) q h = clash cc
-    go (Part b n) q h = by (eqb (b + n) (length g.body)) refl h
+    go : (t : Result (ℕ × ℕ) Refusal) → read_text g.body ≡ t → text_in m g.start (length g.body) t ≡ keep m' → (a : ℕ) × (n : ℕ) × (m'.text ≡ placed a n) × InField g a n
+    go (Err n) q h = clash cc
+    go (Ok (b, n)) q h = by (eqb (b + n) (length g.body)) refl h
       where
-        by : (t : Bool) → eqb (b + n) (length g.body) ≡ t → pick {A = Content Memory ⊥} t (keep (with_text m (placed (g.start + b) n))) (bad 9) ≡ keep m'
+        by : (t : Bool) → eqb (b + n) (length g.body) ≡ t → pick {A = Content Memory ⊥} t (keep (with_text m (placed (g.start + b) n))) (bad BadData) ≡ keep m'
             → (a : ℕ) × (k : ℕ) × (m'.text ≡ placed a k) × InField g a k
         by true s k =
             let z : with_text m (placed (g.start + b) n) ≡ m' = cc in

@@ -1,4 +1,6 @@
 -- Worked files, by the check and by the version text. Assumes nothing.
+use Rattle.std.specs.Prelude.{Err, Ok}
+use Rattle.base.specs.declared.Refusal.TheVariants.{BadCode, BadData, BadText, CutShort, FieldOrder, FirstField, NotFound, SecondAlias, SecondZone, TooLarge, WrongVersion}
 use mathlib.Core.Path.{◌≡◌, refl}
 use mathlib.Core.List.{List, [], ◌∷◌, ◌++◌, map}
 use Prim.Native.Nat.{ℕ}
@@ -20,8 +22,6 @@ use Rattle.frames.specs.Frame.{order, zeros, version, sized, field, frame}
 use Rattle.frames.specs.Machine.{act, step, walk}
 use Rattle.frames.specs.Fields.{scan, listing}
 use Rattle.field_checks.specs.Check.{pool_kept, new_id, zone_kept, text_kept, aliases_kept, judged, concluded, conclusion, check_of, version_of, WellFormed}
-use Rattle.field_checks.specs.declared.Verdict.TheVariants.{Good, Refused}
-use Rattle.field_checks.specs.declared.VersionText.TheVariants.{Part as TextPart, Refused as NoText}
 use Rattle.field_checks.specs.File.{IsFile}
 use Rattle.field_checks.specs.Version.{GivesText, ReadsText}
 use Rattle.field_checks.proofs.WellFormedLaws.{good-well-formed}
@@ -38,7 +38,7 @@ file = bare ++ 0 ∷ 5 ∷ 1 ∷ 3 ∷ 85 ∷ 84 ∷ 67 ∷ 1 ∷ 4 ∷ 0 ∷ 1 
 -- no bytes; the version alone, cut, and wrong; a first field that isn't 0; field 0 without data
 pub starts :
     map check_of ([] ∷ bare ∷ (0 ∷ 0 ∷ []) ∷ (0 ∷ 0 ∷ 0 ∷ 1 ∷ []) ∷ (bare ++ 1 ∷ []) ∷ (bare ++ 0 ∷ 0 ∷ []) ∷ [])
-    ≡ Refused 2 0 ∷ Refused 6 4 ∷ Refused 2 0 ∷ Refused 3 0 ∷ Refused 6 4 ∷ Refused 9 4 ∷ []
+    ≡ Err (CutShort, 0) ∷ Err (FirstField, 4) ∷ Err (CutShort, 0) ∷ Err (WrongVersion, 0) ∷ Err (FirstField, 4) ∷ Err (BadData, 4) ∷ []
 unfolding conclusion walk iterate step act frame version zeros field order sized any_groups read_groups many counted all_strings ended concluded pool_kept judged
 starts = refl
 
@@ -50,7 +50,7 @@ zoned k = bare ++ 0 ∷ 7 ∷ 3 ∷ 1 ∷ 65 ∷ 1 ∷ 66 ∷ 1 ∷ 65 ∷ 1 ∷
 -- field 0 behind them
 pub zones :
     map check_of (file ∷ take 16 file ∷ (file ++ 0 ∷ []) ∷ zoned 1 ∷ zoned 2 ∷ (zoned 2 ++ 0 ∷ []) ∷ [])
-    ≡ Good ∷ Refused 2 11 ∷ Refused 5 17 ∷ Good ∷ Refused 13 19 ∷ Refused 13 19 ∷ []
+    ≡ Ok tt ∷ Err (CutShort, 11) ∷ Err (FieldOrder, 17) ∷ (Ok tt) ∷ Err (SecondZone, 19) ∷ Err (SecondZone, 19) ∷ []
 unfolding conclusion walk iterate step act frame version zeros field order sized any_groups read_groups many counted all_strings ended concluded pool_kept judged chars text_sized zone_kept new_id text_kept among equal parse_zone after_id after_flag parse_fixed after_fixed_offset zone_of parse_byte parse_name judge_name read_sum
 zones = refl
 
@@ -64,7 +64,7 @@ pub names :
     map check_of
     (fixed_only (3 ∷ 0 ∷ 1 ∷ 48 ∷ []) ∷ fixed_only (4 ∷ 0 ∷ 1 ∷ 48 ∷ []) ∷ fixed_only (4 ∷ 0 ∷ 1 ∷ 48 ∷ 128 ∷ []) ∷ fixed_only (4 ∷ 0 ∷ 1 ∷ 48 ∷ 1 ∷ [])
     ∷ fixed_only (5 ∷ 0 ∷ 1 ∷ 48 ∷ 128 ∷ 0 ∷ []) ∷ fixed_only (5 ∷ 0 ∷ 1 ∷ 48 ∷ 0 ∷ 0 ∷ []) ∷ [])
-    ≡ Good ∷ Refused 2 9 ∷ Refused 9 9 ∷ Refused 8 9 ∷ Refused 7 9 ∷ Refused 9 9 ∷ []
+    ≡ Ok tt ∷ Err (CutShort, 9) ∷ Err (BadData, 9) ∷ Err (BadText, 9) ∷ Err (BadCode, 9) ∷ Err (BadData, 9) ∷ []
 unfolding conclusion walk iterate step act frame version zeros field order sized any_groups read_groups many counted all_strings ended concluded pool_kept judged chars text_sized zone_kept new_id text_kept among equal parse_zone after_id after_flag parse_fixed after_fixed_offset zone_of parse_byte parse_name judge_name read_sum
 names = refl
 
@@ -79,7 +79,7 @@ pub sizes :
     (sized_pool (131 ∷ 0 ∷ []) ∷ sized_pool (131 ∷ 128 ∷ 128 ∷ 128 ∷ 0 ∷ []) ∷ sized_pool (131 ∷ 128 ∷ 128 ∷ 128 ∷ 128 ∷ 0 ∷ [])
     ∷ sized_pool (131 ∷ 128 ∷ 128 ∷ 128 ∷ 128 ∷ []) ∷ sized_pool (131 ∷ 128 ∷ 128 ∷ 128 ∷ 8 ∷ []) ∷ sized_pool (131 ∷ 128 ∷ 128 ∷ 128 ∷ 7 ∷ [])
     ∷ sized_pool (255 ∷ 255 ∷ 255 ∷ 255 ∷ 0 ∷ []) ∷ [])
-    ≡ Good ∷ Good ∷ Refused 7 4 ∷ Refused 7 4 ∷ Refused 7 4 ∷ Refused 4 4 ∷ Refused 4 4 ∷ []
+    ≡ Ok tt ∷ (Ok tt) ∷ Err (BadCode, 4) ∷ Err (BadCode, 4) ∷ Err (BadCode, 4) ∷ Err (TooLarge, 4) ∷ Err (TooLarge, 4) ∷ []
 unfolding conclusion walk iterate step act frame version zeros field order sized any_groups read_groups many counted all_strings ended concluded pool_kept judged chars text_sized zone_kept new_id text_kept among equal parse_zone after_id after_flag parse_fixed after_fixed_offset zone_of parse_byte parse_name judge_name read_sum
 sizes = refl
 
@@ -89,14 +89,14 @@ pub counts :
     map check_of
     ((bare ++ 0 ∷ 128 ∷ 128 ∷ 128 ∷ 128 ∷ 0 ∷ []) ∷ (bare ++ 0 ∷ 4 ∷ 129 ∷ 0 ∷ 1 ∷ 65 ∷ []) ∷ (sized_pool (3 ∷ []) ++ 2 ∷ 128 ∷ 0 ∷ [])
     ∷ (sized_pool (3 ∷ []) ++ 2 ∷ 3 ∷ 129 ∷ 0 ∷ 65 ∷ []) ∷ [])
-    ≡ Refused 9 4 ∷ Refused 7 4 ∷ Refused 9 9 ∷ Refused 7 9 ∷ []
+    ≡ Err (BadData, 4) ∷ Err (BadCode, 4) ∷ Err (BadData, 9) ∷ Err (BadCode, 9) ∷ []
 unfolding conclusion walk iterate step act frame version zeros field order sized any_groups read_groups many counted all_strings ended concluded pool_kept judged chars text_sized zone_kept new_id text_kept among equal parse_zone after_id after_flag parse_fixed after_fixed_offset zone_of parse_byte parse_name judge_name read_sum
 counts = refl
 
 -- no version text; "A" in field 2; a byte left over there; a field 3 behind it
 pub texts :
     map version_of (file ∷ (file ++ 2 ∷ 2 ∷ 1 ∷ 65 ∷ []) ∷ (file ++ 2 ∷ 3 ∷ 1 ∷ 65 ∷ 0 ∷ []) ∷ (file ++ 2 ∷ 2 ∷ 1 ∷ 65 ∷ 3 ∷ 1 ∷ 0 ∷ []) ∷ bare ∷ [])
-    ≡ NoText 12 17 ∷ TextPart 20 1 ∷ NoText 9 17 ∷ TextPart 20 1 ∷ NoText 6 4 ∷ []
+    ≡ Err (NotFound, 17) ∷ Ok (20, 1) ∷ Err (BadData, 17) ∷ Ok (20, 1) ∷ Err (FirstField, 4) ∷ []
 unfolding conclusion walk iterate step act frame version zeros field order sized any_groups read_groups many counted all_strings ended concluded pool_kept judged chars text_sized zone_kept new_id text_kept aliases_kept parse_aliases all_entries parse_entries among equal parse_zone after_id after_flag parse_fixed after_fixed_offset zone_of parse_byte parse_name judge_name read_sum
 texts = refl
 
@@ -110,8 +110,8 @@ pub aliases :
     (map check_of
     (aliased (1 ∷ 0 ∷ []) ∷ aliased (3 ∷ 1 ∷ 1 ∷ 0 ∷ []) ∷ aliased (3 ∷ 1 ∷ 1 ∷ 1 ∷ []) ∷ aliased (0 ∷ []) ∷ aliased (4 ∷ 1 ∷ 1 ∷ 0 ∷ 255 ∷ [])
     ∷ aliased (3 ∷ 1 ∷ 1 ∷ 2 ∷ []) ∷ aliased (4 ∷ 2 ∷ 1 ∷ 0 ∷ 1 ∷ []) ∷ [])
-    ≡ Good ∷ Good ∷ Good ∷ Refused 9 16 ∷ Refused 9 16 ∷ Refused 8 16 ∷ Refused 19 16 ∷ [])
-    × (version_of (aliased (0 ∷ [])) ≡ NoText 9 16)
+    ≡ Ok tt ∷ (Ok tt) ∷ (Ok tt) ∷ Err (BadData, 16) ∷ Err (BadData, 16) ∷ Err (BadText, 16) ∷ Err (SecondAlias, 16) ∷ [])
+    × (version_of (aliased (0 ∷ [])) ≡ Err (BadData, 16))
 unfolding conclusion walk iterate step act frame version zeros field order sized any_groups read_groups many counted all_strings ended concluded pool_kept judged chars text_sized zone_kept new_id text_kept aliases_kept parse_aliases all_entries parse_entries parse_entry after_key keys among equal parse_zone after_id after_flag parse_fixed after_fixed_offset zone_of parse_byte parse_name judge_name read_sum
 aliases = (refl, refl)
 

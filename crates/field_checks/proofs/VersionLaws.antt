@@ -1,4 +1,7 @@
 -- Where the version text that is given lies: in the data of field 2. Assumes nothing.
+use Rattle.base.specs.declared.Refusal.{Refusal}
+use Rattle.base.specs.declared.Refusal.TheVariants.{BadData, FirstField, SecondZone}
+use Rattle.std.specs.Prelude.{Err, Ok, Result}
 use mathlib.Core.Path.{◌≡◌, refl, sym, ◌∙◌, ap}
 use mathlib.Core.Bool.{Bool, true, false}
 use mathlib.Core.List.{List, [], ◌∷◌, ◌++◌}
@@ -10,10 +13,9 @@ use borrow.Author.Tests.{eqb-true}
 use Rattle.base.specs.Pick.{pick}
 use Rattle.base.specs.Parsed.{Parsed, got, bad as faulty}
 use Rattle.base.specs.Run.{next}
+use Rattle.base.proofs.PairLaws.{ok_parts}
 use Rattle.base.proofs.Parts.{part-of-part}
 use Rattle.texts.specs.Text.{read_text, part_of, text_bytes}
-use Rattle.texts.specs.declared.Text.{Text}
-use Rattle.texts.specs.declared.Text.TheVariants.{Part, Refused as Untext}
 use Rattle.pool.specs.Pool.{Pool, parse_pool}
 use Rattle.zones.specs.Content.{Zone}
 use Rattle.zones.specs.Parse.{parse_zone}
@@ -33,7 +35,6 @@ use Rattle.field_checks.specs.Check.{TextPlace, nowhere, placed, Memory, start, 
 use Rattle.field_checks.specs.Check.{zone_kept, text_in, text_kept, aliases_in, aliases_kept, judged, job, concluded, concludes, conclusion, text_given, version_of, locations_in, locations_kept}
 use Rattle.field_checks.specs.Version.{TextIn}
 use Rattle.field_checks.specs.declared.Conclusion.TheVariants.{Refused as Ill, Bare, WithText}
-use Rattle.field_checks.specs.declared.VersionText.TheVariants.{Part as TextPart}
 use Rattle.field_checks.proofs.KindLaws.{KindId, kind-id}
 use Rattle.base.proofs.Tests.{clash}
 
@@ -41,7 +42,7 @@ use Rattle.base.proofs.Tests.{clash}
 pub record InField (g : Field) (a n : ℕ) : Type 0 where
   pub is-text : g.id ≡ 2
   pub behind : ℕ
-  pub read : read_text g.body ≡ Part behind n
+  pub read : read_text g.body ≡ Ok (behind, n)
   pub place : a ≡ g.start + behind
   pub whole : behind + n ≡ length g.body
 
@@ -57,7 +58,7 @@ From m g x = (m' : Memory) (a n : ℕ) → x ≡ keep m' → m'.text ≡ placed 
 same-text : (m : Memory) (g : Field) (k : Memory) → k.text ≡ m.text → From m g (keep k)
 same-text m g k e m' a n q t = let z : k ≡ m' = cc in before (sym e ∙ ap (λ (y : Memory). y.text) z ∙ t)
 
-no_text : (m : Memory) (g : Field) (k : ℕ) → From m g (bad k)
+no_text : (m : Memory) (g : Field) (k : Refusal) → From m g (bad k)
 no_text m g k m' a n q t = clash cc
 
 pool-text : (m : Memory) (g : Field) → From m g (pool_kept m g.body)
@@ -72,8 +73,8 @@ id-text : (m : Memory) (g : Field) (x : List ℕ) → From m g (new_id m x)
 unfolding new_id
 id-text m g x = go (among_ids x m.ids)
   where
-    go : (t : Bool) → From m g (pick t (bad 13) (keep (with_id m x)))
-    go true = no_text m g 13
+    go : (t : Bool) → From m g (pick t (bad SecondZone) (keep (with_id m x)))
+    go true = no_text m g SecondZone
     go false = same-text m g (with_id m x) refl
 
 zone-text : (m : Memory) (g : Field) → From m g (zone_kept m g.body)
@@ -88,18 +89,18 @@ text-text : (m : Memory) (g : Field) → g.id ≡ 2 → From m g (text_kept m g.
 unfolding text_kept
 text-text m g i = go (read_text g.body) refl
   where
-    two : (b k : ℕ) → read_text g.body ≡ Part b k → (t : Bool) → eqb (b + k) (length g.body) ≡ t
-        → From m g (pick t (keep (with_text m (placed (g.start + b) k))) (bad 9))
-    two b k h false e m' a n q t = no_text m g 9 m' a n q t
+    two : (b k : ℕ) → read_text g.body ≡ Ok (b, k) → (t : Bool) → eqb (b + k) (length g.body) ≡ t
+        → From m g (pick t (keep (with_text m (placed (g.start + b) k))) (bad BadData))
+    two b k h false e m' a n q t = no_text m g BadData m' a n q t
     two b k h true e m' a n q t =
         let z : with_text m (placed (g.start + b) k) ≡ m' = cc in
         let w : placed (g.start + b) k ≡ placed a n = ap (λ (y : Memory). y.text) z ∙ t in
         let u : k ≡ n = cc in
         here (record { is-text = i; behind = b; read = rw u at h; place = cc; whole = rw u at (eqb-true (b + k) _ e) })
 
-    go : (t : Text) → read_text g.body ≡ t → From m g (text_in m g.start (length g.body) t)
-    go (Untext k) h = no_text m g k
-    go (Part b k) h = two b k h (eqb (b + k) (length g.body)) refl
+    go : (t : Result (ℕ × ℕ) Refusal) → read_text g.body ≡ t → From m g (text_in m g.start (length g.body) t)
+    go (Err k) h = no_text m g k
+    go (Ok (b, k)) h = two b k h (eqb (b + k) (length g.body)) refl
 
 aliases-text : (m : Memory) (g : Field) → From m g (aliases_kept m g.body)
 unfolding aliases_kept
@@ -189,21 +190,21 @@ text-in f a n w =
     }
 
 -- a text that is given was remembered
-given : (t : TextPlace) (p a n : ℕ) → text_given (concluded t p) ≡ TextPart a n → t ≡ placed a n
+given : (t : TextPlace) (p a n : ℕ) → text_given (concluded t p) ≡ Ok (a, n) → t ≡ placed a n
 unfolding concluded
 given nowhere p a n = go (eqb p 4)
   where
-    go : (t : Bool) → text_given (pick t (Ill 6 p) (Bare p)) ≡ TextPart a n → nowhere ≡ placed a n
+    go : (t : Bool) → text_given (pick t (Ill FirstField p) (Bare p)) ≡ Ok (a, n) → nowhere ≡ placed a n
     go true e = clash cc
     go false e = clash cc
 given (placed b k) p a n = go (eqb p 4)
   where
-    go : (t : Bool) → text_given (pick t (Ill 6 p) (WithText b k)) ≡ TextPart a n → placed b k ≡ placed a n
+    go : (t : Bool) → text_given (pick t (Ill FirstField p) (WithText b k)) ≡ Ok (a, n) → placed b k ≡ placed a n
     go true e = clash cc
-    go false e = let z : b ≡ a = cc in let y : k ≡ n = cc in cc
+    go false e = let z : b ≡ a = (ok_parts e).0 in let y : k ≡ n = (ok_parts e).1 in cc
 
 -- THE VERSION TEXT is that of field 2, as a part of the bytes
-pub text-of-field : (f : List ℕ) (a n : ℕ) → version_of f ≡ TextPart a n → TextIn f a n
+pub text-of-field : (f : List ℕ) (a n : ℕ) → version_of f ≡ Ok (a, n) → TextIn f a n
 unfolding conclusion
 text-of-field f a n = go (walk job start f) refl
   where
@@ -211,7 +212,7 @@ text-of-field f a n = go (walk job start f) refl
     come (earlier e) = clash cc
     come (among w) = text-in f a n w
 
-    go : (o : Out Memory ⊥) → walk job start f ≡ o → text_given (concludes o) ≡ TextPart a n → TextIn f a n
+    go : (o : Out Memory ⊥) → walk job start f ≡ o → text_given (concludes o) ≡ Ok (a, n) → TextIn f a n
     go (found v p) e h = absurd v
     go (refused k p) e h = clash cc
     go (cut p) e h = clash cc

@@ -1,4 +1,7 @@
 -- A file is well formed exactly where the check gives 0. Assumes nothing.
+use Rattle.base.specs.declared.Refusal.TheVariants.{FirstField, WrongVersion}
+use Rattle.base.specs.Coded.{Fault}
+use Rattle.std.specs.Prelude.{Err, Ok, Result}
 use mathlib.Core.Path.{◌≡◌, refl, sym, ◌∙◌, ap}
 use mathlib.Core.Bool.{Bool, true, false}
 use mathlib.Core.List.{List, [], ◌∷◌}
@@ -19,12 +22,11 @@ use Rattle.frames.proofs.ChainLaws.{Chain, listing-chain}
 use Rattle.frames.proofs.PartLaws.{walk-ended}
 use Rattle.field_checks.specs.Check.{TextPlace, nowhere, placed, Memory, start, job, concluded, concludes, conclusion}
 use Rattle.field_checks.specs.Check.{verdict_of, check_of, WellFormed}
-use Rattle.field_checks.specs.declared.Verdict.TheVariants.{Good, Refused}
 use Rattle.base.proofs.Tests.{clash}
 use Rattle.field_checks.specs.declared.Conclusion.TheVariants.{Refused as Ill}
 
 -- at the end of bytes that are the version alone
-pub none_seen : (t : TextPlace) (p : ℕ) → p ≡ 4 → Ill 6 p ≡ concluded t p
+pub none_seen : (t : TextPlace) (p : ℕ) → p ≡ 4 → Ill FirstField p ≡ concluded t p
 unfolding concluded
 none_seen nowhere p q = rw (eq-eqb p 4 q)
 none_seen (placed a n) p q = rw (eq-eqb p 4 q)
@@ -33,7 +35,7 @@ version-no-end : (r : List ℕ) → version r ≡ End → ⊥
 unfolding version
 version-no-end r = go (leb 4 (length r)) (zeros (take 4 r))
   where
-    go : (p q : Bool) → pick p (pick q Version (Unframed 3)) Cut ≡ End → ⊥
+    go : (p q : Bool) → pick p (pick q Version (Unframed WrongVersion)) Cut ≡ End → ⊥
     go true true e = clash cc
     go true false e = clash cc
     go false q e = clash cc
@@ -70,24 +72,24 @@ pub some-field : (f : List ℕ) (gs : List Field) → Chain f false 0 4 gs → (
 some-field f [] c n = absurd (n refl)
 some-field f (g ∷ gs) c n = omega (arith, c.0, c.1.starts, c.1.ends, c.1.within)
 
-good-end : (t : TextPlace) (p : ℕ) → (p ≡ 4 → ⊥) → verdict_of (concluded t p) ≡ Good
+good-end : (t : TextPlace) (p : ℕ) → (p ≡ 4 → ⊥) → verdict_of (concluded t p) ≡ Ok tt
 unfolding concluded
 good-end nowhere p o = rw (ne_eqb p 4 o)
 good-end (placed a n) p o = rw (ne_eqb p 4 o)
 
 -- THE CHECK GIVES 0 TO A WELL-FORMED FILE
-pub well-formed-good : (f : List ℕ) → WellFormed f → check_of f ≡ Good
+pub well-formed-good : (f : List ℕ) → WellFormed f → check_of f ≡ Ok tt
 unfolding conclusion
 well-formed-good f w =
     let l = some-field f (fields f) (listing-chain f 255) w.some-field in
     rw w.ends (good-end w.memory.text (length f) (λ z. omega arith))
 
 -- and to no other
-pub good-well-formed : (f : List ℕ) → check_of f ≡ Good → WellFormed f
+pub good-well-formed : (f : List ℕ) → check_of f ≡ Ok tt → WellFormed f
 unfolding conclusion
 good-well-formed f = go (walk job start f) refl
   where
-    go : (o : Out Memory ⊥) → walk job start f ≡ o → verdict_of (concludes o) ≡ Good → WellFormed f
+    go : (o : Out Memory ⊥) → walk job start f ≡ o → verdict_of (concludes o) ≡ Ok tt → WellFormed f
     go (found v p) e h = absurd v
     go (refused n p) e h = clash cc
     go (cut p) e h = clash cc
@@ -99,5 +101,5 @@ good-well-formed f = go (walk job start f) refl
           some-field = λ n. bad-end (ap verdict_of (none_seen m.text p (no-field f p t.whole n)) ∙ h);
         }
       where
-        bad-end : Refused 6 p ≡ Good → ⊥
+        bad-end : ◌≡◌ {A = Result (Unit {0}) Fault} (Err (FirstField, p)) (Ok tt) → ⊥
         bad-end q = clash cc

@@ -1,4 +1,7 @@
 -- "a well-formed file has at most one" zone with given ID bytes. Assumes nothing.
+use Rattle.base.specs.declared.Refusal.{Refusal}
+use Rattle.base.specs.declared.Refusal.TheVariants.{BadData, SecondZone}
+use Rattle.std.specs.Prelude.{Err, Ok, Result}
 use mathlib.Core.Path.{◌≡◌, refl, sym, ◌∙◌, ap, subst}
 use mathlib.Core.Bool.{Bool, true, false}
 use mathlib.Core.List.{List, [], ◌∷◌, ◌++◌}
@@ -12,8 +15,6 @@ use Rattle.base.specs.Parsed.{Parsed, got, bad as faulty}
 use Rattle.base.specs.Run.{next}
 use Rattle.base.proofs.Tests.{never, clash}
 use Rattle.texts.specs.Text.{read_text}
-use Rattle.texts.specs.declared.Text.{Text}
-use Rattle.texts.specs.declared.Text.TheVariants.{Part, Refused as Untext}
 use Rattle.pool.specs.Pool.{Pool, parse_pool, strings_in, strings_of}
 use Rattle.base.specs.Equal.{equal}
 use Rattle.base.proofs.EqualLaws.{equal-refl}
@@ -62,15 +63,15 @@ among-more x y ys h = go (equal y x)
 abbrev pub KeepGrows : Memory → Content Memory ⊥ → Type 0
 KeepGrows m x = (m' : Memory) → x ≡ keep m' → Grown m m'
 
-bad-keeps : (m : Memory) (n : ℕ) → KeepGrows m (bad n)
+bad-keeps : (m : Memory) (n : Refusal) → KeepGrows m (bad n)
 bad-keeps m n m' e = clash cc
 
 new-grows : (m : Memory) (x : List ℕ) → KeepGrows m (new_id m x)
 unfolding new_id
 new-grows m x = go (among x m.ids)
   where
-    go : (t : Bool) → KeepGrows m (pick t (bad 13) (keep (with_id m x)))
-    go true m' e = bad-keeps m 13 m' e
+    go : (t : Bool) → KeepGrows m (pick t (bad SecondZone) (keep (with_id m x)))
+    go true m' e = bad-keeps m SecondZone m' e
     go false m' e =
         let z : with_id m x ≡ m' = cc in
         rw (← z) (record { pool = refl; ids = λ y h. among-more y x m.ids h })
@@ -87,15 +88,15 @@ text-grows : (m : Memory) (a : ℕ) (d : List ℕ) → KeepGrows m (text_kept m 
 unfolding text_kept
 text-grows m a d = go (read_text d)
   where
-    two : (b n : ℕ) (t : Bool) → KeepGrows m (pick t (keep (with_text m (placed (a + b) n))) (bad 9))
+    two : (b n : ℕ) (t : Bool) → KeepGrows m (pick t (keep (with_text m (placed (a + b) n))) (bad BadData))
     two b n true m' e =
         let z : with_text m (placed (a + b) n) ≡ m' = cc in
         rw (← z) (record { pool = refl; ids = λ y h. h })
-    two b n false m' e = bad-keeps m 9 m' e
+    two b n false m' e = bad-keeps m BadData m' e
 
-    go : (t : Text) → KeepGrows m (text_in m a (length d) t)
-    go (Untext n) m' e = bad-keeps m n m' e
-    go (Part b n) m' e = two b n (eqb (b + n) (length d)) m' e
+    go : (t : Result (ℕ × ℕ) Refusal) → KeepGrows m (text_in m a (length d) t)
+    go (Err n) m' e = bad-keeps m n m' e
+    go (Ok (b, n)) m' e = two b n (eqb (b + n) (length d)) m' e
 
 aliases-grows : (m : Memory) (d : List ℕ) → KeepGrows m (aliases_kept m d)
 unfolding aliases_kept
@@ -157,7 +158,7 @@ zone-new : (m m' : Memory) (g : Field) (x : List ℕ) → HasId m.pool x g → j
 unfolding new_id among
 zone-new m m' g x h e = go (among x m.ids) refl (sym (zone-content m g x h) ∙ e)
   where
-    go : (t : Bool) → among x m.ids ≡ t → pick {A = Content Memory ⊥} t (bad 13) (keep (with_id m x)) ≡ keep m'
+    go : (t : Bool) → among x m.ids ≡ t → pick {A = Content Memory ⊥} t (bad SecondZone) (keep (with_id m x)) ≡ keep m'
         → (among x m.ids ≡ false) × (among x m'.ids ≡ true)
     go true q k = clash cc
     go false q k =

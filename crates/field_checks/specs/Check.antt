@@ -1,11 +1,12 @@
 -- The whole-file check and the version text. "Built: checking a whole file; .. reading the tzdb version text". "The check and the
 -- rewriter take the bytes as all there are." To be believed.
-use Rattle.std.specs.Prelude.{ℕ, ◌+◌, ◌≡◌, List, [], ◌∷◌, length, get_or, eqb}
+use Rattle.base.specs.declared.Refusal.{Refusal}
+use Rattle.base.specs.Coded.{Fault}
+use Rattle.base.specs.declared.Refusal.TheVariants.{BadData, CutShort, FirstField, NotFound, SecondZone}
+use Rattle.std.specs.Prelude.{ℕ, ◌+◌, ◌≡◌, List, [], ◌∷◌, length, get_or, eqb, Err, Ok, Result}
 use Rattle.base.specs.Pick.{pick}
 use Rattle.base.specs.Parsed.{Parsed, got, bad as faulty}
 use Rattle.texts.specs.Text.{read_text}
-use Rattle.texts.specs.declared.Text.{Text}
-use Rattle.texts.specs.declared.Text.TheVariants.{Part, Refused as Untext}
 use Rattle.pool.specs.Pool.{Pool, parse_pool, strings_of}
 use Rattle.zones.specs.Content.{Zone}
 use Rattle.zones.specs.Parse.{parse_zone}
@@ -20,10 +21,6 @@ use Rattle.frames.specs.Machine.{Out, found, refused, cut, ended, Content, bad, 
 use Rattle.frames.specs.Fields.{fields}
 use Rattle.field_checks.specs.declared.Conclusion.{Conclusion}
 use Rattle.field_checks.specs.declared.Conclusion.TheVariants.{Refused as Ill, Bare, WithText}
-use Rattle.field_checks.specs.declared.Verdict.{Verdict}
-use Rattle.field_checks.specs.declared.Verdict.TheVariants.{Good, Refused}
-use Rattle.field_checks.specs.declared.VersionText.{VersionText}
-use Rattle.field_checks.specs.declared.VersionText.TheVariants.{Part as TextPart, Refused as NoText}
 
 -- where the version text lies: the place of its first byte, and how many bytes it has
 pub data TextPlace : Type 0 where
@@ -58,7 +55,7 @@ pool_kept m d = pool_in m (parse_pool d)
 
 -- "a second zone with the same ID bytes" is 13
 unfoldable pub new_id : Memory → List ℕ → Content Memory ⊥
-new_id m x = pick (among x m.ids) (bad 13) (keep (with_id m x))
+new_id m x = pick (among x m.ids) (bad SecondZone) (keep (with_id m x))
 
 -- "9 for leftovers last, 13 after that": the zone's own faults come first
 abbrev pub zone_in : Memory → Parsed Zone → Content Memory ⊥
@@ -70,9 +67,9 @@ unfoldable pub zone_kept : Memory → List ℕ → Content Memory ⊥
 zone_kept m d = zone_in m (parse_zone (length m.pool) d)
 
 -- "in field 2 (tzdb version) length and bytes stand in place"; data left over is 9
-abbrev pub text_in : Memory → ℕ → ℕ → Text → Content Memory ⊥
-text_in m a size (Untext n) = bad n
-text_in m a size (Part b n) = pick (eqb (b + n) size) (keep (with_text m (placed (a + b) n))) (bad 9)
+abbrev pub text_in : Memory → ℕ → ℕ → Result (ℕ × ℕ) Refusal → Content Memory ⊥
+text_in m a size (Err n) = bad n
+text_in m a size (Ok (b, n)) = pick (eqb (b + n) size) (keep (with_text m (placed (a + b) n))) (bad BadData)
 
 -- field 2, whose data d start at the place a
 unfoldable pub text_kept : Memory → ℕ → List ℕ → Content Memory ⊥
@@ -131,35 +128,35 @@ job = record { last = 255; content = λ m g. judged m g.id g.start g.body }
 
 -- the bytes end with the version, which takes 4 of them, or with a field: 6 where "a whole-file check finds no field"
 unfoldable pub concluded : TextPlace → ℕ → Conclusion
-concluded nowhere p = pick (eqb p 4) (Ill 6 p) (Bare p)
-concluded (placed a n) p = pick (eqb p 4) (Ill 6 p) (WithText a n)
+concluded nowhere p = pick (eqb p 4) (Ill FirstField p) (Bare p)
+concluded (placed a n) p = pick (eqb p 4) (Ill FirstField p) (WithText a n)
 
 -- "cut short: this is all, and the bytes end in the version or in a field" is 2
 abbrev pub concludes : Out Memory ⊥ → Conclusion
 concludes (found v p) = absurd v
 concludes (refused n p) = Ill n p
-concludes (cut p) = Ill 2 p
+concludes (cut p) = Ill CutShort p
 concludes (ended m p) = concluded m.text p
 
 unfoldable pub conclusion : List ℕ → Conclusion
 conclusion f = concludes (walk job start f)
 
-abbrev pub verdict_of : Conclusion → Verdict
-verdict_of (Ill n p) = Refused n p
-verdict_of (Bare p) = Good
-verdict_of (WithText a n) = Good
+abbrev pub verdict_of : Conclusion → Result (Unit {0}) Fault
+verdict_of (Ill n p) = Err (n, p)
+verdict_of (Bare p) = Ok tt
+verdict_of (WithText a n) = Ok tt
 
 -- the whole-file check: 0, or number and place
-abbrev pub check_of : List ℕ → Verdict
+abbrev pub check_of : List ℕ → Result (Unit {0}) Fault
 check_of f = verdict_of (conclusion f)
 
 -- "Rewriting, and reading the version text, check all first; then 15 or 12"; "for 12 on the version text, the bytes' end"
-abbrev pub text_given : Conclusion → VersionText
-text_given (Ill n p) = NoText n p
-text_given (Bare p) = NoText 12 p
-text_given (WithText a n) = TextPart a n
+abbrev pub text_given : Conclusion → Result (ℕ × ℕ) Fault
+text_given (Ill n p) = Err (n, p)
+text_given (Bare p) = Err (NotFound, p)
+text_given (WithText a n) = Ok (a, n)
 
-abbrev pub version_of : List ℕ → VersionText
+abbrev pub version_of : List ℕ → Result (ℕ × ℕ) Fault
 version_of f = text_given (conclusion f)
 
 -- "A file is well formed when none of 2 to 11 or 13 applies to it as a whole", nor by Ask 5 ("'well formed' narrows with it") 19, nor by Ask 8

@@ -6,6 +6,7 @@ ghost use Rattle.field_checks.specs.Check.{concluded};
 ghost use Rattle.field_readers.specs.Remembered.{text_of};
 ghost use Rattle.field_readers.specs.Flags.{flag_set};
 
+use base::Refusal;
 use field_checks::Conclusion;
 
 // What is remembered of the fields seen, beside the arrays: where the pool's data starts and ends and how many strings it holds; how many
@@ -19,13 +20,6 @@ pub struct Kept {
     pub zones: usize,
     pub text: usize,
     pub len: usize,
-}
-
-// What a whole field comes to: the number of a refusal, or what is remembered from there on.
-#[derive(Clone, Copy)]
-pub enum Taken {
-    Refused(u8),
-    Keep(Kept),
 }
 
 // Sets the flag of a zone, whose ID has a number of the pool, where its data are not in their preferred form and there is a flag for it.
@@ -47,7 +41,7 @@ pub fn conclude(at: usize, k: Kept) -> Conclusion
     ensures { result ≡ concluded (text_of k) at }
 {
     if at == 4 {
-        return Conclusion::Refused(6, at);
+        return Conclusion::Refused(Refusal::FirstField, at);
     }
     if k.text != 0 {
         return Conclusion::WithText(k.text, k.len);

@@ -1,4 +1,7 @@
 -- The search for a field. Assumes nothing.
+use Rattle.base.specs.declared.Refusal.{Refusal}
+use Rattle.std.specs.declared.option.Option.{Option}
+use Rattle.std.specs.declared.option.Option.TheVariants.{None, Some}
 use mathlib.Core.Path.{◌≡◌, refl, sym, ap, ◌∙◌}
 use mathlib.Core.Bool.{Bool, true, false}
 use mathlib.Core.List.{List, [], ◌∷◌}
@@ -16,12 +19,10 @@ use Rattle.frames.specs.declared.Frame.TheVariants.{End, Cut, Refused, Version, 
 use Rattle.frames.proofs.WalkLaws.{walk-pass}
 use Rattle.frames.proofs.AtLaws.{at-end, at_cut, at-refused, at-version, whole-inside, at-answer, at-keep, front-end, front_cut, front-refused, front-version}
 use Rattle.field_search.specs.Search.{field_with, place_in, field_place, seeker, place_of, behind_version}
-use Rattle.field_search.specs.declared.FieldPlace.{FieldPlace}
-use Rattle.field_search.specs.declared.FieldPlace.TheVariants.{At, Nowhere}
 
 -- the job answers with the first field of the list
 module _ (i : ℕ) where
-  nowhere : (e : Ending) → place_of (outcome e tt) ≡ Nowhere
+  nowhere : (e : Ending) → place_of (outcome e tt) ≡ None
   nowhere (refused_at n p) = refl
   nowhere (cut_at p) = refl
   nowhere (end_at p) = refl
@@ -41,16 +42,16 @@ module _ (i : ℕ) where
 
 -- the front of the file
 module _ (i : ℕ) (s : List ℕ) where
-  pub front-nowhere-end : End ≡ frame 255 0 false 0 s → Nowhere ≡ field_place i s
+  pub front-nowhere-end : End ≡ frame 255 0 false 0 s → None ≡ field_place i s
   front-nowhere-end e = sym (ap place_of (front-end (seeker i) tt s e)) ∙ seek-fields i s
 
-  pub front-nowhere-cut : Cut ≡ frame 255 0 false 0 s → Nowhere ≡ field_place i s
+  pub front-nowhere-cut : Cut ≡ frame 255 0 false 0 s → None ≡ field_place i s
   front-nowhere-cut e = sym (ap place_of (front_cut (seeker i) tt s e)) ∙ seek-fields i s
 
-  pub front-nowhere-refused : (n : ℕ) → Refused n ≡ frame 255 0 false 0 s → Nowhere ≡ field_place i s
+  pub front-nowhere-refused : (n : Refusal) → Refused n ≡ frame 255 0 false 0 s → None ≡ field_place i s
   front-nowhere-refused n e = sym (ap place_of (front-refused (seeker i) tt s n e)) ∙ seek-fields i s
 
-  pub front-on : Version ≡ frame 255 0 false 0 s → (r : FieldPlace) → r ≡ behind_version i s → r ≡ field_place i s
+  pub front-on : Version ≡ frame 255 0 false 0 s → (r : Option (ℕ × ℕ × ℕ)) → r ≡ behind_version i s → r ≡ field_place i s
   front-on e r h = h ∙ sym (ap place_of (front-version (seeker i) tt s e)) ∙ seek-fields i s
 
 -- behind the version
@@ -64,23 +65,23 @@ module _ (i : ℕ) (s : List ℕ) where
   seeking-start h = record { some = omega arith; inside = h; goes = refl }
 
   module _ (at prev : ℕ) (w : Seeking at prev) (f : Frame) (read : f ≡ frame 255 at (ltb 4 at) prev (take (length s - at) (drop at s))) where
-    pub seeking-end : f ≡ End → Nowhere ≡ behind_version i s
+    pub seeking-end : f ≡ End → None ≡ behind_version i s
     seeking-end e = sym (w.goes ∙ ap place_of (at-end (seeker i) s at (ltb 4 at) prev tt w.inside f read e))
 
-    pub seeking-cut : f ≡ Cut → Nowhere ≡ behind_version i s
+    pub seeking-cut : f ≡ Cut → None ≡ behind_version i s
     seeking-cut e = sym (w.goes ∙ ap place_of (at_cut (seeker i) s at (ltb 4 at) prev tt w.inside f read e))
 
-    pub seeking-refused : (n : ℕ) → f ≡ Refused n → Nowhere ≡ behind_version i s
+    pub seeking-refused : (n : Refusal) → f ≡ Refused n → None ≡ behind_version i s
     seeking-refused n e = sym (w.goes ∙ ap place_of (at-refused (seeker i) s at (ltb 4 at) prev tt w.inside f read n e))
 
-    pub seeking-version : f ≡ Version → Nowhere ≡ behind_version i s
+    pub seeking-version : f ≡ Version → None ≡ behind_version i s
     seeking-version e = absurd (omega (arith, at-version (seeker i) s at (ltb 4 at) prev tt w.inside f read e, w.some))
 
     module _ (j h n : ℕ) (e : f ≡ Whole j h n) where
       pub seeking-fits : (0 < h) × (at + h + n ≤ length s) × (at + h + n ≤ 4194304)
       seeking-fits = whole-inside (seeker i) s at (ltb 4 at) prev tt w.inside f read j h n e
 
-      pub seeking-found : j ≡ i → At at (at + h) (at + h + n) ≡ behind_version i s
+      pub seeking-found : j ≡ i → Some (at, at + h, at + h + n) ≡ behind_version i s
       seeking-found q =
           let z : at + (h + n) ≡ at + h + n = omega arith in
           sym (w.goes ∙ ap place_of (at-answer (seeker i) s at (ltb 4 at) prev tt w.inside f read j h n e (field_at at (drop at s) j h n) (rw (eq-eqb j i q))) ∙ rw z)

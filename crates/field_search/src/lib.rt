@@ -6,15 +6,8 @@ ghost use Rattle.field_search.specs.Search.{field_place, behind_version};
 
 use frames::Frame;
 
-// The place of a field's ID byte, and where its data start and end; or that there is none.
-#[derive(Clone, Copy)]
-pub enum FieldPlace {
-    At(usize, usize, usize),
-    Nowhere,
-}
-
 // The same behind the version.
-fn seek(s: &[u8], id: u8) -> FieldPlace
+fn seek(s: &[u8], id: u8) -> Option<(usize, usize, usize)>
     requires { 4 ≤ length s.now }
     ensures { result ≡ behind_version id s.now }
 {
@@ -24,23 +17,23 @@ fn seek(s: &[u8], id: u8) -> FieldPlace
         let f = headers::read_frame(&s[at..], 255, at, 4 < at, prev);
         match f {
             Frame::End => {
-                return FieldPlace::Nowhere;
+                return None;
             }
             Frame::Cut => {
-                return FieldPlace::Nowhere;
+                return None;
             }
             Frame::Refused(_) => {
-                return FieldPlace::Nowhere;
+                return None;
             }
             // The version stands at place 0 only.
             Frame::Version => {
-                return FieldPlace::Nowhere;
+                return None;
             }
             Frame::Whole(i, h, n) => {
                 let d = at + h;
                 let e = d + n;
                 if i == id {
-                    return FieldPlace::At(at, d, e);
+                    return Some((at, d, e));
                 }
                 at = e;
                 prev = i as usize;
@@ -49,16 +42,16 @@ fn seek(s: &[u8], id: u8) -> FieldPlace
     }
 }
 
-// The first field with the ID among the whole fields of a file.
-pub fn find_field(s: &[u8], id: u8) -> FieldPlace
+// The first field with the ID among the whole fields of a file: the place of its ID byte, and where its data start and end.
+pub fn find_field(s: &[u8], id: u8) -> Option<(usize, usize, usize)>
     ensures { result ≡ field_place id s.now }
 {
     match headers::read_frame(s, 255, 0, false, 0) {
         Frame::Version => seek(s, id),
-        Frame::End => FieldPlace::Nowhere,
-        Frame::Cut => FieldPlace::Nowhere,
-        Frame::Refused(_) => FieldPlace::Nowhere,
+        Frame::End => None,
+        Frame::Cut => None,
+        Frame::Refused(_) => None,
         // No field stands at place 0.
-        Frame::Whole(_, _, _) => FieldPlace::Nowhere,
+        Frame::Whole(_, _, _) => None,
     }
 }

@@ -1,4 +1,9 @@
 -- Each way out of the walk to the asked zone. Assumes nothing.
+use Rattle.answers.specs.declared.Found.{Found}
+use Rattle.base.specs.declared.Refusal.{Refusal}
+use Rattle.base.specs.Coded.{Fault}
+use Rattle.std.specs.Prelude.{Err, Ok, Result}
+use Rattle.base.specs.declared.Refusal.TheVariants.{CutShort, NotFound}
 use mathlib.Core.Path.{◌≡◌, refl, sym, ap, ◌∙◌, subst}
 use mathlib.Core.Bool.{Bool, true, false}
 use mathlib.Core.List.{List}
@@ -26,16 +31,12 @@ use Rattle.zones.specs.Editions.{under}
 use Rattle.zones.specs.Lookup.{in_zone, verdict_of}
 use Rattle.zones.specs.declared.Edition.{Edition}
 use Rattle.zones.specs.declared.Found.{Found as Interval}
-use Rattle.zones.specs.declared.ZoneVerdict.{ZoneVerdict}
-use Rattle.zones.specs.declared.ZoneVerdict.TheVariants.{Good, Refused as Ill}
 use Rattle.zones.proofs.EditionLaws.{under-sound}
 use Rattle.zones.proofs.SoundLaws.{zone-sound}
 use Rattle.zones.proofs.RangeLaws.{zone-found}
 use Rattle.frames.specs.Machine.{Out, refused, cut, ended, walk}
 use Rattle.answers.specs.Answers.{Pool, no_pool, answer_by, answered}
 use Rattle.answers.specs.declared.Mark.TheVariants.{All}
-use Rattle.answers.specs.declared.Answer.{Answer}
-use Rattle.answers.specs.declared.Answer.TheVariants.{In, Refused}
 use Rattle.locate.specs.Asked.{Held, holder}
 use Rattle.locate.specs.View.{part, pool_at, Lies, zone_out, Spotted}
 use Rattle.locate.specs.declared.Spot.{Spot}
@@ -44,21 +45,19 @@ use Rattle.questions.proofs.HeldLaws.{ask-held}
 use Rattle.found_zones.specs.FoundZone.{answer_in, zone_at, zone_answer, ask_zone, FindsZone}
 use Rattle.found_zones.specs.View.{ask_out, FindsOut}
 use Rattle.found_zones.specs.declared.FoundZone.{FoundZone}
-use Rattle.found_zones.specs.declared.Finding.{Finding}
-use Rattle.found_zones.specs.declared.Finding.TheVariants.{Zone as Here, Refused as Nowhere}
 use Rattle.found_zones.proofs.SpanLaws.{Has, has-string}
 
 module _ (s : List ℕ) (o : Out Pool Held) where
-  pub out-refused : (n p : ℕ) → o ≡ refused n p → FindsOut s o (Nowhere n p)
+  pub out-refused : (n : Refusal) (p : ℕ) → o ≡ refused n p → FindsOut s o (Err (n, p))
   out-refused n p e = rw e (record { to = λ ed t. refl })
 
-  pub out-cut : (p : ℕ) → o ≡ cut p → FindsOut s o (Nowhere 2 p)
+  pub out-cut : (p : ℕ) → o ≡ cut p → FindsOut s o (Err (CutShort, p))
   out-cut p e = rw e (record { to = λ ed t. refl })
 
-  pub out-end : (m : Pool) (p : ℕ) → o ≡ ended m p → FindsOut s o (Nowhere 12 p)
+  pub out-end : (m : Pool) (p : ℕ) → o ≡ ended m p → FindsOut s o (Err (NotFound, p))
   out-end m p e = rw e (record { to = λ ed t. refl })
 
-  pub out-on : (q : Out Pool Held) → o ≡ q → (r : Finding) → FindsOut s q r → FindsOut s o r
+  pub out-on : (q : Out Pool Held) → o ≡ q → (r : Result FoundZone Fault) → FindsOut s q r → FindsOut s o r
   out-on q e r h = subst (λ (x : Out Pool Held). FindsOut s x r) (sym e) h
 
 -- the pool's data d to e of s, which has a string, and the zone's data a to b
@@ -90,33 +89,33 @@ module _ (s : List ℕ) (v : FoundZone) (l : Lies s v.pool v.past) (order : v.st
     zone-is = rw (lent-pool, lent-zone, has.room) e
 
     pub answer-same : (ed : Edition) (t : ℕ) → Finite t
-        → zone_answer s v ed t (zone_at s v) ≡ In (answered (pool_at s v.pool v.past) (in_zone t (under ed z)))
+        → zone_answer s v ed t (zone_at s v) ≡ Ok (answered (pool_at s v.pool v.past) (in_zone t (under ed z)))
     answer-same ed t f =
         let n = length (strings_of pool) in
         let k = zone-found n t (under ed z) (under-sound ed n z (zone-sound n zone z r e).0) f in
-        ap (zone_answer s v ed t) zone-is ∙ ap In (name-same has (in_zone t (under ed z)) k.name-ok)
+        ap (zone_answer s v ed t) zone-is ∙ ap Ok (name-same has (in_zone t (under ed z)) k.name-ok)
 
 -- the zone where the walk stops
-module _ (s : List ℕ) (o : Out Pool Held) (d e : ℕ) (v : Spot) (k : Spotted s (pool_at s d e) o v) (c : ZoneVerdict)
+module _ (s : List ℕ) (o : Out Pool Held) (d e : ℕ) (v : Spot) (k : Spotted s (pool_at s d e) o v) (c : Result ℕ Refusal)
     (checks : c ≡ verdict_of (parse_zone v.count (part v.start v.past s))) where
   abbrev data' : List ℕ
   data' = part v.start v.past s
 
-  pub out-denied : (n : ℕ) → c ≡ Ill n → FindsOut s o (Nowhere n v.place)
+  pub out-denied : (n : Refusal) → c ≡ Err n → FindsOut s o (Err (n, v.place))
   out-denied n q = go (parse_zone v.count data') k.goes (sym q ∙ checks)
     where
-      go : (p : Parsed Zone) → o ≡ zone_out v (pool_at s d e) p → Ill n ≡ verdict_of p → FindsOut s o (Nowhere n v.place)
+      go : (p : Parsed Zone) → o ≡ zone_out v (pool_at s d e) p → Err n ≡ verdict_of p → FindsOut s o (Err (n, v.place))
       go (got z r) g h = clash cc
-      go (bad i) g h = let w : i ≡ n = cc in out-refused s o n v.place (g ∙ ap (λ (j : ℕ). refused j v.place) w)
+      go (bad i) g h = let w : i ≡ n = cc in out-refused s o n v.place (g ∙ ap (λ (j : Refusal). refused j v.place) w)
 
-  pub out-zone : Lies s d e → (i : ℕ) → c ≡ Good i
-      → FindsOut s o (Here (record { pool = d; past = e; start = v.start; end = v.past; place = v.place }))
+  pub out-zone : Lies s d e → (i : ℕ) → c ≡ Ok i
+      → FindsOut s o (Ok (record { pool = d; past = e; start = v.start; end = v.past; place = v.place }))
   out-zone l i q = go (parse_zone v.count data') refl k.goes (sym q ∙ checks)
     where
       u : FoundZone
       u = record { pool = d; past = e; start = v.start; end = v.past; place = v.place }
 
-      go : (p : Parsed Zone) → parse_zone v.count data' ≡ p → o ≡ zone_out v (pool_at s d e) p → Good i ≡ verdict_of p → FindsOut s o (Here u)
+      go : (p : Parsed Zone) → parse_zone v.count data' ≡ p → o ≡ zone_out v (pool_at s d e) p → Ok i ≡ verdict_of p → FindsOut s o (Ok u)
       go (got z r) f g h = record {
         to = λ ed t n.
             answer-same s u l k.order k.inside z r (subst (λ (m : ℕ). parse_zone m data' ≡ got z r) k.count-is f) ed t n
@@ -125,9 +124,9 @@ module _ (s : List ℕ) (o : Out Pool Held) (d e : ℕ) (v : Spot) (k : Spotted 
       go (bad j) f g h = clash cc
 
 -- BY THE QUESTION
-pub finds-zone : (f id : List ℕ) (r : Finding) → FindsOut f (walk (holder id) no_pool f) r → FindsZone f id r
+pub finds-zone : (f id : List ℕ) (r : Result FoundZone Fault) → FindsOut f (walk (holder id) no_pool f) r → FindsZone f id r
 unfolding ask_zone ask
-finds-zone f id (Here v) h = record { to = λ z ed. go z ed (eqb (instant_of z) 0) refl }
+finds-zone f id (Ok v) h = record { to = λ z ed. go z ed (eqb (instant_of z) 0) refl }
   where
     go : (z : ℤ) (ed : Edition) (b : Bool) → eqb (instant_of z) 0 ≡ b → ask_zone f v z ed ≡ ask f id z All ed
     go z ed true q = rw q
@@ -135,4 +134,4 @@ finds-zone f id (Here v) h = record { to = λ z ed. go z ed (eqb (instant_of z) 
         let n = eqb-false (instant_of z) 0 q in
         let a : ask_zone f v z ed ≡ zone_answer f v ed (instant_of z) (zone_at f v) = rw q in
         a ∙ h.to ed (instant_of z) (instant-finite (instant_of z) z refl n) ∙ sym (ask-held f id z All ed n)
-finds-zone f id (Nowhere n p) h = record { to = λ z ed i. ask-held f id z All ed i ∙ h.to ed (instant_of z) }
+finds-zone f id (Err (n, p)) h = record { to = λ z ed i. ask-held f id z All ed i ∙ h.to ed (instant_of z) }

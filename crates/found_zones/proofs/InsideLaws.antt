@@ -1,4 +1,8 @@
 -- The name of an answer lies in the bytes, and a refusal's place in a file, whatever the numbers of a found zone are. Assumes nothing.
+use Rattle.base.specs.declared.Refusal.{Refusal}
+use Rattle.base.specs.declared.Refusal.TheVariants.{BadData, BadText}
+use Rattle.std.specs.Prelude.{Err, Ok, Result}
+use Rattle.base.specs.Coded.{Coded, Fault}
 use mathlib.Core.Path.{◌≡◌, refl, sym, ap, ◌∙◌, subst}
 use mathlib.Core.Bool.{Bool, true, false}
 use mathlib.Core.List.{List, []}
@@ -10,8 +14,6 @@ use lib.ListN.{length, take, drop, length-take, length-drop}
 use borrow.Author.Tests.{leb-true, eqb-false}
 use Rattle.base.specs.Pick.{pick, both}
 use Rattle.base.specs.Parsed.{Parsed, got, bad, bind, behind_code, parse}
-use Rattle.base.specs.declared.Read.{Read}
-use Rattle.base.specs.declared.Read.TheVariants.{Value, Refused as Unread}
 use Rattle.base.proofs.ParseLaws.{bad-got, got-value, got-rest, bind-good, pick_good}
 use Rattle.base.proofs.Tests.{both_left, both_right, pick-holds, clash}
 use Rattle.counts.specs.Count.{read_count}
@@ -27,8 +29,6 @@ use Rattle.zones.specs.Lookup.{in_zone}
 use Rattle.zones.specs.declared.Edition.{Edition}
 use Rattle.zones.proofs.SoundLaws.{zone-sound}
 use Rattle.answers.specs.declared.Found.{Found}
-use Rattle.answers.specs.declared.Answer.{Answer}
-use Rattle.answers.specs.declared.Answer.TheVariants.{In, Refused}
 use Rattle.found_zones.specs.FoundZone.{zone_at, answer_in, place_in, zone_answer, ask_zone}
 use Rattle.found_zones.specs.declared.FoundZone.{FoundZone}
 
@@ -40,15 +40,15 @@ record Reads (s r : List ℕ) (n : ℕ) : Type 0 where
 code-rest : (s : List ℕ) (v : ℕ) (r : List ℕ) → parse read_count s ≡ got v r → length r ≤ length s
 code-rest s v r e = go (read_count s) e
   where
-    go : (x : Read) → behind_code s x ≡ got v r → length r ≤ length s
-    go (Value w n) e = let z : drop n s ≡ r = got-rest e in rw (← z) (rw (length-drop n s) (omega arith))
-    go (Unread k) e = bad-got e
+    go : (x : Coded ℕ) → behind_code s x ≡ got v r → length r ≤ length s
+    go (Ok (w, n)) e = let z : drop n s ≡ r = got-rest e in rw (← z) (rw (length-drop n s) (omega arith))
+    go (Err k) e = bad-got e
 
 string-reads : (s : List ℕ) (n : ℕ) (r : List ℕ) → parse_string s ≡ got n r → Reads s r n
 unfolding parse_string judge_length
 string-reads s n r e =
     let x = bind-good (parse read_count s) judge_length n r e in
-    let y = pick_good (leb x.first (length x.rest)) (got x.first x.rest) 9 n r x.on in
+    let y = pick_good (leb x.first (length x.rest)) (got x.first x.rest) BadData n r x.on in
     let i : x.first ≡ n = got-value y.1 in
     let j : x.rest ≡ r = got-rest y.1 in
     let l : x.first ≤ length x.rest = leb-true x.first (length x.rest) y.0 in
@@ -70,7 +70,7 @@ span-in d k = go (bind (parse read_count d) (string_numbered k)) refl
     go : (p : Parsed ℕ) → bind (parse read_count d) (string_numbered k) ≡ p → (span_in d p).at + (span_in d p).len ≤ length d
     go (got n r) e =
         let x = bind-good (parse read_count d) (string_numbered k) n r e in
-        let y = pick_good (ltb k x.first) (nth_string k x.rest) 8 n r x.on in
+        let y = pick_good (ltb k x.first) (nth_string k x.rest) BadText n r x.on in
         let w = nth-reads k x.rest n r y.1 in
         omega (arith, w.size, w.rest, code-rest d x.first x.rest x.is)
     go (bad m) e = omega arith
@@ -80,9 +80,9 @@ no_room : room_of [] ≡ 0
 unfolding room_in
 no_room = go (read_count []) refl
   where
-    go : (x : Read) → read_count [] ≡ x → room_in x ≡ 0
-    go (Value v n) e = let c = counted [] (sym e) in absurd (omega (arith, c.some, c.within))
-    go (Unread m) e = refl
+    go : (x : Coded ℕ) → read_count [] ≡ x → room_in x ≡ 0
+    go (Ok (v, n)) e = let c = counted [] (sym e) in absurd (omega (arith, c.some, c.within))
+    go (Err m) e = refl
 
 room-lent : (f : List ℕ) (b c : ℕ) → 0 < room_of (lent_part f b c) → (b ≤ c) × (c ≤ length f)
 unfolding lent_part
@@ -100,11 +100,11 @@ text-inside f b c k h =
     omega (arith, w.0, w.1, span-in (lent_part f b c) k)
 
 -- a name that lies in f, or a place in a file
-abbrev InsideTo : List ℕ → Answer → Type 0
-InsideTo f (In x) = x.name + x.length ≤ length f
-InsideTo f (Refused n p) = p ≤ 4194304
+abbrev InsideTo : List ℕ → Result Found Fault → Type 0
+InsideTo f (Ok x) = x.name + x.length ≤ length f
+InsideTo f (Err (n, p)) = p ≤ 4194304
 
-record Inside (f : List ℕ) (a : Answer) : Type 0 where
+record Inside (f : List ℕ) (a : Result Found Fault) : Type 0 where
   to : InsideTo f a
 
 module _ (f : List ℕ) (v : FoundZone) (z : ℤ) (ed : Edition) where
@@ -120,8 +120,8 @@ module _ (f : List ℕ) (v : FoundZone) (z : ℤ) (ed : Edition) where
   zone-inside =
       pick-holds (Inside f) (eqb (instant_of z) 0) (λ e. record { to = omega arith }) (λ e. answer-inside (instant_of z) (zone_at f v) refl)
 
-  pub zone-name : (x : Found) → ask_zone f v z ed ≡ In x → x.name + x.length ≤ length f
+  pub zone-name : (x : Found) → ask_zone f v z ed ≡ Ok x → x.name + x.length ≤ length f
   zone-name x e = (subst (Inside f) e zone-inside).to
 
-  pub zone-place : (n p : ℕ) → ask_zone f v z ed ≡ Refused n p → p ≤ 4194304
+  pub zone-place : (n : Refusal) (p : ℕ) → ask_zone f v z ed ≡ Err (n, p) → p ≤ 4194304
   zone-place n p e = (subst (Inside f) e zone-inside).to

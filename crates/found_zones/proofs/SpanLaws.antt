@@ -1,4 +1,6 @@
 -- The search for a string finds it where the index has it, in a pool that the check takes. Assumes nothing.
+use Rattle.base.specs.declared.Refusal.{Refusal}
+use Rattle.std.specs.Prelude.{Err, Ok, Result}
 use mathlib.Core.Path.{◌≡◌, refl, sym, ap, ◌∙◌}
 use mathlib.Core.List.{List, [], ◌∷◌}
 use Prim.Native.Nat.{ℕ, zero, suc, ◌+◌, ◌-◌, ◌≤◌, ◌<◌}
@@ -7,12 +9,9 @@ use lib.ListN.{length, take, drop, get_or, length-drop}
 use lib.Seq.{drop-drop}
 use borrow.Author.Tests.{le-leb, lt-ltb, le-ltb}
 use Rattle.base.specs.Parsed.{Parsed, got, bad, bind, behind_code, parse, many, prepend}
-use Rattle.base.specs.declared.Read.TheVariants.{Value}
 use Rattle.base.proofs.ParseLaws.{bad-got, bind-good}
 use Rattle.counts.specs.Count.{read_count}
 use Rattle.texts.specs.Text.{read_text, behind_text}
-use Rattle.texts.specs.declared.Text.{Text}
-use Rattle.texts.specs.declared.Text.TheVariants.{Part, Refused as Untext}
 use Rattle.texts.proofs.TextLaws.{held}
 use Rattle.pool.specs.Pool.{string, read_strings, parse_pool, strings_in, strings_of}
 use Rattle.pool.specs.Index.{start, read_starts, room_in, room_of, span_at, span_of}
@@ -23,11 +22,11 @@ use Rattle.countries.proofs.OrderLaws.{many-length}
 
 -- the string at a place
 record TextAt (d : List ℕ) (at a n : ℕ) : Type 0 where
-  count : read_count (drop at d) ≡ Value n a
+  count : read_count (drop at d) ≡ Ok (n, a)
   inside : at + a + n ≤ length d
   string-is : parse_string (drop at d) ≡ got n (drop (at + a) d)
 
-text-at : (d : List ℕ) (at a n : ℕ) → at ≤ length d → read_text (drop at d) ≡ Part a n → TextAt d at a n
+text-at : (d : List ℕ) (at a n : ℕ) → at ≤ length d → read_text (drop at d) ≡ Ok (a, n) → TextAt d at a n
 unfolding parse_string judge_length
 text-at d at a n h e =
     let w = held (drop at d) a n e in
@@ -57,12 +56,12 @@ unfolding many read_starts
 all-starts d zero at ts q h e j l = absurd (omega arith)
 all-starts d (suc n) at ts q h e j l = go (read_text (drop at d)) refl e (λ b us p i k. all-starts d n b us p i k)
   where
-    go : (x : Text) → read_text (drop at d) ≡ x → bind (behind_text (drop at d) x) (λ u r. bind (read_strings n r) (prepend u)) ≡ got ts q
+    go : (x : Result (ℕ × ℕ) Refusal) → read_text (drop at d) ≡ x → bind (behind_text (drop at d) x) (λ u r. bind (read_strings n r) (prepend u)) ≡ got ts q
         → ((b : ℕ) (us : List (List ℕ)) (p : List ℕ) → b ≤ length d → read_strings n (drop b d) ≡ got us p → (i : ℕ) → i < n
         → span_in d (nth_string i (drop b d)) ≡ span_at d (get_or (read_starts n b (drop b d)) i 0))
         → span_in d (nth_string j (drop at d)) ≡ span_at d (get_or (start x at (drop at d) (λ b r. read_starts n b r)) j 0)
-    go (Untext k) w f rec = bad-got f
-    go (Part a m) w f rec =
+    go (Err k) w f rec = bad-got f
+    go (Ok (a, m)) w f rec =
         let t = text-at d at a m h w in
         let b = bind-good (read_strings n (drop (a + m) (drop at d))) (prepend (take m (drop a (drop at d)))) ts q f in
         let s : read_strings n (drop (at + (a + m)) d) ≡ got b.first b.rest = ap (read_strings n) (sym (drop-drop (a + m) at d)) ∙ b.is in
@@ -84,7 +83,7 @@ module _ (d : List ℕ) (ts : List (List ℕ)) (q : List ℕ) (e : parse_pool d 
       let n : length ts ≡ o.k = many-length string o.k _ ts [] o.all in
       let h : k < o.k = omega arith in
       let ss = read_starts o.k o.a (drop o.a d) in
-      let s : span_in d (bind (behind_code d (Value o.k o.a)) (string_numbered k)) ≡ span_at d (get_or ss k 0) =
+      let s : span_in d (bind (behind_code d (Ok (o.k, o.a))) (string_numbered k)) ≡ span_at d (get_or ss k 0) =
       rw (lt-ltb k o.k h) (all-starts d o.k o.a ts [] o.front o.all k h) in
       ap (λ (c : _). span_in d (bind (behind_code d c) (string_numbered k))) o.count
       ∙ s ∙ ap (λ (xs : List ℕ). span_at d (get_or xs k 0)) (sym o.places)

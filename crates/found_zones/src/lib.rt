@@ -9,9 +9,10 @@ ghost use Rattle.locate.specs.View.{part, Lies, by_pool};
 ghost use Rattle.found_zones.specs.FoundZone.{place_in, zone_at, zone_answer, ask_zone, FindsZone};
 ghost use Rattle.found_zones.specs.View.{FindsOut};
 
-use answers::Answer;
+use answers::Found;
+use base::{Fault, Refusal};
 use locate::{First, Located};
-use zones::{Answer as ZoneAnswer, Edition, ZoneVerdict};
+use zones::Edition;
 
 // Where the data of field 0 and those of the zone start and end in the file, and the place of the zone's ID byte.
 #[derive(Clone, Copy)]
@@ -23,28 +24,27 @@ pub struct FoundZone {
     pub place: usize,
 }
 
-// The zone, or the number and the place of a question's refusal.
-#[derive(Clone, Copy)]
-pub enum Finding {
-    Zone(FoundZone),
-    Refused(u8, usize),
-}
-
 // A file whose field 0 has the data s[d..e]. starts gets the index of its strings.
-fn find_with(s: &[u8], d: usize, e: usize, id: &[u8], starts: &mut [u32]) -> Finding
+fn find_with(
+    s: &[u8],
+    d: usize,
+    e: usize,
+    id: &[u8],
+    starts: &mut [u32],
+) -> Result<FoundZone, Fault>
     requires { Lies s.now d e × (room_of (part d e s.now) ≤ length starts.old) }
     ensures { FindsOut s.now (by_pool id.now s.now d e (parse_pool (part d e s.now))) result }
 {
     match asked_zones::walk(s, d, e, id, starts) {
-        Located::Refused(n, p) => Finding::Refused(n, p),
-        Located::Cut(p) => Finding::Refused(2, p),
-        Located::End(p) => Finding::Refused(12, p),
+        Located::Refused(n, p) => Err((n, p)),
+        Located::Cut(p) => Err((Refusal::CutShort, p)),
+        Located::End(p) => Err((Refusal::NotFound, p)),
         Located::Found(v) => {
             let from = v.start;
             let to = v.past;
             match zone_reads::check(&s[from..to], v.count as u64) {
-                ZoneVerdict::Refused(n) => Finding::Refused(n, v.place),
-                ZoneVerdict::Good(_) => Finding::Zone(FoundZone {
+                Err(n) => Err((n, v.place)),
+                Ok(_) => Ok(FoundZone {
                     pool: d,
                     past: e,
                     start: from,
@@ -57,7 +57,7 @@ fn find_with(s: &[u8], d: usize, e: usize, id: &[u8], starts: &mut [u32]) -> Fin
 }
 
 // The same with an index of its own, for a pool of few strings: a short index is cleared at once.
-fn find_short(s: &[u8], d: usize, e: usize, id: &[u8]) -> Finding
+fn find_short(s: &[u8], d: usize, e: usize, id: &[u8]) -> Result<FoundZone, Fault>
     requires { Lies s.now d e × (room_of (part d e s.now) ≤ 256) }
     ensures { FindsOut s.now (by_pool id.now s.now d e (parse_pool (part d e s.now))) result }
 {
@@ -66,7 +66,7 @@ fn find_short(s: &[u8], d: usize, e: usize, id: &[u8]) -> Finding
 }
 
 // The same for every pool.
-fn find_long(s: &[u8], d: usize, e: usize, id: &[u8]) -> Finding
+fn find_long(s: &[u8], d: usize, e: usize, id: &[u8]) -> Result<FoundZone, Fault>
     requires { Lies s.now d e }
     ensures { FindsOut s.now (by_pool id.now s.now d e (parse_pool (part d e s.now))) result }
 {
@@ -75,13 +75,13 @@ fn find_long(s: &[u8], d: usize, e: usize, id: &[u8]) -> Finding
 }
 
 // The zone with the bytes id in a whole file.
-pub fn find_zone(file: &[u8], id: &[u8]) -> Finding
+pub fn find_zone(file: &[u8], id: &[u8]) -> Result<FoundZone, Fault>
     ensures { FindsZone file.now id.now result }
 {
     match first_fields::read_first(file) {
-        First::Refused(n, p) => Finding::Refused(n, p),
-        First::Cut(p) => Finding::Refused(2, p),
-        First::End(p) => Finding::Refused(12, p),
+        First::Refused(n, p) => Err((n, p)),
+        First::Cut(p) => Err((Refusal::CutShort, p)),
+        First::End(p) => Err((Refusal::NotFound, p)),
         First::Pool(d, e) => {
             if pool::room(&file[d..e]) <= 256 {
                 return find_short(file, d, e, id);
@@ -102,7 +102,7 @@ pub fn place_in(v: FoundZone) -> usize
 }
 
 // The interval that holds the instant t, of a zone whose data are checked.
-fn answer_in(file: &[u8], v: FoundZone, t: u64, edition: Edition) -> Answer
+fn answer_in(file: &[u8], v: FoundZone, t: u64, edition: Edition) -> Result<Found, Fault>
     requires { Finite t }
     ensures { result ≡ zone_answer file.now v edition t (zone_at file.now v) }
 {
@@ -110,22 +110,22 @@ fn answer_in(file: &[u8], v: FoundZone, t: u64, edition: Edition) -> Answer
     let count = pool::room(pool);
     let zone = location_lookup::lent(file, v.start, v.end);
     match zone_lookups::find(zone, count as u64, t, edition) {
-        ZoneAnswer::Refused(n) => Answer::Refused(n, place_in(v)),
-        ZoneAnswer::In(x) => {
+        Err(n) => Err((n, place_in(v))),
+        Ok(x) => {
             let name = string_search::find_string(pool, x.name);
             let at = name.at;
-            Answer::In(answers::answer_of(v.pool + at, name.len, x))
+            Ok(answers::answer_of(v.pool + at, name.len, x))
         }
     }
 }
 
 // The question on a found zone, at a tick since 1970 and under an edition, whatever its numbers and the bytes are.
-pub fn ask_zone(file: &[u8], v: FoundZone, ticks: i64, edition: Edition) -> Answer
+pub fn ask_zone(file: &[u8], v: FoundZone, ticks: i64, edition: Edition) -> Result<Found, Fault>
     ensures { result ≡ ask_zone file.now v ticks edition }
 {
     let t = signed::instant(ticks);
     if t == 0 {
-        return Answer::Refused(14, 0);
+        return Err((Refusal::OutOfRange, 0));
     }
     answer_in(file, v, t, edition)
 }

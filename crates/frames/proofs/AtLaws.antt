@@ -1,4 +1,5 @@
 -- A frame that was read at a place of the bytes: what is known of it there, and how the walk of any job goes on from it. Assumes nothing.
+use Rattle.base.specs.declared.Refusal.{Refusal}
 use mathlib.Core.Path.{◌≡◌, refl, sym, ap, ◌∙◌}
 use mathlib.Core.Bool.{Bool, true, false}
 use mathlib.Core.List.{List, [], ◌∷◌}
@@ -37,7 +38,7 @@ module _ {M A : Type 0} (J : Job M A) (s : List ℕ) (at : ℕ) (seen : Bool) (p
   pub at_cut : f ≡ Cut → from J σ ≡ cut at
   at_cut e = from_cut J at (drop at s) seen prev m (lent Cut e)
 
-  pub at-refused : (n : ℕ) → f ≡ Refused n → from J σ ≡ refused n at
+  pub at-refused : (n : Refusal) → f ≡ Refused n → from J σ ≡ refused n at
   at-refused n e = from-refused J at (drop at s) seen prev m n (lent (Refused n) e)
 
   pub at-version : f ≡ Version → at ≡ 0
@@ -59,7 +60,7 @@ module _ {M A : Type 0} (J : Job M A) (s : List ℕ) (at : ℕ) (seen : Bool) (p
     whole-first k = order-first prev i (rw k at (whole-headed J.last at seen prev (drop at s) i h n (sym here)).ordered)
 
     -- by what the field says
-    pub at-bad : (k : ℕ) → J.content m (field_at at (drop at s) i h n) ≡ bad k → from J σ ≡ refused k at
+    pub at-bad : (k : Refusal) → J.content m (field_at at (drop at s) i h n) ≡ bad k → from J σ ≡ refused k at
     at-bad k c = from-bad J at (drop at s) seen prev m i h n here k c
 
     pub at-answer : (v : A) → J.content m (field_at at (drop at s) i h n) ≡ answer v → from J σ ≡ found v (at + h + n)
@@ -83,7 +84,7 @@ module _ {M A : Type 0} (J : Job M A) (m : M) (s : List ℕ) where
   unfolding walk
   front_cut e = from_cut J 0 s false 0 m e
 
-  pub front-refused : (n : ℕ) → Refused n ≡ frame J.last 0 false 0 s → walk J m s ≡ refused n 0
+  pub front-refused : (n : Refusal) → Refused n ≡ frame J.last 0 false 0 s → walk J m s ≡ refused n 0
   unfolding walk
   front-refused n e = from-refused J 0 s false 0 m n e
 

@@ -1,4 +1,5 @@
 -- The fields that two jobs see which go to different IDs, in a file of whole fields only. Assumes nothing.
+use Rattle.base.specs.declared.Refusal.TheVariants.{NotFound}
 use mathlib.Core.Path.{◌≡◌, refl, ap, ◌∙◌}
 use mathlib.Core.Bool.{Bool, true, false}
 use mathlib.Core.List.{List, ◌∷◌}
@@ -17,7 +18,7 @@ use Rattle.frames.proofs.HeadLaws.{whole-headed, headed-whole, headed-above, hea
 -- 12 at a place, if there is one
 abbrev pub stop_at : Option ℕ → Ending → Ending
 stop_at none x = x
-stop_at (some p) x = refused_at 12 p
+stop_at (some p) x = refused_at NotFound p
 
 -- y is the listing x for a job that goes to last
 pub record Capped (last : ℕ) (x y : Listing) : Type 0 where

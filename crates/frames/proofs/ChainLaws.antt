@@ -1,4 +1,5 @@
 -- The fields of a file one behind the other: where each lies, what its bytes are, and how their IDs go up. Assumes nothing.
+use Rattle.std.specs.declared.option.Option.TheVariants.{None}
 use mathlib.Core.Path.{◌≡◌, refl, sym, ◌∙◌}
 use mathlib.Core.Bool.{Bool, true, false}
 use mathlib.Core.List.{List, [], ◌∷◌, ◌++◌}
@@ -37,7 +38,7 @@ headed-field f last at seen prev i h n d =
 -- gs are fields of f one behind the other from the place at on, their IDs in order behind prev
 abbrev pub Chain : List ℕ → Bool → ℕ → ℕ → List Field → Type 0
 Chain f seen prev at [] = Unit {0}
-Chain f seen prev at (g ∷ gs) = (g.place ≡ at) × FieldOf f g × (order seen prev g.id ≡ 0) × Chain f true g.id g.past gs
+Chain f seen prev at (g ∷ gs) = (g.place ≡ at) × FieldOf f g × (order seen prev g.id ≡ None) × Chain f true g.id g.past gs
 
 module _ (f : List ℕ) (last : ℕ) where
   scan-chain : (k at : ℕ) (seen : Bool) (prev : ℕ) (r : List ℕ) → 0 < at → r ≡ drop at f

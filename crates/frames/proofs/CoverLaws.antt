@@ -1,4 +1,8 @@
 -- A FILE BY ITS BYTES: version and fields to the end are those that the walk lists, both ways. Assumes nothing.
+use Rattle.std.specs.declared.option.Option.{Option}
+use Rattle.std.specs.declared.option.Option.TheVariants.{Some, None}
+use Rattle.base.specs.declared.Refusal.{Refusal}
+use Rattle.base.specs.declared.Refusal.TheVariants.{FieldOrder, WrongVersion}
 use mathlib.Core.Path.{◌≡◌, refl, sym, ap, ◌∙◌, subst}
 use mathlib.Core.Bool.{Bool, true, false}
 use mathlib.Core.List.{List, [], ◌∷◌}
@@ -26,9 +30,9 @@ use Rattle.frames.proofs.ChainLaws.{Chain, listing-chain}
 -- the ID of a field behind prev, or of the first, is not refused
 abbrev Runs : Bool → ℕ → List Field → Type 0
 Runs seen prev [] = Unit {0}
-Runs seen prev (g ∷ gs) = (order seen prev g.id ≡ 0) × Runs true g.id gs
+Runs seen prev (g ∷ gs) = (order seen prev g.id ≡ None) × Runs true g.id gs
 
-next-order : (prev i : ℕ) → Next prev i → order true prev i ≡ 0
+next-order : (prev i : ℕ) → Next prev i → order true prev i ≡ None
 unfolding order
 next-order prev i (rises l) = rw (le-ltb i prev (omega arith), ne_eqb i prev (λ e. omega arith))
 next-order prev i (again e (inl o)) = rw (le-ltb i prev (omega arith), eq-eqb i prev (sym e), eq-eqb i 1 o)
@@ -50,7 +54,7 @@ ordered-some prev (g ∷ gs) o = all-also (go o.0) (ordered-some g.id gs o.1)
 
 module _ (f : List ℕ) (b : Bytes f) where
   -- the frame at the place of a field
-  field-frame : (seen : Bool) (prev : ℕ) (g : Field) → 0 < g.place → FieldOf f g → order seen prev g.id ≡ 0
+  field-frame : (seen : Bool) (prev : ℕ) (g : Field) → 0 < g.place → FieldOf f g → order seen prev g.id ≡ None
       → (h : ℕ) × (g.start ≡ g.place + h) × (frame 255 g.place seen prev (drop g.place f) ≡ Whole g.id h (length g.body))
   field-frame seen prev g p o r =
       let at = g.place in
@@ -177,7 +181,7 @@ version-bytes : (f : List ℕ) → version f ≡ Version → take 4 f ≡ 0 ∷ 
 unfolding version
 version-bytes f = go (leb 4 (length f)) refl (zeros (take 4 f)) refl
   where
-    go : (t : Bool) → leb 4 (length f) ≡ t → (u : Bool) → zeros (take 4 f) ≡ u → pick t (pick u Version (Refused 3)) Cut ≡ Version
+    go : (t : Bool) → leb 4 (length f) ≡ t → (u : Bool) → zeros (take 4 f) ≡ u → pick t (pick u Version (Refused WrongVersion)) Cut ≡ Version
         → take 4 f ≡ 0 ∷ 0 ∷ 0 ∷ 0 ∷ []
     go true e true z h = four-zeros f (leb-true 4 (length f) e) z
     go true e false z h = clash cc
@@ -197,16 +201,16 @@ starts-zero f n = go (version f) refl n
         e' : version f ≡ Whole i h m → frame 255 0 false 0 f ≡ Whole i h m
         e' e = e
 
-order-next : (prev i : ℕ) → order true prev i ≡ 0 → Next prev i
+order-next : (prev i : ℕ) → order true prev i ≡ None → Next prev i
 unfolding order
 order-next prev i = go (ltb i prev) refl (eqb i prev) refl (eqb i 1) refl (ltb i 8) refl
   where
     go : (t : Bool) → ltb i prev ≡ t → (u : Bool) → eqb i prev ≡ u → (v : Bool) → eqb i 1 ≡ v → (y : Bool) → ltb i 8 ≡ y
-        → ◌≡◌ {A = ℕ} (pick t 5 (pick u (pick (pick v false y) 5 0) 0)) 0 → Next prev i
-    go true a u c v d y e h = absurd (omega arith)
+        → ◌≡◌ {A = Option Refusal} (pick t (Some FieldOrder) (pick u (pick (pick v false y) (Some FieldOrder) None) None)) None → Next prev i
+    go true a u c v d y e h = clash cc
     go false a false c v d y e h = let n = eqb-false i prev c in rises (omega (arith, ltb-false i prev a))
     go false a true c true d y e h = again (sym (eqb-true i prev c)) (inl (eqb-true i 1 d))
-    go false a true c false d true e h = absurd (omega arith)
+    go false a true c false d true e h = clash cc
     go false a true c false d false e h = again (sym (eqb-true i prev c)) (inr (ltb-false i 8 e))
 
 pub chain-ordered : (f : List ℕ) (prev at : ℕ) (gs : List Field) → Chain f true prev at gs → InOrder prev gs

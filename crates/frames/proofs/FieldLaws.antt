@@ -1,4 +1,5 @@
 -- The list of a file's whole fields: where they lie, and what more bytes do to it. Assumes nothing.
+use Rattle.base.specs.declared.Refusal.TheVariants.{NotFound}
 use mathlib.Core.Path.{◌≡◌, refl, ap}
 use mathlib.Core.Bool.{Bool, true, false}
 use mathlib.Core.List.{List, ◌∷◌, ◌++◌}
@@ -94,7 +95,7 @@ settled (cut_at p) = false
 settled (end_at p) = false
 
 abbrev pub LateTo : ℕ → Ending → Type 0
-LateTo b (refused_at n p) = n ≡ 12 → b ≤ p
+LateTo b (refused_at n p) = n ≡ NotFound → b ≤ p
 LateTo b (cut_at p) = Unit {0}
 LateTo b (end_at p) = Unit {0}
 

@@ -1,5 +1,6 @@
 -- What more bytes do to the walk of any job: what it has settled stays, and what it waits for comes past the old end. Nothing here looks
 -- into a field. Assumes nothing.
+use Rattle.base.specs.declared.Refusal.{Refusal}
 use mathlib.Core.Path.{◌≡◌, refl, ap, sym, ◌∙◌}
 use mathlib.Core.Bool.{Bool, true, false}
 use mathlib.Core.List.{List, ◌++◌}
@@ -46,7 +47,7 @@ module _ {M A : Type 0} (c : M → Field → Content M A) (m : M) where
       go (stop o) e h = pass-found c Q m l.fields v p a (e ∙ ap stop h)
       go (next m') e h = no l.ending m' h
 
-  over-refused : (b : ℕ) (l : Listing) (n p : ℕ) → Spans 0 b l → over c m l ≡ refused n p → p < b
+  over-refused : (b : ℕ) (l : Listing) (n : Refusal) (p : ℕ) → Spans 0 b l → over c m l ≡ refused n p → p < b
   over-refused b l n p s = go (pass c m l.fields) refl
     where
       no : (x : Ending) (m' : M) → StopsTo 0 b x → outcome {A = A} x m' ≡ refused n p → p < b
@@ -98,7 +99,7 @@ module _ {M A : Type 0} (J : Job M A) where
       (sym (walk-pass J m (bs ++ e)) ∙ h)
 
   -- a refusal's place is one of the bytes
-  pub walk_refused : (m : M) (bs : List ℕ) (n p : ℕ) → walk J m bs ≡ refused n p → p < length bs
+  pub walk_refused : (m : M) (bs : List ℕ) (n : Refusal) (p : ℕ) → walk J m bs ≡ refused n p → p < length bs
   walk_refused m bs n p h = over-refused J.content m _ _ n p (listing-spans J.last bs) (sym (walk-pass J m bs) ∙ h)
 
   -- a walk that waits keeps every field, and waits for their ending

@@ -1,8 +1,9 @@
 -- Padded sizes, computed: what is read, what waits, and where the limit stands. Assumes nothing.
+use Rattle.std.specs.Prelude.{Err, Ok}
+use Rattle.base.specs.declared.Refusal.TheVariants.{BadCode, BadData, TooLarge}
 use mathlib.Core.Path.{◌≡◌, refl}
 use mathlib.Core.List.{List, [], ◌∷◌, map}
 use Prim.Native.Nat.{ℕ}
-use Rattle.base.specs.declared.Read.TheVariants.{Value, Refused as Unread}
 use Rattle.counts.specs.Groups.{any_groups, read_groups}
 use Rattle.counts.specs.Count.{read_count}
 use Rattle.frames.specs.Frame.{order, zeros, version, read_size, sized, field, frame}
@@ -13,7 +14,7 @@ pub taken :
     map read_size
     ((3 ∷ []) ∷ (131 ∷ 0 ∷ []) ∷ (131 ∷ 128 ∷ 128 ∷ 128 ∷ 0 ∷ []) ∷ (128 ∷ 128 ∷ 128 ∷ 128 ∷ 0 ∷ []) ∷ (255 ∷ 255 ∷ 255 ∷ 255 ∷ 7 ∷ [])
     ∷ (255 ∷ 255 ∷ 255 ∷ 255 ∷ 0 ∷ []) ∷ [])
-    ≡ Value 3 1 ∷ Value 3 2 ∷ Value 3 5 ∷ Value 0 5 ∷ Value 2147483647 5 ∷ Value 268435455 5 ∷ []
+    ≡ Ok (3, 1) ∷ Ok (3, 2) ∷ Ok (3, 5) ∷ Ok (0, 5) ∷ Ok (2147483647, 5) ∷ Ok (268435455, 5) ∷ []
 unfolding any_groups
 taken = refl
 
@@ -21,12 +22,12 @@ taken = refl
 pub refused :
     map read_size
     ((131 ∷ 128 ∷ 128 ∷ 128 ∷ 128 ∷ 0 ∷ []) ∷ (131 ∷ 128 ∷ 128 ∷ 128 ∷ []) ∷ (131 ∷ 128 ∷ 128 ∷ 128 ∷ 8 ∷ []) ∷ (131 ∷ 128 ∷ 128 ∷ 128 ∷ 128 ∷ []) ∷ [])
-    ≡ Unread 7 ∷ Unread 9 ∷ Unread 7 ∷ Unread 7 ∷ []
+    ≡ Err BadCode ∷ Err BadData ∷ Err BadCode ∷ Err BadCode ∷ []
 unfolding any_groups
 refused = refl
 
 -- as counts these are refused
-pub counts : map read_count ((131 ∷ 0 ∷ []) ∷ (128 ∷ 128 ∷ 128 ∷ 128 ∷ 0 ∷ []) ∷ []) ≡ Unread 7 ∷ Unread 7 ∷ []
+pub counts : map read_count ((131 ∷ 0 ∷ []) ∷ (128 ∷ 128 ∷ 128 ∷ 128 ∷ 0 ∷ []) ∷ []) ≡ Err BadCode ∷ Err BadCode ∷ []
 unfolding read_groups
 counts = refl
 
@@ -42,6 +43,6 @@ ending s = (listing 255 (before s)).ending
 pub places :
     map ending
     ((238 ∷ 255 ∷ 255 ∷ 1 ∷ []) ∷ (238 ∷ 255 ∷ 255 ∷ 129 ∷ 0 ∷ []) ∷ (238 ∷ 255 ∷ 255 ∷ 129 ∷ []) ∷ (129 ∷ 128 ∷ []) ∷ (129 ∷ 128 ∷ 0 ∷ []) ∷ (129 ∷ 128 ∷ 0 ∷ 9 ∷ []) ∷ [])
-    ≡ cut_at 13 ∷ refused_at 4 13 ∷ cut_at 13 ∷ cut_at 13 ∷ cut_at 13 ∷ end_at 18 ∷ []
+    ≡ cut_at 13 ∷ refused_at TooLarge 13 ∷ cut_at 13 ∷ cut_at 13 ∷ cut_at 13 ∷ end_at 18 ∷ []
 unfolding listing scan frame version zeros field sized order any_groups
 places = refl

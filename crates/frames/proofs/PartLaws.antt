@@ -1,4 +1,5 @@
 -- Parts of a file of whole fields, for any job: where it answers from a field, and where it finds nothing. Assumes nothing.
+use Rattle.base.specs.declared.Refusal.TheVariants.{NotFound}
 use mathlib.Core.Path.{◌≡◌, refl, ap, sym, ◌∙◌}
 use mathlib.Core.Bool.{Bool, true, false}
 use mathlib.Core.List.{List, [], ◌∷◌, ◌++◌}
@@ -76,7 +77,7 @@ module _ {M A : Type 0} (J : Job M A) where
   -- field above the job's last ID is there, and then are refused with 12 at that byte's place
   pub record Absent (m : M) (f : List ℕ) (k : ℕ) : Type 0 where
     pub waits : ((q : ℕ) → first_above J.last (fields f) ≡ some q → k ≤ q) → final (walk J m (take k f)) ≡ false
-    pub refuses : (q : ℕ) → first_above J.last (fields f) ≡ some q → q < k → walk J m (take k f) ≡ refused 12 q
+    pub refuses : (q : ℕ) → first_above J.last (fields f) ≡ some q → q < k → walk J m (take k f) ≡ refused NotFound q
 
   pub absent : (m m' : M) (f : List ℕ) (p k : ℕ) → (listing 255 f).ending ≡ end_at p
       → pass J.content m (up_to J.last (fields f)) ≡ next m' → k ≤ length f → Absent m f k
@@ -100,17 +101,17 @@ module _ {M A : Type 0} (J : Job M A) where
           go : (x : Option ℕ) → first_above J.last (fields f) ≡ x → final (walk J m (take k f)) ≡ false
           go none i = rw (stays e, on-file, i)
           go (some q) i =
-              let r : walk J m (take k f) ≡ refused 12 q = stays e ∙ on-file ∙ rw i in
-              absurd (omega (arith, len, h q i, walk_refused J m (take k f) 12 q r))
+              let r : walk J m (take k f) ≡ refused NotFound q = stays e ∙ on-file ∙ rw i in
+              absurd (omega (arith, len, h q i, walk_refused J m (take k f) NotFound q r))
 
       refuses : (t : Bool) → final (walk J m (take k f)) ≡ t → (q : ℕ) → first_above J.last (fields f) ≡ some q → q < k
-          → walk J m (take k f) ≡ refused 12 q
+          → walk J m (take k f) ≡ refused NotFound q
       refuses true e q i b = stays e ∙ on-file ∙ rw i
       refuses false e q i b =
           let g = listing-grows J.last (take k f) (drop k f) in
-          let x : (listing J.last (take k f ++ drop k f)).ending ≡ refused_at 12 q
+          let x : (listing J.last (take k f ++ drop k f)).ending ≡ refused_at NotFound q
           = rw take-append-drop ((listing-capped J.last 255 f p whole).ends ∙ rw i) in
-          let late : LateTo (length (take k f)) (refused_at 12 q)
+          let late : LateTo (length (take k f)) (refused_at NotFound q)
           = rw (sym g.ends ∙ x) at (g.later (walk-waits J m (take k f) e)).capped in
           absurd (omega (arith, len, late refl))
 

@@ -1,4 +1,5 @@
 -- A job's pass over a list of fields: in two parts, where it stops, and beside another job's pass. Assumes nothing.
+use Rattle.base.specs.declared.Refusal.{Refusal}
 use mathlib.Core.Path.{◌≡◌, refl, ap, sym, ◌∙◌}
 use mathlib.Core.Bool.{true}
 use mathlib.Core.List.{List, [], ◌∷◌, ◌++◌}
@@ -18,7 +19,7 @@ module _ {M A : Type 0} (g : Field) where
   verdict-found (answer w) v p h = cc
   verdict-found (keep m) v p h = clash cc
 
-  verdict-refused : (x : Content M A) (n p : ℕ) → verdict g x ≡ stop (refused n p) → p ≡ g.place
+  verdict-refused : (x : Content M A) (n : Refusal) (p : ℕ) → verdict g x ≡ stop (refused n p) → p ≡ g.place
   verdict-refused (bad k) n p h = cc
   verdict-refused (answer v) n p h = clash cc
   verdict-refused (keep m) n p h = clash cc
@@ -100,7 +101,7 @@ module _ {M A : Type 0} (c : M → Field → Content M A) where
         let s = pass-stopped m gs (found v p) h in
         rw (verdict-found s.at (c s.mem s.at) v p s.stops) (stopped-at (λ g. Q g.past) m gs _ s a)
 
-    pub pass-refused : (n p : ℕ) → All (λ g. Q g.place) gs → pass c m gs ≡ stop (refused n p) → Q p
+    pub pass-refused : (n : Refusal) (p : ℕ) → All (λ g. Q g.place) gs → pass c m gs ≡ stop (refused n p) → Q p
     pass-refused n p a h =
         let s = pass-stopped m gs (refused n p) h in
         rw (verdict-refused s.at (c s.mem s.at) n p s.stops) (stopped-at (λ g. Q g.place) m gs _ s a)

@@ -1,4 +1,8 @@
 -- How the IDs of the fields around one go up, and the fields up to an ID. Assumes nothing.
+use Rattle.std.specs.declared.option.Option.{Option}
+use Rattle.std.specs.declared.option.Option.TheVariants.{Some, None}
+use Rattle.base.specs.declared.Refusal.{Refusal}
+use Rattle.base.specs.declared.Refusal.TheVariants.{FieldOrder}
 use mathlib.Core.Path.{◌≡◌, refl}
 use mathlib.Core.Bool.{Bool, true, false}
 use mathlib.Core.List.{List, [], ◌∷◌, ◌++◌}
@@ -9,6 +13,7 @@ use borrow.Author.Tests.{ltb-false, eqb-false}
 use Rattle.base.specs.Pick.{pick}
 use Rattle.base.specs.All.{All, all_none, all-also}
 use Rattle.base.proofs.AllLaws.{all_map}
+use Rattle.base.proofs.Tests.{clash}
 use Rattle.frames.specs.Frame.{once, order, Field}
 use Rattle.frames.specs.Fields.{up_to}
 use Rattle.frames.proofs.HeadLaws.{order-follows}
@@ -20,10 +25,10 @@ module _ (f : List ℕ) where
   unfolding order
   after_less prev at [] g hs c o = go (ltb g.id prev) refl (eqb g.id prev) refl c.2
     where
-      go : (a : Bool) → ltb g.id prev ≡ a → (b : Bool) → eqb g.id prev ≡ b → ◌≡◌ {A = ℕ} (pick a 5 (pick b (pick (once g.id) 5 0) 0)) 0
+      go : (a : Bool) → ltb g.id prev ≡ a → (b : Bool) → eqb g.id prev ≡ b → ◌≡◌ {A = Option Refusal} (pick a (Some FieldOrder) (pick b (pick (once g.id) (Some FieldOrder) None) None)) None
           → prev < g.id
-      go true e b q h = absurd (omega arith)
-      go false e true q h = let z : ◌≡◌ {A = ℕ} 5 0 = rw o at h in absurd (omega arith)
+      go true e b q h = clash cc
+      go false e true q h = let z : ◌≡◌ {A = Option Refusal} (Some FieldOrder) None = rw o at h in clash cc
       go false e false q h =
           let n : g.id ≡ prev → ⊥ = eqb-false g.id prev q in
           omega (arith, ltb-false g.id prev e)

@@ -1,4 +1,5 @@
 -- For the code of a job: what it knows behind each frame that it reads, and how its walk goes on from there. Assumes nothing.
+use Rattle.base.specs.declared.Refusal.{Refusal}
 use mathlib.Core.Path.{◌≡◌, sym}
 use mathlib.Core.Bool.{Bool, true, false}
 use mathlib.Core.List.{List}
@@ -39,7 +40,7 @@ module _ {M A : Type 0} (J : Job M A) (at : ℕ) (r : List ℕ) (seen : Bool) (p
   unfolding step act
   from_cut e = from-stop J here _ (rw (sym e))
 
-  pub from-refused : (n : ℕ) → Refused n ≡ frame J.last at seen prev r → from J here ≡ refused n at
+  pub from-refused : (n : Refusal) → Refused n ≡ frame J.last at seen prev r → from J here ≡ refused n at
   unfolding step act
   from-refused n e = from-stop J here _ (rw (sym e))
 
@@ -48,7 +49,7 @@ module _ {M A : Type 0} (J : Job M A) (at : ℕ) (r : List ℕ) (seen : Bool) (p
   from-version e = from_next J here (state_at (at + 4) (drop 4 r) false 0 m) (rw (sym e))
 
   module _ (i h n : ℕ) (e : Whole i h n ≡ frame J.last at seen prev r) where
-    pub from-bad : (k : ℕ) → J.content m (field_at at r i h n) ≡ bad k → from J here ≡ refused k at
+    pub from-bad : (k : Refusal) → J.content m (field_at at r i h n) ≡ bad k → from J here ≡ refused k at
     unfolding step act
     from-bad k c = from-stop J here _ (rw (sym e, c))
 

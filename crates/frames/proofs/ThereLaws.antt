@@ -1,11 +1,11 @@
 -- A FIELD IS ALL THERE in the first k bytes of a file exactly where the place just past it is at most k. Assumes nothing.
+use Rattle.std.specs.Prelude.{Ok}
 use mathlib.Core.Path.{◌≡◌, sym, ap, ◌∙◌}
 use mathlib.Core.List.{List, ◌++◌}
 use Prim.Native.Nat.{ℕ, ◌+◌, ◌≤◌}
 use native.Mathlib.Omega.{arith}
 use lib.ListN.{length, take, drop, length-drop, take-append-drop}
 use lib.Seq.{length-take-le, get_or-take, take-append-le, drop-append-le}
-use Rattle.base.specs.declared.Read.TheVariants.{Value}
 use Rattle.frames.specs.Frame.{read_size, Field}
 use Rattle.frames.specs.Fields.{FieldOf}
 use Rattle.frames.proofs.SizeLaws.{size-within}
@@ -23,7 +23,7 @@ module _ (f : List ℕ) (k : ℕ) (l : k ≤ length f) (g : Field) where
   past-there o h =
       let n = length g.body in
       let s = drop (g.place + 1) (take k f) in
-      let c : read_size (s ++ drop k f) ≡ Value n o.used = ap read_size (sym (rest (g.place + 1) (omega (arith, o.starts, o.ends)))) ∙ o.size in
+      let c : read_size (s ++ drop k f) ≡ Ok (n, o.used) = ap read_size (sym (rest (g.place + 1) (omega (arith, o.starts, o.ends)))) ∙ o.size in
       let d = drop g.start (take k f) in
       record {
         id-byte = get_or-take k f g.place 0 (omega (arith, o.starts, o.ends)) ∙ o.id-byte;

@@ -1,18 +1,18 @@
 -- The fields of a file as a list, apart from any job, and a job as a fold over it. To be believed; `walk-fields` (proofs/PartLaws.antt) ties the walk to it.
-use Rattle.std.specs.Prelude.{ℕ, zero, suc, ◌+◌, ◌≤◌, ◌≡◌, Bool, true, false, List, [], ◌∷◌, length, get_or, take, drop, ltb}
+use Rattle.std.specs.Prelude.{ℕ, zero, suc, ◌+◌, ◌≤◌, ◌≡◌, Bool, true, false, List, [], ◌∷◌, length, get_or, take, drop, ltb, Ok}
 use Rattle.std.proofs.Math.Option.{Option, none, some}
+use Rattle.base.specs.declared.Refusal.{Refusal}
 use Rattle.base.specs.Pick.{pick}
 use Rattle.base.specs.Run.{Step, next, follow}
-use Rattle.base.specs.declared.Read.TheVariants.{Value}
 use Rattle.frames.specs.Frame.{largest, read_size, frame, Field}
 use Rattle.frames.specs.Machine.{Out, refused, cut, ended, Content, field_at, verdict, onward}
 use Rattle.frames.specs.declared.Frame.{Frame}
 use Rattle.frames.specs.declared.Frame.TheVariants.{End, Cut, Refused, Version, Whole}
 
--- Where the whole fields of some bytes end, with the place: at a refusal of version, ID or size, with its number; inside the version or a
+-- Where the whole fields of some bytes end, with the place: at a refusal of version, ID or size, with it; inside the version or a
 -- field; or with the bytes.
 pub data Ending : Type 0 where
-  refused_at : ℕ → ℕ → Ending
+  refused_at : Refusal → ℕ → Ending
   cut_at : ℕ → Ending
   end_at : ℕ → Ending
 
@@ -64,7 +64,7 @@ unfinished bs = place_of (listing 255 bs).ending
 pub record FieldOf (f : List ℕ) (g : Field) : Type 0 where
   pub id-byte : get_or f g.place 0 ≡ g.id
   pub used : ℕ
-  pub size : read_size (drop (g.place + 1) f) ≡ Value (length g.body) used
+  pub size : read_size (drop (g.place + 1) f) ≡ Ok (length g.body, used)
   pub starts : g.start ≡ g.place + 1 + used
   pub bytes : g.body ≡ take (length g.body) (drop g.start f)
   pub ends : g.past ≡ g.start + length g.body

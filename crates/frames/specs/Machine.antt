@@ -1,17 +1,18 @@
 -- The walk over the frames of a file, for any job: the whole-file check, the question, the version text, the rewriter.
 -- To be believed; `walk-fields` (proofs/PartLaws.antt) says it of the list of fields.
 use Rattle.std.specs.Prelude.{ℕ, ◌+◌, Bool, true, false, List, length, take, drop}
+use Rattle.base.specs.declared.Refusal.{Refusal}
 use Rattle.base.specs.Run.{Step, stop, next, run}
 use Rattle.frames.specs.Frame.{frame, Field}
 use Rattle.frames.specs.declared.Frame.{Frame}
 use Rattle.frames.specs.declared.Frame.TheVariants.{End, Cut, Refused, Version, Whole}
 
--- What a walk comes to: an answer, and the place just past its field; a refusal's number and place, "the place of the faulty field's
+-- What a walk comes to: an answer, and the place just past its field; a refusal and its place, "the place of the faulty field's
 -- ID byte"; the bytes end "in the version or in a field", at that one's place; they end "at the version's or a field's end", with
 -- what is remembered then. The mark turns the last two into 1, 2, 6 or 12; nothing else depends on it.
 pub data Out (M A : Type 0) : Type 0 where
   found : A → ℕ → Out M A
-  refused : ℕ → ℕ → Out M A
+  refused : Refusal → ℕ → Out M A
   cut : ℕ → Out M A
   ended : M → ℕ → Out M A
 
@@ -22,9 +23,9 @@ final (refused n p) = true
 final (cut p) = false
 final (ended m p) = false
 
--- what a whole field says to a job: the number of a refusal, the job's answer, or what it remembers from here on
+-- what a whole field says to a job: a refusal, the job's answer, or what it remembers from here on
 pub data Content (M A : Type 0) : Type 0 where
-  bad : ℕ → Content M A
+  bad : Refusal → Content M A
   answer : A → Content M A
   keep : M → Content M A
 

@@ -1,5 +1,6 @@
 -- What halving finds: one entry, by no more looks than the logarithm says, and on an ascending table the last that isn't after the instant.
 -- Assumes nothing.
+use Rattle.std.specs.Prelude.{Ok}
 use mathlib.Core.Path.{◌≡◌, refl, sym, ◌∙◌, subst}
 use mathlib.Core.Bool.{Bool, true, false}
 use mathlib.Core.List.{List}
@@ -14,7 +15,6 @@ use borrow.Author.Tests.{leb-false, lt-ltb}
 use Rattle.base.proofs.Tests.{never, by_order}
 use Rattle.halving.specs.Halving.{halve, find_start}
 use Rattle.halving.specs.Facts.{entry_of, Ascending, Finds}
-use Rattle.halving.specs.declared.Search.TheVariants.{Entry}
 use Rattle.halving.proofs.StepLaws.{Halved, halved, find-some, halve-one, halve-keeps, halve-drops}
 
 told : {b : Bool} → b ≡ true → T b
@@ -88,7 +88,7 @@ module _ (xs : List ℤ) (z : ℤ) where
     }
 
   -- one entry is left
-  left_one : (low n k : ℕ) → n ≤ 1 → Left low n k → Finds xs z (Entry low k)
+  left_one : (low n k : ℕ) → n ≤ 1 → Left low n k → Finds xs z (Ok (low, k))
   left_one low n k h l = record {
     position = low;
     probes = k;

@@ -1,4 +1,5 @@
 -- Looks between bounds, and how many are due. Assumes nothing.
+use Rattle.std.specs.Prelude.{Ok}
 use mathlib.Core.Path.{◌≡◌, refl, sym, ap, ◌∙◌, subst}
 use mathlib.Core.Bool.{true, false}
 use mathlib.Core.List.{List}
@@ -11,7 +12,6 @@ use lib.ListN.{get_or}
 use Rattle.base.proofs.Tests.{by_order}
 use Rattle.halving.specs.Halving.{find_start}
 use Rattle.halving.specs.Looks.{Standing, StandsAt, Looks, Near, Due}
-use Rattle.halving.specs.declared.Search.TheVariants.{Entry}
 use Rattle.halving.proofs.StepLaws.{standing-kept, standing-before, standing-done}
 
 -- the entry half the entries in
@@ -51,10 +51,10 @@ module _ (xs : List ℤ) (z : ℤ) (low high k : ℕ) (g : Standing xs z low (hi
 
   -- two entries at most are left
   module _ (l : high - low ≤ 2) where
-    one_left : high - low ≡ 1 → Entry low k ≡ find_start xs z
+    one_left : high - low ≡ 1 → Ok (low, k) ≡ find_start xs z
     one_left e = standing-done xs z low (high - low) k g (omega arith)
 
-    pub last-kept : le_z (get_or xs ((low + high) / 2) (pos 0)) z ≡ true → Entry ((low + high) / 2) (k + ((low + high) / 2 - low)) ≡ find_start xs z
+    pub last-kept : le_z (get_or xs ((low + high) / 2) (pos 0)) z ≡ true → Ok ((low + high) / 2, k + ((low + high) / 2 - low)) ≡ find_start xs z
     last-kept e =
         by_order 1 (high - low)
         (λ (h : 1 < high - low).
@@ -65,7 +65,7 @@ module _ (xs : List ℤ) (z : ℤ) (low high k : ℕ) (g : Standing xs z low (hi
         let d : low - low ≡ 0 = omega arith in
         rw (q, d, add-zero k) (standing-done xs z low (high - low) k g h))
 
-    pub last-before : le_z (get_or xs ((low + high) / 2) (pos 0)) z ≡ false → Entry low (k + ((low + high) / 2 - low)) ≡ find_start xs z
+    pub last-before : le_z (get_or xs ((low + high) / 2) (pos 0)) z ≡ false → Ok (low, k + ((low + high) / 2 - low)) ≡ find_start xs z
     last-before e =
         by_order 1 (high - low)
         (λ (h : 1 < high - low).

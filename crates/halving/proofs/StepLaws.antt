@@ -1,4 +1,6 @@
 -- One look of halving. Assumes nothing.
+use Rattle.base.specs.declared.Refusal.TheVariants.{NotFound}
+use Rattle.std.specs.Prelude.{Err, Ok}
 use mathlib.Core.Path.{◌≡◌, refl, sym, ◌∙◌}
 use mathlib.Core.Bool.{Bool, true, false}
 use mathlib.Core.List.{List}
@@ -13,7 +15,6 @@ use Rattle.base.specs.Pick.{pick}
 use Rattle.base.proofs.Tests.{by_order}
 use Rattle.halving.specs.Halving.{halve, find_start}
 use Rattle.halving.specs.Looks.{Standing}
-use Rattle.halving.specs.declared.Search.TheVariants.{Entry, Refused}
 
 -- both parts of n entries are some, and fewer
 pub record Halved (n : ℕ) : Type 0 where
@@ -56,7 +57,7 @@ module _ (xs : List ℤ) (z : ℤ) where
   find-some h = rw (ne_eqb (length xs) 0 (omega arith)) refl
 
   -- one entry is left
-  pub halve-one : (m low n k : ℕ) → n ≤ 1 → halve m xs z low n k ≡ Entry low k
+  pub halve-one : (m low n k : ℕ) → n ≤ 1 → halve m xs z low n k ≡ Ok (low, k)
   unfolding halve
   halve-one zero low n k h = refl
   halve-one (suc m) low n k h = rw (le-ltb 1 n h) refl
@@ -138,9 +139,9 @@ module _ (xs : List ℤ) (z : ℤ) where
           go true e = rw (is, e, twice low (n / 2), upper n) (standing-kept e)
           go false e = rw (is, e, once low (n / 2), add-zero n) (standing-before e)
 
-    pub standing-done : n ≤ 1 → Entry low k ≡ find_start xs z
+    pub standing-done : n ≤ 1 → Ok (low, k) ≡ find_start xs z
     standing-done h = sym (g.same ∙ halve-one n low n k h)
 
-pub find_none : (xs : List ℤ) (z : ℤ) → length xs ≡ 0 → Refused 12 0 ≡ find_start xs z
+pub find_none : (xs : List ℤ) (z : ℤ) → length xs ≡ 0 → Err (NotFound, 0) ≡ find_start xs z
 unfolding find_start
 find_none xs z h = rw (eq-eqb (length xs) 0 h) refl

@@ -1,7 +1,6 @@
 -- What the laws say of halving, with no walk over the table. To be believed.
-use Rattle.std.specs.Prelude.{ℕ, ◌^◌, ◌≤◌, ◌<◌, ◌≡◌, List, ℤ, pos, ◌≤ℤ◌, ◌<ℤ◌, length, get_or}
-use Rattle.halving.specs.declared.Search.{Search}
-use Rattle.halving.specs.declared.Search.TheVariants.{Entry}
+use Rattle.base.specs.Coded.{Fault}
+use Rattle.std.specs.Prelude.{ℕ, ◌^◌, ◌≤◌, ◌<◌, ◌≡◌, List, ℤ, pos, ◌≤ℤ◌, ◌<ℤ◌, length, get_or, Ok, Result}
 
 -- the entry of a table at a place
 abbrev pub entry_of : List ℤ → ℕ → ℤ
@@ -19,10 +18,10 @@ pub record LastNotAfter (xs : List ℤ) (z : ℤ) (p : ℕ) : Type 0 where
 
 -- r gives an entry of the table. "The count of looks given is .. at most the least k with 2 to the k not below n": at most every such k, on any
 -- table; "on an ascending table whose first entry isn't after the instant, it is the last that isn't"
-pub record Finds (xs : List ℤ) (z : ℤ) (r : Search) : Type 0 where
+pub record Finds (xs : List ℤ) (z : ℤ) (r : Result (ℕ × ℕ) Fault) : Type 0 where
   pub position : ℕ
   pub probes : ℕ
-  pub is : r ≡ Entry position probes
+  pub is : r ≡ Ok (position, probes)
   pub inside : position < length xs
   pub looks : (k : ℕ) → length xs ≤ 2 ^ k → probes ≤ k
   pub last : Ascending xs → entry_of xs 0 ≤ℤ z → LastNotAfter xs z position

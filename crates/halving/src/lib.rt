@@ -7,12 +7,7 @@ ghost use Rattle.base.specs.Pick.{pick};
 ghost use Rattle.halving.specs.Halving.{find_start};
 ghost use Rattle.halving.specs.Looks.{left_of, StandsAt, Looks, Near, Due};
 
-// The entry left and how many entries were looked at; or the number and the place of a refusal.
-#[derive(Clone, Copy)]
-pub enum Search {
-    Entry(usize, usize),
-    Refused(u8, usize),
-}
+use base::{Fault, Refusal};
 
 // 1 where the entry at a place isn't after the instant, else 0.
 fn keeps(table: &[i64], at: usize, instant: i64) -> usize
@@ -91,28 +86,28 @@ fn look_few(table: &[i64], b: Bounds, instant: i64, n: usize) -> Bounds
 }
 
 // The last look, which is none where one entry is left.
-fn look_last(table: &[i64], b: Bounds, instant: i64) -> Search
+fn look_last(table: &[i64], b: Bounds, instant: i64) -> Result<(usize, usize), Fault>
     requires { StandsAt table.now instant b × (left_of b ≤ 2) }
     ensures { result ≡ find_start table.now instant }
 {
     let middle = (b.low + b.high) / 2;
     let probes = b.probes + (middle - b.low);
     if table[middle] <= instant {
-        return Search::Entry(middle, probes);
+        return Ok((middle, probes));
     }
-    Search::Entry(b.low, probes)
+    Ok((b.low, probes))
 }
 
-// The entry of a table that halving leaves for an instant. A branch on an entry would be guessed wrong every other time, and so would one on how many
+// The entry of a table that halving leaves for an instant, and how many entries were looked at. A branch on an entry would be guessed wrong every other time, and so would one on how many
 // are left, which differs by one between entries. So what a look keeps is chosen without a branch, and how many looks there are is told by
 // the table's length, up to the last. Behind 13 looks they stand one after the other, where the compiler moves numbers and doesn't branch; in
 // a loop a look is computed from a number, 1 or 0, and by 1 + k the product becomes a shift.
-pub fn find_start(table: &[i64], instant: i64) -> Search
+pub fn find_start(table: &[i64], instant: i64) -> Result<(usize, usize), Fault>
     ensures { result ≡ find_start table.now instant }
 {
     let mut n = table.len();
     if n == 0 {
-        return Search::Refused(12, 0);
+        return Err((Refusal::NotFound, 0));
     }
     let mut low = 0;
     let mut probes = 0;

@@ -5,6 +5,7 @@ ghost use Rattle.std.specs.Prelude.{◌≡◌};
 ghost use Rattle.frames.specs.Frame.{once as once_of, order as order_of, version as version_of};
 ghost use Rattle.frames.specs.Frame.{field as field_of, frame};
 
+use base::Refusal;
 use frames::Frame;
 
 // Whether the ID `i` may stand once only.
@@ -17,27 +18,27 @@ fn once(i: u8) -> bool
     i < 8
 }
 
-// 0, or the number that refuses the ID `i` behind a field with the ID `prev`, or as the first.
-fn order(seen: bool, prev: usize, i: u8) -> u8
+// The refusal, if any, of the ID `i` behind a field with the ID `prev`, or as the first.
+fn order(seen: bool, prev: usize, i: u8) -> Option<Refusal>
     ensures { result ≡ order_of seen prev i }
 {
     if seen {
         let id = i as usize;
         if id < prev {
-            return 5;
+            return Some(Refusal::FieldOrder);
         }
         if id != prev {
-            return 0;
+            return None;
         }
         if once(i) {
-            return 5;
+            return Some(Refusal::FieldOrder);
         }
-        return 0;
+        return None;
     }
     if i == 0 {
-        return 0;
+        return None;
     }
-    6
+    Some(Refusal::FirstField)
 }
 
 // The version at the front of `r`.
@@ -48,16 +49,16 @@ pub fn version(r: &[u8]) -> Frame
         return Frame::Cut;
     }
     if r[0] != 0 {
-        return Frame::Refused(3);
+        return Frame::Refused(Refusal::WrongVersion);
     }
     if r[1] != 0 {
-        return Frame::Refused(3);
+        return Frame::Refused(Refusal::WrongVersion);
     }
     if r[2] != 0 {
-        return Frame::Refused(3);
+        return Frame::Refused(Refusal::WrongVersion);
     }
     if r[3] != 0 {
-        return Frame::Refused(3);
+        return Frame::Refused(Refusal::WrongVersion);
     }
     Frame::Version
 }
@@ -70,12 +71,11 @@ fn field(r: &[u8], last: u8, at: usize, seen: bool, prev: usize) -> Frame
         return Frame::End;
     }
     let i = r[0];
-    let n = order(seen, prev, i);
-    if n != 0 {
-        return Frame::Refused(n);
+    if let Some(k) = order(seen, prev, i) {
+        return Frame::Refused(k);
     }
     if last < i {
-        return Frame::Refused(12);
+        return Frame::Refused(Refusal::NotFound);
     }
     sizes::sized(&r[1..], at, i)
 }

@@ -6,8 +6,8 @@ use native.Mathlib.Omega.{arith}
 use lib.ListN.{get_or}
 use Rattle.base.proofs.Tests.{by_order}
 use Rattle.string_order.specs.Order.{ordering}
-use Rattle.string_order.specs.declared.Ordering.{Ordering}
-use Rattle.string_order.specs.declared.Ordering.TheVariants.{Less, Equal, Greater}
+use Rattle.std.specs.declared.cmp.Ordering.{Ordering}
+use Rattle.std.specs.declared.cmp.Ordering.TheVariants.{Less, Equal, Greater}
 use Rattle.string_order.proofs.OrderLaws.{equal-is-equality, greater-less, less-trans}
 use Rattle.ids.specs.Parts.{text_in, Run, Located}
 use Rattle.ids.specs.declared.Place.TheVariants.{Seen, Free}

@@ -6,7 +6,7 @@ use native.Mathlib.Omega.{arith}
 use lib.ListN.{length, get_or}
 use Rattle.base.proofs.Tests.{by_order}
 use Rattle.string_order.specs.Order.{ordering}
-use Rattle.string_order.specs.declared.Ordering.TheVariants.{Less}
+use Rattle.std.specs.declared.cmp.Ordering.TheVariants.{Less}
 use Rattle.string_order.proofs.OrderLaws.{less-trans}
 use Rattle.ids.specs.Layout.{buffered, ahead, buffer_size, number_at, Placed, Fits, low_of, high_of}
 use Rattle.ids.specs.Parts.{text_in, Run, Splits, Located}

@@ -14,7 +14,7 @@ use Rattle.base.proofs.EqualLaws.{equal-true, equal-refl}
 use Rattle.pool.specs.Pool.{strings_of}
 use Rattle.pool.proofs.PoolLaws.{few as pool-few}
 use Rattle.string_order.specs.Order.{ordering}
-use Rattle.string_order.specs.declared.Ordering.TheVariants.{Less}
+use Rattle.std.specs.declared.cmp.Ordering.TheVariants.{Less}
 use Rattle.ids.specs.Ids.{among}
 use Rattle.ids.specs.Layout.{number_at, Fits}
 use Rattle.ids.specs.Memory.{text_at, texts_of, how_many, Roomy, Sorted, Keeps, Taken, Between, Finds, Added}

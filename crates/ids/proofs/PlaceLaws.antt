@@ -11,7 +11,7 @@ use Rattle.base.specs.Equal.{equal}
 use Rattle.base.proofs.Tests.{clash, never, by_order, pick_same}
 use Rattle.base.proofs.EqualLaws.{equal-true, equal-refl}
 use Rattle.string_order.specs.Order.{ordering}
-use Rattle.string_order.specs.declared.Ordering.TheVariants.{Less, Equal}
+use Rattle.std.specs.declared.cmp.Ordering.TheVariants.{Less, Equal}
 use Rattle.string_order.proofs.OrderLaws.{ordering-refl}
 use Rattle.ids.specs.Ids.{among}
 use Rattle.ids.specs.Memory.{text_at, texts_of, Between, Numbered}

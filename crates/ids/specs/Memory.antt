@@ -3,7 +3,7 @@
 use Rattle.std.specs.Prelude.{ℕ, zero, suc, ◌+◌, ◌≤◌, ◌<◌, ◌≡◌, List, [], ◌∷◌, Bool, length, get_or}
 use Rattle.base.specs.Pick.{pick}
 use Rattle.string_order.specs.Order.{ordering}
-use Rattle.string_order.specs.declared.Ordering.TheVariants.{Less}
+use Rattle.std.specs.declared.cmp.Ordering.TheVariants.{Less}
 use Rattle.ids.specs.Ids.{among}
 use Rattle.ids.specs.Layout.{buffer_size, number_at, Placed, Fits}
 use Rattle.ids.specs.declared.Gap.{Gap}

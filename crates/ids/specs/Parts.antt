@@ -1,7 +1,7 @@
 -- What the internal functions do to the array itself.
 use Rattle.std.specs.Prelude.{ℕ, suc, ◌+◌, ◌≤◌, ◌<◌, ◌≡◌, List, [], length, get_or}
 use Rattle.string_order.specs.Order.{ordering}
-use Rattle.string_order.specs.declared.Ordering.TheVariants.{Less}
+use Rattle.std.specs.declared.cmp.Ordering.TheVariants.{Less}
 use Rattle.ids.specs.Layout.{main_number, buffered, ahead, buffer_size, number_in}
 use Rattle.ids.specs.declared.Place.{Place}
 use Rattle.ids.specs.declared.Place.TheVariants.{Seen, Free}

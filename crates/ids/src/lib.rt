@@ -12,7 +12,7 @@ ghost use Rattle.ids.specs.Layout.{buffer_size, Placed, Fits, low_of, high_of};
 ghost use Rattle.ids.specs.Parts.{Run, Located, Shifted, Inserted, Buffered, Merged};
 ghost use Rattle.ids.specs.Memory.{Roomy, Sorted, Finds, Added, Taken};
 
-use string_order::Ordering;
+use std::cmp::Ordering;
 
 // What looking for a string in a part of the array gives: it was seen, with its number, or the place where its number belongs.
 #[derive(Clone, Copy)]

@@ -1,4 +1,7 @@
 -- Whether a start is in the writer's form, by its first bytes. Assumes nothing.
+use Rattle.std.specs.Prelude.{Err, Ok}
+use Rattle.base.specs.Coded.{Coded}
+use Rattle.base.specs.declared.Refusal.TheVariants.{BadCode, BadInterval}
 use mathlib.Core.Path.{◌≡◌, refl, sym, ap, ◌∙◌}
 use mathlib.Core.Bool.{Bool, true, false}
 use mathlib.Core.List.{List, [], ◌∷◌}
@@ -10,9 +13,8 @@ use lib.Seq.{get_or-drop}
 use borrow.Author.Tests.{lt-ltb, eq-eqb}
 use Rattle.base.specs.Pick.{pick, both}
 use Rattle.base.specs.Parsed.{got, parse}
-use Rattle.base.specs.declared.Read.{Read}
-use Rattle.base.specs.declared.Read.TheVariants.{Value, Refused}
 use Rattle.base.proofs.Tests.{clash}
+use Rattle.base.proofs.PairLaws.{ok_parts}
 use Rattle.base.proofs.Parts.{Bytes}
 use Rattle.base.proofs.ByteLaws.{drop-bytes}
 use Rattle.base.proofs.ParseLaws.{bind-good, pick_good, got-value}
@@ -32,60 +34,60 @@ use Rattle.intervals.specs.Interval.{standard_sum, judge_standard, after_wall, a
 use Rattle.interval_scans.specs.Start.{StartAt}
 
 -- groups end at a byte below 128
-groups-few : (k : ℕ) (s : List ℕ) (v n i : ℕ) → Value v n ≡ read_groups k 7 s → get_or s i 0 < 128 → n ≤ i + 1
+groups-few : (k : ℕ) (s : List ℕ) (v n i : ℕ) → Ok (v, n) ≡ read_groups k 7 s → get_or s i 0 < 128 → n ≤ i + 1
 unfolding read_groups
 groups-few k [] v n i e l = clash cc
 groups-few zero (b ∷ s) v n i e l = go (leb b 7) e
   where
-    go : (t : Bool) → Value v n ≡ pick t (Value b 1) (Refused 7) → n ≤ i + 1
-    go true q = let z : n ≡ 1 = cc in omega arith
+    go : (t : Bool) → Ok (v, n) ≡ pick {A = Coded ℕ} t (Ok (b, 1)) (Err BadCode) → n ≤ i + 1
+    go true q = let z : n ≡ 1 = (ok_parts q).1 in omega arith
     go false q = clash cc
-groups-few (suc k) (b ∷ s) v n zero e l = let z : Value v n ≡ Value b 1 = rw (lt-ltb b 128 l) at e in let y : n ≡ 1 = cc in omega arith
+groups-few (suc k) (b ∷ s) v n zero e l = let z : ◌≡◌ {A = Coded ℕ} (Ok (v, n)) (Ok (b, 1)) = rw (lt-ltb b 128 l) at e in let y : n ≡ 1 = (ok_parts z).1 in omega arith
 groups-few (suc k) (b ∷ s) v n (suc i) e l = go (λ w a h. groups-few k s w a i h l) (ltb b 128) (read_groups k 7 s) refl e
   where
-    two : (t : Bool) (w a : ℕ) → a ≤ i + 1 → Value v n ≡ pick t (Refused 7) (Value (b % 128 + 128 * w) (a + 1)) → n ≤ suc i + 1
+    two : (t : Bool) (w a : ℕ) → a ≤ i + 1 → Ok (v, n) ≡ pick {A = Coded ℕ} t (Err BadCode) (Ok (b % 128 + 128 * w, a + 1)) → n ≤ suc i + 1
     two true w a h q = clash cc
-    two false w a h q = let z : n ≡ a + 1 = cc in omega arith
+    two false w a h q = let z : n ≡ a + 1 = (ok_parts q).1 in omega arith
 
-    go : ((w a : ℕ) → Value w a ≡ read_groups k 7 s → a ≤ i + 1) → (t : Bool) (x : Read) → x ≡ read_groups k 7 s → Value v n ≡ pick t (Value b 1) (more b x) → n ≤ suc i + 1
-    go f true x h q = let z : n ≡ 1 = cc in omega arith
-    go f false (Value w a) h q = two (eqb w 0) w a (f w a h) q
-    go f false (Refused j) h q = clash cc
+    go : ((w a : ℕ) → Ok (w, a) ≡ read_groups k 7 s → a ≤ i + 1) → (t : Bool) (x : Coded ℕ) → x ≡ read_groups k 7 s → Ok (v, n) ≡ pick {A = Coded ℕ} t (Ok (b, 1)) (more b x) → n ≤ suc i + 1
+    go f true x h q = let z : n ≡ 1 = (ok_parts q).1 in omega arith
+    go f false (Ok (w, a)) h q = two (eqb w 0) w a (f w a h) q
+    go f false (Err j) h q = clash cc
 
 -- the length of a moment's code
-module _ (prev : ℕ) (s : List ℕ) (m size : ℕ) (e : Value m size ≡ read_moment prev s) where
-  ends : (v n i : ℕ) → Value v n ≡ read_count s → get_or s i 0 < 128 → n ≡ size → size ≤ i + 1
+module _ (prev : ℕ) (s : List ℕ) (m size : ℕ) (e : Ok (m, size) ≡ read_moment prev s) where
+  ends : (v n i : ℕ) → Ok (v, n) ≡ read_count s → get_or s i 0 < 128 → n ≡ size → size ≤ i + 1
   ends v n i k l q = omega (arith, groups-few 4 s v n i k l)
 
   size_few : (i : ℕ) → get_or s i 0 < 128 → (get_or s 0 0 ≡ 2 → ⊥) → size ≤ i + 1
   size_few i l z =
-      moment-holds prev s (λ r. Value m size ≡ r → size ≤ i + 1)
+      moment-holds prev s (λ r. Ok (m, size) ≡ r → size ≤ i + 1)
       (record {
         refused = λ k q. clash cc;
-        start = λ n k q. ends 0 n i k l cc;
-        end = λ n k q. ends 1 n i k l cc;
-        hours = λ v n k a b c d q. ends v n i k l cc;
-        minutes = λ v n k a b q. ends v n i k l cc;
+        start = λ n k q. ends 0 n i k l (sym (ok_parts q).1);
+        end = λ n k q. ends 1 n i k l (sym (ok_parts q).1);
+        hours = λ v n k a b c d q. ends v n i k l (sym (ok_parts q).1);
+        minutes = λ v n k a b q. ends v n i k l (sym (ok_parts q).1);
         ticks = λ n k a b q. absurd (z (first_two s n k));
       }) e
 
   size-ticks : 0 < length s → get_or s 0 0 ≡ 2 → size ≡ 9
   size-ticks h z =
-      moment-holds prev s (λ r. Value m size ≡ r → size ≡ 9)
+      moment-holds prev s (λ r. Ok (m, size) ≡ r → size ≡ 9)
       (record {
         refused = λ k q. clash cc;
         start = λ n k q. absurd (other 0 n k (λ o. omega arith));
         end = λ n k q. absurd (other 1 n k (λ o. omega arith));
         hours = λ v n k a b c d q. absurd (other v n k (λ o. omega arith));
         minutes = λ v n k a b q. absurd (other v n k (λ o. omega arith));
-        ticks = λ n k a b q. let o : n ≡ 1 = (counted s k).single (omega arith) in let y : size ≡ n + 8 = cc in omega arith;
+        ticks = λ n k a b q. let o : n ≡ 1 = (counted s k).single (omega arith) in let y : size ≡ n + 8 = (ok_parts q).1 in omega arith;
       }) e
     where
-      two : read_count s ≡ Value 2 1
+      two : read_count s ≡ Ok (2, 1)
       two = rw z at (byte-count s 0 h (omega arith))
 
-      other : (v n : ℕ) → Value v n ≡ read_count s → (v ≡ 2 → ⊥) → ⊥
-      other v n k o = let y : Value v n ≡ Value 2 1 = k ∙ two in o cc
+      other : (v n : ℕ) → Ok (v, n) ≡ read_count s → (v ≡ 2 → ⊥) → ⊥
+      other v n k o = let y : ◌≡◌ {A = Coded ℕ} (Ok (v, n)) (Ok (2, 1)) = k ∙ two in o (ok_parts y).0
 
 -- a start at a place
 module _ (s : List ℕ) (place prev m : ℕ) (b : Bytes s) (x : StartAt s place prev m) (w : 3 ≤ length s - place) where
@@ -120,10 +122,10 @@ start-stands pool prev s place i a l h =
     let r = drop a s in
     let c = bind-good (parse (read_moment prev) (drop place s)) (after_start pool prev) i r h.means in
     let m : ℕ = c.first in
-    let b = pick_good (rises prev m) (parse_details pool m c.rest) 10 i r c.on in
+    let b = pick_good (rises prev m) (parse_details pool m c.rest) BadInterval i r c.on in
     let k = bind-good (parse_name pool c.rest) (after_name m) i r b.1 in
     let w = bind-good (parse read_sum k.rest) (after_wall m k.first) i r k.on in
     let v = bind-good (parse read_sum w.rest) (judge_standard m k.first w.first) i r w.on in
-    let o = pick_good (in_day (standard_sum w.first v.first)) (got (record { start = m; name = k.first; wall = w.first; savings = v.first }) v.rest) 10 i r v.on in
+    let o = pick_good (in_day (standard_sum w.first v.first)) (got (record { start = m; name = k.first; wall = w.first; savings = v.first }) v.rest) BadInterval i r v.on in
     let f : m ≡ i.start = ap start_of (got-value o.1) in
     record { inside = l; rest = c.rest; means = c.is ∙ ap (λ (y : ℕ). got y c.rest) f }

@@ -11,8 +11,8 @@ ghost use Rattle.intervals.specs.Interval.{parse_interval, start_of};
 ghost use Rattle.intervals.specs.Scan.{of_scan, advance as advance_of, scan_of, FormOf};
 ghost use Rattle.interval_scans.specs.Start.{StartAt};
 
-use base::END;
-use intervals::{Interval, IntervalRead, Scan, ScanRead};
+use base::{END, Refusal};
+use intervals::{Interval, Scan};
 
 fn advance(t: u64, c: Scan, i: Interval) -> Scan
     ensures { result ≡ advance_of t c i }
@@ -61,9 +61,16 @@ fn start_preferred(s: &[u8], at: usize, prev: u64, m: u64, before: bool) -> bool
     false
 }
 
-// n intervals from the place at on, and whether their starts are in the writer's form, which is looked at where `preferred` says so. Those whose
+// n intervals from the place at on, the place behind them, and whether their starts are in the writer's form, which is looked at where `preferred` says so. Those whose
 // name and offsets take a byte each, the usual ones, are read in runs, of which only the last is kept; a run has no start that changes the form.
-pub fn read_intervals(s: &[u8], at: usize, pool: u64, n: u64, t: u64, preferred: bool) -> ScanRead
+pub fn read_intervals(
+    s: &[u8],
+    at: usize,
+    pool: u64,
+    n: u64,
+    t: u64,
+    preferred: bool,
+) -> Result<(Scan, usize, bool), Refusal>
     requires { at ≤ length s.now }
     ensures { Stands s.now (scan_of t (many (parse_interval pool) start_of n end_of_time (drop at s.now))) (of_scan result) × FormOf s.now n at preferred result }
 {
@@ -92,10 +99,10 @@ pub fn read_intervals(s: &[u8], at: usize, pool: u64, n: u64, t: u64, preferred:
         } else {
             let item = any_intervals::read_usual_interval(s, place, pool, c.last);
             match item {
-                IntervalRead::Refused(k) => {
-                    return ScanRead::Refused(k);
+                Err(k) => {
+                    return Err(k);
                 }
-                IntervalRead::Got(i, e) => {
+                Ok((i, e)) => {
                     form = start_preferred(s, place, c.last, i.start, form);
                     left -= 1;
                     place = e;
@@ -104,5 +111,5 @@ pub fn read_intervals(s: &[u8], at: usize, pool: u64, n: u64, t: u64, preferred:
             }
         }
     }
-    ScanRead::Got(c, place, form)
+    Ok((c, place, form))
 }

@@ -1,4 +1,6 @@
 -- Whether the starts of intervals are in the writer's form: where the loop over them stands. Assumes nothing.
+use Rattle.base.specs.declared.Refusal.TheVariants.{BadInterval, BadText}
+use Rattle.std.specs.Prelude.{Ok}
 use mathlib.Core.Path.{◌≡◌, refl, sym, ap, ◌∙◌}
 use mathlib.Core.Bool.{Bool}
 use mathlib.Core.List.{List}
@@ -20,7 +22,6 @@ use Rattle.pieces.specs.Form.{code_preferred, pieces_preferred}
 use Rattle.pieces.proofs.CodeLaws.{both-in}
 use Rattle.intervals.specs.declared.Interval.{Interval}
 use Rattle.intervals.specs.declared.Scan.{Scan}
-use Rattle.intervals.specs.declared.ScanRead.TheVariants.{Got as ScanGot}
 use Rattle.intervals.specs.Interval.{standard_sum, judge_standard, after_wall, after_name, parse_details, rises, after_start, parse_interval, start_of}
 use Rattle.intervals.specs.Scan.{advance, unscanned, FormOf}
 use Rattle.intervals.proofs.ScanLaws.{advance-last}
@@ -35,7 +36,7 @@ pub name-count : (pool : ℕ) (s : List ℕ) (k : ℕ) (r : List ℕ) → parse_
 unfolding parse_name judge_name
 name-count pool s k r e =
     let a = bind-good (parse read_count s) (judge_name pool) k r e in
-    a.is ∙ (pick_good (ltb a.first pool) (got a.first a.rest) 8 k r a.on).1
+    a.is ∙ (pick_good (ltb a.first pool) (got a.first a.rest) BadText k r a.on).1
 
 -- an interval is a piece
 interval-piece : (pool n prev : ℕ) (s : List ℕ) (i : Interval) (r : List ℕ) → parse_interval pool prev s ≡ got i r
@@ -44,11 +45,11 @@ unfolding parse_interval after_start parse_details after_name after_wall judge_s
 interval-piece pool n prev s i r e =
     let a = bind-good (parse (read_moment prev) s) (after_start pool prev) i r e in
     let m : ℕ = a.first in
-    let b = pick_good (rises prev m) (parse_details pool m a.rest) 10 i r a.on in
+    let b = pick_good (rises prev m) (parse_details pool m a.rest) BadInterval i r a.on in
     let k = bind-good (parse_name pool a.rest) (after_name m) i r b.1 in
     let w = bind-good (parse read_sum k.rest) (after_wall m k.first) i r k.on in
     let v = bind-good (parse read_sum w.rest) (judge_standard m k.first w.first) i r w.on in
-    let o = pick_good (in_day (standard_sum w.first v.first)) (got (record { start = m; name = k.first; wall = w.first; savings = v.first }) v.rest) 10 i r v.on in
+    let o = pick_good (in_day (standard_sum w.first v.first)) (got (record { start = m; name = k.first; wall = w.first; savings = v.first }) v.rest) BadInterval i r v.on in
     let f : m ≡ i.start = ap start_of (got-value o.1) in
     let p = piece-of n prev m k.first w.first v.first s a.rest k.rest w.rest r a.is (name-count pool a.rest k.first k.rest k.is) w.is (v.is ∙ ap (got v.first) (got-rest o.1)) in
     (bytes_up_to a.rest r, p ∙ ap (λ (x : ℕ). got (record { moment = x; copied = bytes_up_to a.rest r }) r) f)
@@ -90,5 +91,5 @@ module _ (pool t : ℕ) (s : List ℕ) (from n : ℕ) (b : Bool) where
                   ∙ ap (λ (x : ℕ). both after (pieces_preferred (suc k) x (drop e s))) (sym (advance-last t c i));
             })
 
-    pub forming-done : left ≡ 0 → FormOf s n from b (ScanGot c place form)
+    pub forming-done : left ≡ 0 → FormOf s n from b (Ok (c, place, form))
     forming-done z = record { means = g.means ∙ ap (λ (x : ℕ). both form (pieces_preferred (suc x) c.last (drop place s))) z }

@@ -1,4 +1,5 @@
 -- What a scan of the intervals keeps, and what that says of the interval that holds the instant. Assumes nothing.
+use Rattle.base.specs.declared.Refusal.{Refusal}
 use mathlib.Core.Path.{◌≡◌, refl, sym, ap, ◌∙◌}
 use mathlib.Core.List.{List, [], ◌∷◌, ◌++◌}
 use Prim.Native.Nat.{ℕ, ◌-◌, ◌≤◌, ◌<◌}
@@ -77,7 +78,7 @@ module _ (pool t : ℕ) (s : List ℕ) (from n : ℕ) where
     scanning-in = g.going.place
 
     module _ (h : 0 < left) where
-      pub scanning-bad : (k : ℕ) → Stands s (parse_interval pool c.last (drop place s)) (no k) → Stands s whole (no k)
+      pub scanning-bad : (k : Refusal) → Stands s (parse_interval pool c.last (drop place s)) (no k) → Stands s whole (no k)
       scanning-bad k b = record { means = going-bad _ _ _ _ s _ n left place c.last g.pre k g.going h b.means; within = tt }
 
       pub scanning-next : (i : Interval) (e : ℕ) → Stands s (parse_interval pool c.last (drop place s)) (at i e)

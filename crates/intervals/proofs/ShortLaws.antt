@@ -1,4 +1,5 @@
 -- An interval whose codes behind its start take a byte each. Assumes nothing.
+use Rattle.base.specs.declared.Refusal.TheVariants.{BadInterval}
 use mathlib.Core.Path.{◌≡◌, refl}
 use mathlib.Core.Bool.{Bool, true, false}
 use mathlib.Core.List.{List}
@@ -34,11 +35,11 @@ module _ (s : List ℕ) (pool place n prev m : ℕ) where
       let l : get_or s (place + n) 0 < pool = ltb-true (get_or s (place + n) 0) pool (both_left (ltb (get_or s (place + n) 0) pool) _ o) in
       rw e at
       (on h.moment (after_start pool prev) m (place + n) _ refl
-      (stands-if s (rises prev m) _ (bad 10) _ (later h)
+      (stands-if s (rises prev m) _ (bad BadInterval) _ (later h)
       (on (on d.name (judge_name pool) _ _ _ refl (name_in s pool _ _ l d.name.within)) (after_name m) _ _ _ refl
       (on d.wall (after_wall m _) _ _ _ refl
       (on d.savings (judge_standard m _ _) _ _ _ refl
-      (stands-if s _ _ (bad 10) _ (both_right (ltb (get_or s (place + n) 0) pool) _ o) (here s _ _ _ refl d.savings.within)))))))
+      (stands-if s _ _ (bad BadInterval) _ (both_right (ltb (get_or s (place + n) 0) pool) _ o) (here s _ _ _ refl d.savings.within)))))))
 
   -- where it is not 0, such an interval stands at the place
   pub start-means : m ≡ short_start s pool place n prev → (m ≡ 0 → ⊥)

@@ -1,4 +1,5 @@
 -- What intervals that were read say is in its ranges. Assumes nothing.
+use Rattle.base.specs.declared.Refusal.TheVariants.{BadInterval}
 use mathlib.Core.Path.{◌≡◌, refl, ap, subst}
 use mathlib.Core.Bool.{true}
 use mathlib.Core.List.{List, [], ◌∷◌}
@@ -34,7 +35,7 @@ details-sound pool m s i q e =
     let a = bind-good (parse_name pool s) (after_name m) i q e in
     let b = bind-good (parse read_sum a.rest) (after_wall m a.first) i q a.on in
     let c = bind-good (parse read_sum b.rest) (judge_standard m a.first b.first) i q b.on in
-    let d = pick_good (in_day (standard_sum b.first c.first)) (got (record { start = m; name = a.first; wall = b.first; savings = c.first }) c.rest) 10 i q c.on in
+    let d = pick_good (in_day (standard_sum b.first c.first)) (got (record { start = m; name = a.first; wall = b.first; savings = c.first }) c.rest) BadInterval i q c.on in
     let r = standard-range b.first c.first d.0 in
     let f : got (record { start = m; name = a.first; wall = b.first; savings = c.first }) c.rest ≡ got i q = d.1 in
     let g : record { start = m; name = a.first; wall = b.first; savings = c.first } ≡ i = cc in
@@ -53,7 +54,7 @@ pub interval-sound : (pool prev : ℕ) (s : List ℕ) (i : Interval) (q : List �
 unfolding parse_interval after_start
 interval-sound pool prev s i q e =
     let a = bind-good (parse (read_moment prev) s) (after_start pool prev) i q e in
-    let b = pick_good (rises prev a.first) (parse_details pool a.first a.rest) 10 i q a.on in
+    let b = pick_good (rises prev a.first) (parse_details pool a.first a.rest) BadInterval i q a.on in
     let d = details-sound pool a.first a.rest i q b.1 in
     record {
       start-ok = subst (λ (x : ℕ). rises prev x ≡ true) d.0 b.0;

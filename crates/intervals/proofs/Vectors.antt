@@ -1,4 +1,5 @@
 -- Worked intervals: standard offsets at and around 24 hours. Assumes nothing.
+use Rattle.base.specs.declared.Refusal.TheVariants.{BadCode, BadData, BadInterval}
 use mathlib.Core.Path.{◌≡◌, refl}
 use mathlib.Core.List.{List, [], ◌∷◌, map}
 use Prim.Native.Nat.{ℕ}
@@ -24,7 +25,7 @@ is wall savings s = got (record { start = start_of_time; name = 0; wall = wall; 
 pub refused :
     map read
     ((0x5F ∷ 0x2F ∷ 1 ∷ 0 ∷ []) ∷ (0x01 ∷ 0x31 ∷ 1 ∷ 0 ∷ []) ∷ (0x5F ∷ 0x2F ∷ []) ∷ (0x5F ∷ 0x2F ∷ 3 ∷ []) ∷ (0x5F ∷ 0x60 ∷ []) ∷ (0x5F ∷ []) ∷ [])
-    ≡ bad 10 ∷ bad 10 ∷ bad 10 ∷ bad 10 ∷ bad 7 ∷ bad 9 ∷ []
+    ≡ bad BadInterval ∷ bad BadInterval ∷ bad BadInterval ∷ bad BadInterval ∷ bad BadCode ∷ bad BadData ∷ []
 unfolding interval_in_order read_moment from_count read_groups parse_name judge_name read_sum
 refused = refl
 

@@ -1,5 +1,6 @@
 -- An interval in the paper's order, one definition: what a reader is to believe of `parse_interval` (Interval.antt), which is the same by
 -- `interval-stages` (proofs/InOrderLaws.antt).
+use Rattle.base.specs.declared.Refusal.TheVariants.{BadInterval}
 use Rattle.std.specs.Prelude.{ℕ, List}
 use Rattle.base.specs.Pick.{pick}
 use Rattle.base.specs.Parsed.{Parsed, got, bad, bind, parse}
@@ -17,4 +18,4 @@ interval_in_order pool prev s =
     bind (parse_name pool r) (λ name r.
     bind (parse read_sum r) (λ wall r.
     bind (parse read_sum r) (λ savings r. pick (in_day (standard_sum wall savings)) (
-    got (record { start = start; name = name; wall = wall; savings = savings }) r) (bad 10))))) (bad 10))
+    got (record { start = start; name = name; wall = wall; savings = savings }) r) (bad BadInterval))))) (bad BadInterval))

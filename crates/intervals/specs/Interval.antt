@@ -1,6 +1,7 @@
 -- The listed intervals of a zone, read left to right, for the proofs: each thing that is read is a stage of its own, last stage first. In the
 -- paper's order an interval stands in InOrder.antt. `standard_sum` and `rises` are to be believed; the stages are the code's way, tied to that by
 -- `interval-stages` (proofs/InOrderLaws.antt).
+use Rattle.base.specs.declared.Refusal.TheVariants.{BadInterval}
 use Rattle.std.specs.Prelude.{ℕ, ◌+◌, ◌-◌, Bool, List, ltb, eqb}
 use Rattle.base.specs.Pick.{pick, both}
 use Rattle.base.specs.Parsed.{Parsed, got, bad, bind, parse}
@@ -17,7 +18,7 @@ standard_sum wall savings = wall + 86400000 - savings
 -- An interval: "transition, name, wall offset, savings". "A zone where that leaves the open range of 24 hours either way is no longer well
 -- formed: number 10 in an interval, after its savings are read"
 unfoldable pub judge_standard : ℕ → ℕ → ℕ → ℕ → List ℕ → Parsed Interval
-judge_standard m n w v s = pick (in_day (standard_sum w v)) (got (record { start = m; name = n; wall = w; savings = v }) s) (bad 10)
+judge_standard m n w v s = pick (in_day (standard_sum w v)) (got (record { start = m; name = n; wall = w; savings = v }) s) (bad BadInterval)
 
 unfoldable pub after_wall : ℕ → ℕ → ℕ → List ℕ → Parsed Interval
 after_wall m n w s = bind (parse read_sum s) (judge_standard m n w)
@@ -33,7 +34,7 @@ abbrev pub rises : ℕ → ℕ → Bool
 rises prev m = pick (eqb prev end_of_time) (eqb m start_of_time) (both (ltb prev m) (ltb m end_of_time))
 
 unfoldable pub after_start : ℕ → ℕ → ℕ → List ℕ → Parsed Interval
-after_start pool prev m s = pick (rises prev m) (parse_details pool m s) (bad 10)
+after_start pool prev m s = pick (rises prev m) (parse_details pool m s) (bad BadInterval)
 
 unfoldable pub parse_interval : ℕ → ℕ → List ℕ → Parsed Interval
 parse_interval pool prev s = bind (parse (read_moment prev) s) (after_start pool prev)

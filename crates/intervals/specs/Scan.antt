@@ -1,24 +1,22 @@
 -- What one walk over the intervals keeps for an instant. The code's way, tied to the zone's intervals by lookups' `answer-is` (proofs/LookupLaws.antt).
-use Rattle.std.specs.Prelude.{ℕ, suc, ◌≡◌, Bool, List, [], ◌∷◌, ltb, drop}
+use Rattle.base.specs.declared.Refusal.{Refusal}
+use Rattle.base.specs.Coded.{Coded}
+use Rattle.std.specs.Prelude.{ℕ, suc, ◌≡◌, Bool, List, [], ◌∷◌, ltb, drop, Err, Ok, Result}
 use Rattle.base.specs.Pick.{pick, both}
 use Rattle.base.specs.Parsed.{Parsed, got, bind}
 use Rattle.base.specs.Moment.{end_of_time}
 use Rattle.places.specs.Placed.{Placed, at, no}
 use Rattle.pieces.specs.Form.{pieces_preferred}
 use Rattle.intervals.specs.declared.Interval.{Interval}
-use Rattle.intervals.specs.declared.IntervalRead.{IntervalRead}
-use Rattle.intervals.specs.declared.IntervalRead.TheVariants.{Got as IntervalGot, Refused as IntervalRefused}
 use Rattle.intervals.specs.declared.Scan.{Scan}
-use Rattle.intervals.specs.declared.ScanRead.{ScanRead}
-use Rattle.intervals.specs.declared.ScanRead.TheVariants.{Got as ScanGot, Refused as ScanRefused}
 
-abbrev pub of_interval : IntervalRead → Placed Interval
-of_interval (IntervalGot i e) = at i e
-of_interval (IntervalRefused n) = no n
+abbrev pub of_interval : Coded Interval → Placed Interval
+of_interval (Ok (i, e)) = at i e
+of_interval (Err n) = no n
 
-abbrev pub of_scan : ScanRead → Placed Scan
-of_scan (ScanGot c e b) = at c e
-of_scan (ScanRefused n) = no n
+abbrev pub of_scan : Result (Scan × ℕ × Bool) Refusal → Placed Scan
+of_scan (Ok (c, e, b)) = at c e
+of_scan (Err n) = no n
 
 -- What one walk over the intervals keeps for the instant t: the last start, the interval that holds t so far, and the first start
 -- after t, or end of time while there is none.
@@ -44,9 +42,9 @@ scan_of t p = bind p (λ is r. got (scanned t is) r)
 
 -- n intervals of s from a place on, and the end transition behind them, are in their preferred form where b says so and they are: with what is
 -- said of the intervals, the end transition is left to be looked at
-abbrev pub FormTo : List ℕ → ℕ → ℕ → Bool → ScanRead → Type 0
-FormTo s n from b (ScanGot c e form) = both b (pieces_preferred (suc n) end_of_time (drop from s)) ≡ both form (pieces_preferred 1 c.last (drop e s))
-FormTo s n from b (ScanRefused k) = Unit {0}
+abbrev pub FormTo : List ℕ → ℕ → ℕ → Bool → Result (Scan × ℕ × Bool) Refusal → Type 0
+FormTo s n from b (Ok (c, e, form)) = both b (pieces_preferred (suc n) end_of_time (drop from s)) ≡ both form (pieces_preferred 1 c.last (drop e s))
+FormTo s n from b (Err k) = Unit {0}
 
-pub record FormOf (s : List ℕ) (n from : ℕ) (b : Bool) (r : ScanRead) : Type 0 where
+pub record FormOf (s : List ℕ) (n from : ℕ) (b : Bool) (r : Result (Scan × ℕ × Bool) Refusal) : Type 0 where
   pub means : FormTo s n from b r

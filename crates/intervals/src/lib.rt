@@ -17,16 +17,3 @@ pub struct Scan {
     pub end: u64,
     pub last: u64,
 }
-
-// Each reader gives a value and the place behind it, or a refusal's number; the last also whether every start's code is in the writer's form.
-#[derive(Clone, Copy)]
-pub enum IntervalRead {
-    Got(Interval, usize),
-    Refused(u8),
-}
-
-#[derive(Clone, Copy)]
-pub enum ScanRead {
-    Got(Scan, usize, bool),
-    Refused(u8),
-}

@@ -1,4 +1,5 @@
 -- The name of an answer by the index of the pool. Assumes nothing.
+use Rattle.std.specs.Prelude.{Ok}
 use mathlib.Core.Path.{◌≡◌, refl, sym, ap, ◌∙◌}
 use mathlib.Core.Bool.{Bool, true, false}
 use mathlib.Core.List.{List, []}
@@ -10,7 +11,6 @@ use Rattle.base.proofs.Tests.{never}
 use Rattle.pool.specs.Pool.{parse_pool, strings_of, checked}
 use Rattle.pool.specs.Index.{starts_of, room_of, span_of}
 use Rattle.pool.specs.declared.Span.{Span}
-use Rattle.pool.specs.declared.Checked.TheVariants.{Strings}
 use Rattle.pool.proofs.PoolLaws.{taken, ready}
 use Rattle.location_lookup.specs.Location.{lent_part, text_in}
 use Rattle.found_zones.proofs.SpanLaws.{room-is, has-string}
@@ -18,7 +18,7 @@ use Rattle.found_zones.proofs.InsideLaws.{text-inside}
 use Rattle.later_answers.specs.View.{Indexed, IndexedAs}
 
 -- a pool that the check takes has an index
-pub index-taken : (d ix e : List ℕ) (n : ℕ) → room_of d ≤ length ix → Strings n ≡ checked (parse_pool d) → e ≡ sets ix 0 (starts_of d) → IndexedAs d ix true e
+pub index-taken : (d ix e : List ℕ) (n : ℕ) → room_of d ≤ length ix → Ok n ≡ checked (parse_pool d) → e ≡ sets ix 0 (starts_of d) → IndexedAs d ix true e
 index-taken d ix e n h c p = record {
   put = p;
   is = record { ready = λ q. ready d ix e h p; strings = λ q. room-is d (strings_of d) [] (taken d n c).all };

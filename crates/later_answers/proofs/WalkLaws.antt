@@ -1,4 +1,8 @@
 -- The walk over the intervals behind the first row. Assumes nothing.
+use Rattle.base.specs.declared.Refusal.{Refusal}
+use Rattle.base.specs.declared.Refusal.TheVariants.{OutOfRange}
+use Rattle.base.specs.Coded.{Fault}
+use Rattle.std.specs.Prelude.{Err, Ok, Result}
 use mathlib.Core.Path.{◌≡◌, refl, sym, ap, ◌∙◌}
 use mathlib.Core.Bool.{Bool}
 use mathlib.Core.List.{List, [], ◌∷◌, ◌++◌}
@@ -25,8 +29,6 @@ use Rattle.zones.specs.declared.Found.{Found as Interval}
 use Rattle.zones.specs.declared.ZoneEnd.{ZoneEnd}
 use Rattle.answers.specs.Answers.{answer_by}
 use Rattle.answers.specs.declared.Found.{Found}
-use Rattle.answers.specs.declared.Answer.{Answer}
-use Rattle.answers.specs.declared.Answer.TheVariants.{In, Refused}
 use Rattle.cursors.specs.Cursors.{found_in, Points, At}
 use Rattle.cursors.specs.declared.Cursor.{Cursor}
 use Rattle.cursors.proofs.CursorLaws.{held_same, held-ok}
@@ -60,21 +62,21 @@ row-then x d at to rs e =
 
 module _ (f : List ℕ) (v : FoundZone) (ed : Edition) where
   -- none from a tick at which the question is refused
-  pub none_from : (z : ℤ) (n p : ℕ) → ask_zone f v z ed ≡ Refused n p → (k : ℕ) → answers_from f v ed k z ≡ []
+  pub none_from : (z : ℤ) (n : Refusal) (p : ℕ) → ask_zone f v z ed ≡ Err (n, p) → (k : ℕ) → answers_from f v ed k z ≡ []
   unfolding answers_from
   none_from z n p e zero = refl
-  none_from z n p e (suc k) = ap (λ (a : Answer). answer_then a (λ u. answers_from f v ed k u)) e
+  none_from z n p e (suc k) = ap (λ (a : Result Found Fault). answer_then a (λ u. answers_from f v ed k u)) e
 
   pub none-outside : (z : ℤ) → instant_of z ≡ 0 → (k : ℕ) → answers_from f v ed k z ≡ []
-  none-outside z e k = none_from z 14 0 (sym (zone-outside f v z ed (instant_of z) refl e)) k
+  none-outside z e k = none_from z OutOfRange 0 (sym (zone-outside f v z ed (instant_of z) refl e)) k
 
   -- nor of a zone that is refused
-  pub none-bad : (n : ℕ) → zone_at f v ≡ bad n → (z : ℤ) (k : ℕ) → answers_from f v ed k z ≡ []
+  pub none-bad : (n : Refusal) → zone_at f v ≡ bad n → (z : ℤ) (k : ℕ) → answers_from f v ed k z ≡ []
   none-bad n e z k = go (ask_zone f v z ed) refl
     where
-      go : (a : Answer) → ask_zone f v z ed ≡ a → answers_from f v ed k z ≡ []
-      go (In x) q = let w : bad n ≡ got (answered f v ed z x q).zone (answered f v ed z x q).rest = sym e ∙ (answered f v ed z x q).zone-is in bad-got w
-      go (Refused m p) q = none_from z m p q k
+      go : (a : Result Found Fault) → ask_zone f v z ed ≡ a → answers_from f v ed k z ≡ []
+      go (Ok x) q = let w : bad n ≡ got (answered f v ed z x q).zone (answered f v ed z x q).rest = sym e ∙ (answered f v ed z x q).zone-is in bad-got w
+      go (Err (m, p)) q = none_from z m p q k
 
 -- a cursor at an interval, and the answer there
 module _ (f : List ℕ) (v : FoundZone) (count : ℕ) (ending : ZoneEnd) (counts : count ≡ room_of (lent_part f v.pool v.past)) where
@@ -86,15 +88,15 @@ module _ (f : List ℕ) (v : FoundZone) (count : ℕ) (ending : ZoneEnd) (counts
     unfolding found_in
     held-is = ap (found_in e) (sym a.points.whole.is) ∙ held_same count data-of ending c a.points e g a.holds
 
-    ask-at : ask_zone f v (ticks_of e) Two ≡ In (answer_in f v c.held)
+    ask-at : ask_zone f v (ticks_of e) Two ≡ Ok (answer_in f v c.held)
     unfolding under
     ask-at =
         let w = a.points.whole in
         let q : zone_at f v ≡ got w.zone [] = ap (λ (n : ℕ). parse_zone n data-of) (sym counts) ∙ w.is in
         let t : instant_of (ticks_of e) ≡ e = instant-ticks e g in
         answers_at f v Two w.zone [] q (ticks_of e) (λ i. omega (arith, g.low))
-        ∙ ap (λ (u : ℕ). In (answer_in f v (in_zone u w.zone))) t
-        ∙ ap (λ (i : Interval). In (answer_in f v i)) held-is
+        ∙ ap (λ (u : ℕ). Ok (answer_in f v (in_zone u w.zone))) t
+        ∙ ap (λ (i : Interval). Ok (answer_in f v i)) held-is
 
     -- its name is a number of the pool, and its offsets fit
     pub at_ok : FoundOk count c.held
@@ -104,8 +106,8 @@ module _ (f : List ℕ) (v : FoundZone) (count : ℕ) (ending : ZoneEnd) (counts
     at_name = omega (arith, at_ok.name-ok)
 
     module _ (name : Span) (y : Found) (n : name ≡ text_in f v.pool v.past c.held.name) (q : y ≡ answer_by name.at name.len c.held) where
-      pub at-answer : ask_zone f v (ticks_of e) Two ≡ In y
-      at-answer = ask-at ∙ ap In (sym (q ∙ ap (λ (s : Span). answer_by s.at s.len c.held) n))
+      pub at-answer : ask_zone f v (ticks_of e) Two ≡ Ok y
+      at-answer = ask-at ∙ ap Ok (sym (q ∙ ap (λ (s : Span). answer_by s.at s.len c.held) n))
 
       pub at-inside : y.name + y.length ≤ length f
       at-inside = zone-name f v (ticks_of e) Two y at-answer
@@ -116,7 +118,7 @@ module _ (f : List ℕ) (v : FoundZone) (count : ℕ) (ending : ZoneEnd) (counts
       -- the list goes on at its end
       at_next : (k : ℕ) → answers_from f v Two (suc k) (ticks_of e) ≡ y ∷ answers_from f v Two k (ticks_of c.held.end)
       unfolding answers_from
-      at_next k = ap (λ (x : Answer). answer_then x (λ u. answers_from f v Two k u)) at-answer ∙ ap (λ (u : ℤ). y ∷ answers_from f v Two k u) at-end
+      at_next k = ap (λ (x : Result Found Fault). answer_then x (λ u. answers_from f v Two k u)) at-answer ∙ ap (λ (u : ℤ). y ∷ answers_from f v Two k u) at-end
 
 -- where the walk stands: i rows are put, and the next interval starts at e; the table was d, and the interval behind the first row starts at m
 module _ (f : List ℕ) (v : FoundZone) (count : ℕ) (ending : ZoneEnd) (m : ℕ) (d : List ℤ) where
@@ -200,7 +202,7 @@ module _ (f : List ℕ) (v : FoundZone) (count : ℕ) (ending : ZoneEnd) (m : �
             }
 
 -- the zone is refused: no row follows
-pub no_rows : (f : List ℕ) (v : FoundZone) (m : ℕ) (d : List ℤ) (count n : ℕ) → count ≡ room_of (lent_part f v.pool v.past)
+pub no_rows : (f : List ℕ) (v : FoundZone) (m : ℕ) (d : List ℤ) (count : ℕ) (n : Refusal) → count ≡ room_of (lent_part f v.pool v.past)
     → parse_zone count (lent_part f v.start v.end) ≡ bad n → PutBehind f v m d 1 d
 unfolding rows_of
 no_rows f v m d count n c e =

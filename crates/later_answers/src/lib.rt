@@ -12,9 +12,9 @@ ghost use Rattle.later_answers.specs.View.{Indexed, IndexedAs, PutBehind, Walks}
 
 use answers::Found;
 use base::END;
-use cursors::{Cursor, Opened};
+use cursors::Cursor;
 use found_zones::FoundZone;
-use pool::{Checked, Span};
+use pool::Span;
 use zones::ZoneEnd;
 
 // The numbers of an answer, put at a place.
@@ -44,8 +44,8 @@ fn index(pool: &[u8], starts: &mut [u32]) -> bool
     ensures { IndexedAs pool.now starts.old result starts.new }
 {
     match pool::check_pool(pool, starts) {
-        Checked::Strings(_) => true,
-        Checked::Refused(_) => false,
+        Ok(_) => true,
+        Err(_) => false,
     }
 }
 
@@ -111,8 +111,8 @@ fn list_with(file: &[u8], v: FoundZone, e: u64, starts: &mut [u32], rows: &mut [
     let count = pool::room(pool) as u64;
     let zone = location_lookup::lent(file, v.start, v.end);
     match listed_cursors::first(zone, count) {
-        Opened::Refused(_) => 1,
-        Opened::Cursor(c, ending) => {
+        Err(_) => 1,
+        Ok((c, ending)) => {
             let indexed = index(pool, starts);
             put_rows(file, v, count, c, ending, e, &*starts, indexed, rows)
         }

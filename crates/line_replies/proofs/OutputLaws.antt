@@ -1,4 +1,11 @@
 -- Laws of the program's output. Assumes nothing.
+use Rattle.lines.specs.declared.Kind.{Kind}
+use Rattle.base.specs.declared.Refusal.{Refusal}
+use Rattle.std.specs.declared.option.Option.{Option}
+use Rattle.std.specs.declared.option.Option.TheVariants.{None}
+use Rattle.base.specs.Coded.{Fault}
+use Rattle.base.specs.Refusals.{refusal_number}
+use Rattle.std.specs.Prelude.{Err, Ok, Result, ℤ}
 use mathlib.Core.Path.{◌≡◌, ap}
 use mathlib.Core.List.{List, [], map, flatten}
 use Prim.Native.Nat.{ℕ, ◌+◌, ◌^◌, ◌≤◌, ◌<◌}
@@ -11,13 +18,9 @@ use borrow.Author.Tests.{le-leb, lt-leb}
 use Rattle.base.proofs.Tests.{by_order}
 use Rattle.answers.specs.Answers.{name_of}
 use Rattle.answers.specs.declared.Found.{Found}
-use Rattle.answers.specs.declared.Answer.{Answer}
-use Rattle.answers.specs.declared.Answer.TheVariants.{In, Refused}
 use Rattle.lines.specs.Question.{parse_line}
 use Rattle.answer_lines.specs.Reply.{refusal_line}
 use Rattle.lines.specs.Splitting.{lines_in_blocks}
-use Rattle.lines.specs.declared.Line.{Line}
-use Rattle.lines.specs.declared.Line.TheVariants.{Unclear}
 use Rattle.lines.proofs.QuestionLaws.{too_long}
 use Rattle.answer_lines.proofs.DecimalLaws.{decimal-short}
 use Rattle.answer_lines.proofs.ReplyLaws.{answer-length, refusal-length, signed-short}
@@ -29,7 +32,7 @@ module _ (s line : List ℕ) where
   unfolding reply_of
   file-too-long h = rw (lt-leb (length s) 65536 h)
 
-  pub reply-is : length s ≤ 65536 → (l : Line) → parse_line line ≡ l → reply_of s line ≡ reply_to s line l
+  pub reply-is : length s ≤ 65536 → (l : Option (ℕ × ℤ × Kind)) → parse_line line ≡ l → reply_of s line ≡ reply_to s line l
   unfolding reply_of
   reply-is h l e = rw (le-leb (length s) 65536 h, e)
 
@@ -52,10 +55,10 @@ refusal-fits : (number place : ℕ) → number < 2 ^ 64 → place < 2 ^ 64 → l
 refusal-fits number place h l =
     rw (refusal-length number place) (omega (arith, decimal-short number h, decimal-short place l))
 
-pub refused-fits : (s : List ℕ) (a : Answer) (number place : ℕ) → a ≡ Refused number place → number < 2 ^ 64 → place < 2 ^ 64
+pub refused-fits : (s : List ℕ) (a : Result Found Fault) (refusal : Refusal) (place : ℕ) → a ≡ Err (refusal, place) → refusal_number refusal < 2 ^ 64 → place < 2 ^ 64
     → length (line_of s a) ≤ 65605
 unfolding line_of
-refused-fits s a number place e h l = rw e (refusal-fits number place h l)
+refused-fits s a refusal place e h l = rw e (refusal-fits (refusal_number refusal) place h l)
 
 name-within : (s : List ℕ) (f : Found) → length (name_of s f) ≤ length s
 name-within s f =
@@ -63,7 +66,7 @@ name-within s f =
     (λ h. rw (lt-leb (f.name + f.length) (length s) h) (omega arith))
     (λ h. rw (le-leb (f.name + f.length) (length s) h) (omega (arith, length-take f.length (drop f.name s), length-drop f.name s)))
 
-pub answered-fits : (s : List ℕ) (a : Answer) (f : Found) → a ≡ In f → SFits w64 f.wall → SFits w64 f.savings → SFits w64 f.standard
+pub answered-fits : (s : List ℕ) (a : Result Found Fault) (f : Found) → a ≡ Ok f → SFits w64 f.wall → SFits w64 f.savings → SFits w64 f.standard
     → length s ≤ 65536 → length (line_of s a) ≤ 65605
 unfolding line_of
 answered-fits s a f e w g d h =
@@ -73,6 +76,6 @@ answered-fits s a f e w g d h =
 pub too-long-fits : (s line : List ℕ) → 65536 < length s → length (reply_of s line) ≤ 65605
 too-long-fits s line h = rw (file-too-long s line h) (refusal-fits 4 0 (omega arith) (omega arith))
 
-pub unclear-fits : (s line : List ℕ) → length s ≤ 65536 → parse_line line ≡ Unclear → length (reply_of s line) ≤ 65605
+pub unclear-fits : (s line : List ℕ) → length s ≤ 65536 → parse_line line ≡ None → length (reply_of s line) ≤ 65605
 unfolding reply_to
-unclear-fits s line h e = rw (reply-is s line h Unclear e) (refusal-fits 16 0 (omega arith) (omega arith))
+unclear-fits s line h e = rw (reply-is s line h None e) (refusal-fits 16 0 (omega arith) (omega arith))

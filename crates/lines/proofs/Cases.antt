@@ -1,4 +1,5 @@
 -- Lines of the papers, computed. Assumes nothing.
+use Rattle.std.specs.declared.option.Option.TheVariants.{None, Some}
 use mathlib.Core.Path.{◌≡◌, refl}
 use mathlib.Core.List.{List, [], ◌∷◌}
 use Prim.Native.Nat.{ℕ}
@@ -10,22 +11,21 @@ use Rattle.lines.specs.Question.{ticks_of, marked, behind_digits, digits, ticks,
 use Rattle.answer_lines.specs.Reply.{answer_line, refusal_line}
 use Rattle.lines.specs.Splitting.{last_line, lines_from, lines_of, block_lines, lines_in_blocks}
 use Rattle.lines.specs.declared.Kind.TheVariants.{Plain, Part, All}
-use Rattle.lines.specs.declared.Line.TheVariants.{Ask, Unclear}
 
 -- `UTC 0`, `GMT 0 part`, ` -0 all` with its empty ID, and `UTC 0 ` with a space behind
-plain : parse_line (85 ∷ 84 ∷ 67 ∷ 32 ∷ 48 ∷ []) ≡ Ask 3 (pos 0) Plain
+plain : parse_line (85 ∷ 84 ∷ 67 ∷ 32 ∷ 48 ∷ []) ≡ Some (3, pos 0, Plain)
 unfolding parse_line ticks digits behind_digits marked ticks_of equal index_of index_after
 plain = refl
 
-part : parse_line (71 ∷ 77 ∷ 84 ∷ 32 ∷ 48 ∷ 32 ∷ 112 ∷ 97 ∷ 114 ∷ 116 ∷ []) ≡ Ask 3 (pos 0) Part
+part : parse_line (71 ∷ 77 ∷ 84 ∷ 32 ∷ 48 ∷ 32 ∷ 112 ∷ 97 ∷ 114 ∷ 116 ∷ []) ≡ Some (3, pos 0, Part)
 unfolding parse_line ticks digits behind_digits marked ticks_of equal index_of index_after
 part = refl
 
-all-of-it : parse_line (32 ∷ 45 ∷ 48 ∷ 32 ∷ 97 ∷ 108 ∷ 108 ∷ []) ≡ Ask 0 (pos 0) All
+all-of-it : parse_line (32 ∷ 45 ∷ 48 ∷ 32 ∷ 97 ∷ 108 ∷ 108 ∷ []) ≡ Some (0, pos 0, All)
 unfolding parse_line ticks digits behind_digits marked ticks_of equal index_of index_after
 all-of-it = refl
 
-space-behind : parse_line (85 ∷ 84 ∷ 67 ∷ 32 ∷ 48 ∷ 32 ∷ []) ≡ Unclear
+space-behind : parse_line (85 ∷ 84 ∷ 67 ∷ 32 ∷ 48 ∷ 32 ∷ []) ≡ None
 unfolding parse_line ticks digits behind_digits marked ticks_of equal index_of index_after
 space-behind = refl
 
@@ -33,11 +33,11 @@ space-behind = refl
 nine : List ℕ → List ℕ
 nine s = 57 ∷ 57 ∷ 57 ∷ 57 ∷ 57 ∷ 57 ∷ 57 ∷ 57 ∷ 57 ∷ s
 
-past : parse_line (65 ∷ 32 ∷ 45 ∷ nine (nine (57 ∷ []))) ≡ Ask 1 (pos 9223372036854775807) Plain
+past : parse_line (65 ∷ 32 ∷ 45 ∷ nine (nine (57 ∷ []))) ≡ Some (1, pos 9223372036854775807, Plain)
 unfolding parse_line ticks digits behind_digits marked ticks_of equal index_of index_after nine
 past = refl
 
-twenty : parse_line (65 ∷ 32 ∷ nine (nine (48 ∷ 48 ∷ []))) ≡ Unclear
+twenty : parse_line (65 ∷ 32 ∷ nine (nine (48 ∷ 48 ∷ []))) ≡ None
 unfolding parse_line ticks digits behind_digits marked ticks_of equal index_of index_after nine
 twenty = refl
 

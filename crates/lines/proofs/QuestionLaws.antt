@@ -1,4 +1,6 @@
 -- Laws of a question line: one for each way that the code returns. Assumes nothing.
+use Rattle.std.specs.declared.option.Option.{Option}
+use Rattle.std.specs.declared.option.Option.TheVariants.{None, Some}
 use mathlib.Core.Path.{◌≡◌, refl, ap, ◌∙◌}
 use mathlib.Core.Bool.{Bool, true, false}
 use mathlib.Core.List.{List, [], ◌∷◌}
@@ -22,8 +24,6 @@ use Rattle.answer_lines.specs.Decimal.{digit}
 use Rattle.lines.specs.Question.{past_range, ticks_of, marked, behind_digits, digits, ticks, parse_line}
 use Rattle.lines.specs.declared.Kind.{Kind}
 use Rattle.lines.specs.declared.Kind.TheVariants.{Plain, Part, All}
-use Rattle.lines.specs.declared.Line.{Line}
-use Rattle.lines.specs.declared.Line.TheVariants.{Ask, Unclear}
 
 -- ---- the place of a byte
 
@@ -74,11 +74,11 @@ module _ (v : ℕ) (h : 2 ^ 63 ≤ v) where
 -- ---- the mark
 
 module _ (n : ℕ) (t : ℤ) (s : List ℕ) where
-  pub mark-none : length s ≡ 0 → Ask n t Plain ≡ marked n t s
+  pub mark-none : length s ≡ 0 → Some (n, t, Plain) ≡ marked n t s
   unfolding marked equal
   mark-none = go s
     where
-      go : (r : List ℕ) → length r ≡ 0 → Ask n t Plain ≡ marked n t r
+      go : (r : List ℕ) → length r ≡ 0 → Some (n, t, Plain) ≡ marked n t r
       go [] e = refl
       go (b ∷ r) e = absurd (omega arith)
 
@@ -91,22 +91,22 @@ module _ (n : ℕ) (t : ℤ) (s : List ℕ) where
       go (b ∷ r) f = refl
 
   module _ (f : length s ≡ 0 → ⊥) where
-    pub mark-part : equal s (32 ∷ 112 ∷ 97 ∷ 114 ∷ 116 ∷ []) ≡ true → Ask n t Part ≡ marked n t s
+    pub mark-part : equal s (32 ∷ 112 ∷ 97 ∷ 114 ∷ 116 ∷ []) ≡ true → Some (n, t, Part) ≡ marked n t s
     unfolding marked
     mark-part e = rw (some f, e)
 
-    pub mark-all : equal s (32 ∷ 112 ∷ 97 ∷ 114 ∷ 116 ∷ []) ≡ false → equal s (32 ∷ 97 ∷ 108 ∷ 108 ∷ []) ≡ true → Ask n t All ≡ marked n t s
+    pub mark-all : equal s (32 ∷ 112 ∷ 97 ∷ 114 ∷ 116 ∷ []) ≡ false → equal s (32 ∷ 97 ∷ 108 ∷ 108 ∷ []) ≡ true → Some (n, t, All) ≡ marked n t s
     unfolding marked
     mark-all e g = rw (some f, e, g)
 
-    pub mark-other : equal s (32 ∷ 112 ∷ 97 ∷ 114 ∷ 116 ∷ []) ≡ false → equal s (32 ∷ 97 ∷ 108 ∷ 108 ∷ []) ≡ false → Unclear ≡ marked n t s
+    pub mark-other : equal s (32 ∷ 112 ∷ 97 ∷ 114 ∷ 116 ∷ []) ≡ false → equal s (32 ∷ 97 ∷ 108 ∷ 108 ∷ []) ≡ false → None ≡ marked n t s
     unfolding marked
     mark-other e g = rw (some f, e, g)
 
 -- ---- the digits
 
 module _ (n : ℕ) (minus : Bool) where
-  pub digits-none : (i v : ℕ) (s : List ℕ) → i ≡ 0 → Unclear ≡ behind_digits n minus i v s
+  pub digits-none : (i v : ℕ) (s : List ℕ) → i ≡ 0 → None ≡ behind_digits n minus i v s
   unfolding behind_digits
   digits-none i v s e = rw e
 
@@ -155,7 +155,7 @@ digits-fit i v h l = let m : 10 ^ i ≤ 10 ^ 18 = pow-le-pow_right {n = 10} (ome
 
 -- ---- the minus and the ID
 
-pub ticks-none : (n : ℕ) (s : List ℕ) → length s ≡ 0 → Unclear ≡ ticks n s
+pub ticks-none : (n : ℕ) (s : List ℕ) → length s ≡ 0 → None ≡ ticks n s
 unfolding ticks
 ticks-none n [] e = refl
 ticks-none n (b ∷ r) e = absurd (omega arith)
@@ -171,7 +171,7 @@ ticks-no-sign n [] f e = absurd (f refl)
 ticks-no-sign n (b ∷ r) f e = rw (ne_eqb b 45 e)
 
 module _ (s : List ℕ) where
-  pub too_long : 2048 < length s → Unclear ≡ parse_line s
+  pub too_long : 2048 < length s → None ≡ parse_line s
   unfolding parse_line
   too_long h = rw (lt-leb (length s) 2048 h)
 
@@ -180,16 +180,16 @@ module _ (s : List ℕ) where
     unfolding parse_line
     with-id l = rw (le-leb (length s) 2048 h, ← e, lt-ltb k (length s) l)
 
-    pub no-space : length s ≤ k → Unclear ≡ parse_line s
+    pub no-space : length s ≤ k → None ≡ parse_line s
     unfolding parse_line
     no-space l = rw (le-leb (length s) 2048 h, ← e, le-ltb k (length s) l)
 
 -- ---- the ID is a part of the line
 
 -- an understood line has an ID of n bytes
-abbrev IdIs : ℕ → Line → Type 0
-IdIs n (Ask m t k) = m ≡ n
-IdIs n Unclear = Unit {0}
+abbrev IdIs : ℕ → Option (ℕ × ℤ × Kind) → Type 0
+IdIs n (Some (m, t, k)) = m ≡ n
+IdIs n None = Unit {0}
 
 marked-id : (n : ℕ) (t : ℤ) (s : List ℕ) → IdIs n (marked n t s)
 unfolding marked
@@ -215,7 +215,7 @@ unfolding ticks
 ticks-id n [] = tt
 ticks-id n (b ∷ r) = pick-holds (IdIs n) (eqb b 45) (λ e. digits-id n true 0 0 r) (λ e. digits-id n false 0 0 (b ∷ r))
 
-pub id-within : (s : List ℕ) (n : ℕ) (t : ℤ) (k : Kind) → Ask n t k ≡ parse_line s → n ≤ length s
+pub id-within : (s : List ℕ) (n : ℕ) (t : ℤ) (k : Kind) → Some (n, t, k) ≡ parse_line s → n ≤ length s
 unfolding parse_line
 id-within s n t k e = omega (arith, index-le 32 s, rw (← e) at parsed)
   where

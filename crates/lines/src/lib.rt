@@ -10,14 +10,6 @@ pub enum Kind {
     All,
 }
 
-// What a question line says.
-#[derive(Clone, Copy)]
-pub enum Line {
-    // The length of the ID, which stands at the line's front, the ticks, and the mark.
-    Ask(usize, i64, Kind),
-    Unclear,
-}
-
 // What a part of a block gives to the line that has begun.
 #[derive(Clone, Copy)]
 pub enum Gathered {

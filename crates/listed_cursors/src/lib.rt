@@ -6,9 +6,9 @@ ghost use Rattle.std.specs.Prelude.{◌≡◌, ◌+◌, ◌≤◌, length};
 ghost use Rattle.zones.specs.Intervals.{Holds};
 ghost use Rattle.zones.specs.Lookup.{until as until_of};
 
-use base::END;
-use cursors::{Cursor, Opened};
-use intervals::{Interval, IntervalRead, ScanRead};
+use base::{END, Refusal};
+use cursors::Cursor;
+use intervals::Interval;
 use zones::{Found, ZoneEnd, ZoneFront};
 
 // A listed interval, which lasts until a moment.
@@ -61,7 +61,7 @@ pub fn at_interval(
         };
     }
     match next_intervals::read_interval(s, place, pool, i.start) {
-        IntervalRead::Got(j, e) => {
+        Ok((j, e)) => {
             let held = until(i, j.start);
             Cursor {
                 held: held,
@@ -71,7 +71,7 @@ pub fn at_interval(
             }
         }
         // The zone was read to its end before.
-        IntervalRead::Refused(_) => {
+        Err(_) => {
             let held = until(i, END);
             Cursor {
                 held: held,
@@ -99,31 +99,34 @@ pub fn at_usual(s: &[u8], i: Interval, left: u64, place: usize, m: u64) -> Curso
 }
 
 // A cursor at the first of n intervals at a place, in a zone that was read to its end.
-fn at_first(s: &[u8], place: usize, pool: u64, n: u64, ending: ZoneEnd) -> Opened
+fn at_first(
+    s: &[u8],
+    place: usize,
+    pool: u64,
+    n: u64,
+    ending: ZoneEnd,
+) -> Result<(Cursor, ZoneEnd), Refusal>
     requires { FirstAt pool s.now n place ending }
     ensures { OpenedAs pool s.now result }
 {
     match next_intervals::read_interval(s, place, pool, END) {
         // The zone was read to its end before.
-        IntervalRead::Refused(k) => Opened::Refused(k),
-        IntervalRead::Got(i, e) => Opened::Cursor(
-            at_interval(s, pool, i, n - 1, e, ending),
-            ending,
-        ),
+        Err(k) => Err(k),
+        Ok((i, e)) => Ok((at_interval(s, pool, i, n - 1, e, ending), ending)),
     }
 }
 
 // A zone whose n intervals stand at a place.
-fn open_listed(s: &[u8], place: usize, pool: u64, n: u64) -> Opened
+fn open_listed(s: &[u8], place: usize, pool: u64, n: u64) -> Result<(Cursor, ZoneEnd), Refusal>
     requires { IntervalsAt pool s.now n place }
     ensures { OpenedAs pool s.now result }
 {
     match interval_scans::read_intervals(s, place, pool, n, 0, false) {
-        ScanRead::Refused(k) => Opened::Refused(k),
-        ScanRead::Got(c, e, _) => {
+        Err(k) => Err(k),
+        Ok((c, e, _)) => {
             let ending = zone_ends::read_end(s, e, pool, c.last);
             match ending {
-                ZoneEnd::Refused(k) => Opened::Refused(k),
+                ZoneEnd::Refused(k) => Err(k),
                 ZoneEnd::Untailed => at_first(s, place, pool, n, ending),
                 ZoneEnd::Tailed(_) => at_first(s, place, pool, n, ending),
             }
@@ -132,11 +135,11 @@ fn open_listed(s: &[u8], place: usize, pool: u64, n: u64) -> Opened
 }
 
 // A cursor at the first interval of a zone, all of the zone checked; pool is the pool's count.
-pub fn first(s: &[u8], pool: u64) -> Opened
+pub fn first(s: &[u8], pool: u64) -> Result<(Cursor, ZoneEnd), Refusal>
     ensures { OpenedAs pool s.now result }
 {
     match zone_fronts::read_front(s, pool) {
-        ZoneFront::Refused(k) => Opened::Refused(k),
+        ZoneFront::Refused(k) => Err(k),
         ZoneFront::Fixed(_, offset, n) => {
             let held = Found {
                 wall: offset,
@@ -151,7 +154,7 @@ pub fn first(s: &[u8], pool: u64) -> Opened
                 wall: 0,
                 savings: 0,
             };
-            Opened::Cursor(
+            Ok((
                 Cursor {
                     held: held,
                     left: 0,
@@ -159,7 +162,7 @@ pub fn first(s: &[u8], pool: u64) -> Opened
                     place: 0,
                 },
                 ZoneEnd::Untailed,
-            )
+            ))
         }
         ZoneFront::Listed(_, n, a) => open_listed(s, a, pool, n),
     }

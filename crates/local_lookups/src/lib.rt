@@ -9,9 +9,9 @@ ghost use Rattle.intervals.specs.Interval.{parse_interval, start_of};
 ghost use Rattle.zones.specs.Parse.{parse_zone};
 ghost use Rattle.local_times.specs.View.{advance as advance_of, scan_of, of_scan, with_last, day_before, IntervalsAt, IntervalsTo, answer_of};
 
-use base::END;
-use intervals::{Interval, IntervalRead, ScanRead};
-use local_times::{LocalAnswer, LocalScan, LocalScanRead, Tally};
+use base::{Coded, END, Refusal};
+use intervals::Interval;
+use local_times::{LocalScan, Tally};
 use zones::{ZoneEnd, ZoneFront};
 
 // The next interval: now the end of the one before it is known.
@@ -30,7 +30,7 @@ fn advance(l: u64, c: LocalScan, i: Interval) -> LocalScan
 }
 
 // n intervals from the place at on. The first turn counts in an interval that holds nothing.
-fn read_intervals(s: &[u8], at: usize, pool: u64, n: u64, l: u64) -> LocalScanRead
+fn read_intervals(s: &[u8], at: usize, pool: u64, n: u64, l: u64) -> Coded<LocalScan>
     requires { (at ≤ length s.now) × (n ≤ 4096) }
     ensures { Stands s.now (scan_of l (many (parse_interval pool) start_of n end_of_time (drop at s.now))) (of_scan result) }
 {
@@ -53,17 +53,17 @@ fn read_intervals(s: &[u8], at: usize, pool: u64, n: u64, l: u64) -> LocalScanRe
     while 0 < left {
         let item = next_intervals::read_interval(s, place, pool, c.last);
         match item {
-            IntervalRead::Refused(k) => {
-                return LocalScanRead::Refused(k);
+            Err(k) => {
+                return Err(k);
             }
-            IntervalRead::Got(i, e) => {
+            Ok((i, e)) => {
                 left -= 1;
                 place = e;
                 c = advance(l, c, i);
             }
         }
     }
-    LocalScanRead::Got(c, place)
+    Ok((c, place))
 }
 
 // The instants of a list that ends at a moment.
@@ -87,36 +87,34 @@ fn day_before(l: u64) -> u64
 }
 
 // A zone whose intervals end at a place and left c.
-fn find_behind(s: &[u8], at: usize, pool: u64, l: u64, c: LocalScan) -> LocalAnswer
+fn find_behind(s: &[u8], at: usize, pool: u64, l: u64, c: LocalScan) -> Result<Tally, Refusal>
     requires { IntervalsTo pool l s.now at c }
     ensures { result ≡ answer_of l (parse_zone pool s.now) }
 {
     match zone_ends::read_end(s, at, pool, c.last) {
-        ZoneEnd::Refused(k) => LocalAnswer::Refused(k),
-        ZoneEnd::Untailed => LocalAnswer::Instants(with_last(l, c, END)),
+        ZoneEnd::Refused(k) => Err(k),
+        ZoneEnd::Untailed => Ok(with_last(l, c, END)),
         ZoneEnd::Tailed(m) => {
             let tail = m.tail;
             let a = with_last(l, c, tail.start);
-            LocalAnswer::Instants(local_times::with_tail(l, a, tail))
+            Ok(local_times::with_tail(l, a, tail))
         }
     }
 }
 
 // A zone whose n intervals stand at a place, which are read one by one.
-fn find_each(s: &[u8], at: usize, pool: u64, n: u64, l: u64) -> LocalAnswer
+fn find_each(s: &[u8], at: usize, pool: u64, n: u64, l: u64) -> Result<Tally, Refusal>
     requires { IntervalsAt pool s.now n at }
     ensures { result ≡ answer_of l (parse_zone pool s.now) }
 {
-    match read_intervals(s, at, pool, n, l) {
-        LocalScanRead::Refused(k) => LocalAnswer::Refused(k),
-        LocalScanRead::Got(c, e) => find_behind(s, e, pool, l, c),
-    }
+    let (c, e) = read_intervals(s, at, pool, n, l)?;
+    find_behind(s, e, pool, l, c)
 }
 
 // A zone whose n intervals stand at a place. Mostly none starts within a day of the local time: then the interval that holds the instant a day before
 // is the one that counts, and it is found as for a question, in runs. Where one does, all are read once more, one by one. Where they
 // take more than eight bytes each, and more than a few do, there are few runs, and they are read one by one at once.
-fn find_listed(s: &[u8], at: usize, pool: u64, n: u64, l: u64) -> LocalAnswer
+fn find_listed(s: &[u8], at: usize, pool: u64, n: u64, l: u64) -> Result<Tally, Refusal>
     requires { IntervalsAt pool s.now n at }
     ensures { result ≡ answer_of l (parse_zone pool s.now) }
 {
@@ -124,8 +122,8 @@ fn find_listed(s: &[u8], at: usize, pool: u64, n: u64, l: u64) -> LocalAnswer
         return find_each(s, at, pool, n, l);
     }
     match interval_scans::read_intervals(s, at, pool, n, day_before(l), false) {
-        ScanRead::Refused(k) => LocalAnswer::Refused(k),
-        ScanRead::Got(c, e, _) => {
+        Err(k) => Err(k),
+        Ok((c, e, _)) => {
             if c.end <= l {
                 return find_each(s, at, pool, n, l);
             }
@@ -146,11 +144,11 @@ fn find_listed(s: &[u8], at: usize, pool: u64, n: u64, l: u64) -> LocalAnswer
 
 // The instants of a zone that read as the local time l, all of the zone checked; pool is the pool's count. The data are passed on as a part of
 // themselves, as zone_fronts::read_usual_front does.
-pub fn find(s: &[u8], pool: u64, l: u64) -> LocalAnswer
+pub fn find(s: &[u8], pool: u64, l: u64) -> Result<Tally, Refusal>
     ensures { result ≡ answer_of l (parse_zone pool s.now) }
 {
     match zone_fronts::read_front(&s[0..], pool) {
-        ZoneFront::Refused(k) => LocalAnswer::Refused(k),
+        ZoneFront::Refused(k) => Err(k),
         ZoneFront::Fixed(_, offset, _) => {
             let t = local_times::candidate(l, offset, 0, END);
             let none = Tally {
@@ -158,7 +156,7 @@ pub fn find(s: &[u8], pool: u64, l: u64) -> LocalAnswer
                 earliest: 0,
                 latest: 0,
             };
-            LocalAnswer::Instants(local_times::counted(none, t))
+            Ok(local_times::counted(none, t))
         }
         ZoneFront::Listed(_, n, a) => find_listed(s, a, pool, n, l),
     }

@@ -1,4 +1,6 @@
 -- Each way out of the zone's reader. Assumes nothing.
+use Rattle.base.specs.declared.Refusal.{Refusal}
+use Rattle.std.specs.Prelude.{Err, Ok}
 use mathlib.Core.Path.{◌≡◌, sym, ap, ◌∙◌}
 use mathlib.Core.List.{List, []}
 use Prim.Native.Nat.{ℕ, ◌+◌, ◌≤◌, ◌<◌}
@@ -37,13 +39,12 @@ use Rattle.local_times.proofs.ScanLaws.{scan-last, scan-few, scan-wall, scan-bad
 use Rattle.local_times.proofs.WayLaws.{few-more}
 use Rattle.local_times.specs.declared.Tally.{Tally}
 use Rattle.local_times.specs.declared.LocalScan.{LocalScan}
-use Rattle.local_times.specs.declared.LocalAnswer.TheVariants.{Instants, Refused}
 
 module _ (pool l : ℕ) (s : List ℕ) where
   abbrev zone : Parsed Zone
   zone = parse_zone pool s
 
-  pub find-bad : (k : ℕ) → zone ≡ bad k → Refused k ≡ answer_of l zone
+  pub find-bad : (k : Refusal) → zone ≡ bad k → Err k ≡ answer_of l zone
   find-bad k e = rw e
 
   -- a fixed zone
@@ -51,9 +52,9 @@ module _ (pool l : ℕ) (s : List ℕ) where
     pub fixed-high : offset ≤ 172799999
     fixed-high = (zone-sound pool s _ _ e.1).0.body_ok.1
 
-    pub find-fixed : (t : ℕ) (r : Tally) → t ≡ candidate l offset 0 end_of_time → r ≡ counted nothing t → Instants r ≡ answer_of l zone
+    pub find-fixed : (t : ℕ) (r : Tally) → t ≡ candidate l offset 0 end_of_time → r ≡ counted nothing t → Ok r ≡ answer_of l zone
     unfolding instants_of
-    find-fixed t r f g = rw e.1 (ap Instants (g ∙ ap (counted nothing) f ∙ counted_is (candidate l offset 0 end_of_time) []))
+    find-fixed t r f g = rw e.1 (ap Ok (g ∙ ap (counted nothing) f ∙ counted_is (candidate l offset 0 end_of_time) []))
 
   -- a zone with intervals
   pub intervals-at : (h : Parsed ℕ) (r : ZoneFront) → FrontOf pool s zone h r → (id n a : ℕ) → r ≡ Listed id n a → IntervalsAt pool s n a
@@ -65,7 +66,7 @@ module _ (pool l : ℕ) (s : List ℕ) where
     abbrev intervals : Parsed (List Interval)
     intervals = many (parse_interval pool) start_of n end_of_time (drop place s)
 
-    pub listed-bad : (k : ℕ) → Stands s (scan_of l intervals) (no k) → Refused k ≡ answer_of l zone
+    pub listed-bad : (k : Refusal) → Stands s (scan_of l intervals) (no k) → Err k ≡ answer_of l zone
     listed-bad k h = find-bad k (f.goes ∙ scan-bad l s intervals (after_intervals pool f.id) k h)
 
     list-ok : (list : List Interval) (e : ℕ) → intervals ≡ got list (drop e s) → ListOk pool list
@@ -112,7 +113,7 @@ module _ (pool l : ℕ) (s : List ℕ) where
           counts = λ end b. ap (λ (d : Scan). with_last l (of_held d) end) x.scans ∙ held-counts pool l end list k (rw x.scans at m) (rw o at b);
         }
 
-    pub held-bad : (t k : ℕ) → Stands s (scan_held t intervals) (no k) → Refused k ≡ answer_of l zone
+    pub held-bad : (t : ℕ) (k : Refusal) → Stands s (scan_held t intervals) (no k) → Err k ≡ answer_of l zone
     held-bad t k h = find-bad k (f.goes ∙ unheld t s intervals (after_intervals pool f.id) k h)
 
   -- behind the intervals
@@ -120,15 +121,15 @@ module _ (pool l : ℕ) (s : List ℕ) where
     abbrev list : List Interval
     list = h.list
 
-    pub end_refused : (k : ℕ) → EndOf (λ id is. after_intervals pool id is (drop e s)) c.last (EndRefused k) → Refused k ≡ answer_of l zone
+    pub end_refused : (k : Refusal) → EndOf (λ id is. after_intervals pool id is (drop e s)) c.last (EndRefused k) → Err k ≡ answer_of l zone
     end_refused k g = find-bad k (h.goes ∙ g.means h.id list h.last)
 
     pub end-untailed : EndOf (λ id is. after_intervals pool id is (drop e s)) c.last Untailed → (r : Tally) → r ≡ with_last l c end_of_time
-        → Instants r ≡ answer_of l zone
+        → Ok r ≡ answer_of l zone
     unfolding instants_of behind_list
     end-untailed g r w =
         rw (h.goes ∙ g.means h.id list h.last)
-        (ap Instants (w ∙ h.counts end_of_time h.finite ∙ ap tally_of (sym (append-nil (of_list l end_of_time list)))))
+        (ap Ok (w ∙ h.counts end_of_time h.finite ∙ ap tally_of (sym (append-nil (of_list l end_of_time list)))))
 
     module _ (m : NamedTail) (g : EndOf (λ id is. after_intervals pool id is (drop e s)) c.last (Tailed m)) where
       abbrev end : ℕ
@@ -143,11 +144,11 @@ module _ (pool l : ℕ) (s : List ℕ) where
       pub end-tail-ok : TailOk m.tail
       end-tail-ok = body_ok.1.2.tail-ok
 
-      pub end-tailed : (a r : Tally) → a ≡ with_last l c m.tail.start → r ≡ with_tail l a m.tail → Instants r ≡ answer_of l zone
+      pub end-tailed : (a r : Tally) → a ≡ with_last l c m.tail.start → r ≡ with_tail l a m.tail → Ok r ≡ answer_of l zone
       unfolding instants_of behind_list
       end-tailed a r v w =
           rw tailed-is
-          (ap Instants (w ∙ ap (λ (x : Tally). with_tail l x m.tail) (v ∙ ap (with_last l c) body_ok.1.2.starts
+          (ap Ok (w ∙ ap (λ (x : Tally). with_tail l x m.tail) (v ∙ ap (with_last l c) body_ok.1.2.starts
           ∙ h.counts end (omega (arith, h.last, body_ok.1.0)))
           ∙ tail-is l (of_list l end list) m.tail))
 

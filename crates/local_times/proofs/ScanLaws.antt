@@ -1,4 +1,5 @@
 -- Where the loop over the intervals stands, and how it goes on. Assumes nothing.
+use Rattle.base.specs.declared.Refusal.{Refusal}
 use mathlib.Core.Path.{◌≡◌, refl, sym, ap, ◌∙◌}
 use mathlib.Core.List.{List, [], ◌∷◌, ◌++◌}
 use Prim.Native.Nat.{ℕ, ◌+◌, ◌-◌, ◌≤◌, ◌<◌}
@@ -89,7 +90,7 @@ module _ (pool l : ℕ) (s : List ℕ) (from n : ℕ) where
     scanning-in = g.going.place
 
     module _ (h : 0 < left) where
-      pub scanning-bad : (k : ℕ) → Stands s (parse_interval pool c.last (drop place s)) (no k) → Stands s whole (no k)
+      pub scanning-bad : (k : Refusal) → Stands s (parse_interval pool c.last (drop place s)) (no k) → Stands s whole (no k)
       scanning-bad k b = record { means = going-bad _ _ _ _ s _ n left place c.last g.pre k g.going h b.means; within = tt }
 
       pub scanning-next : (i : Interval) (e : ℕ) → Stands s (parse_interval pool c.last (drop place s)) (at i e) → Scanning (left - 1) e (advance l c i)
@@ -112,7 +113,7 @@ module _ (pool l : ℕ) (s : List ℕ) (from n : ℕ) where
 
 -- what follows the intervals, from what was scanned of them
 module _ (l : ℕ) (s : List ℕ) (p : Parsed (List Interval)) where
-  pub scan-bad : {A : Type 0} (f : List Interval → List ℕ → Parsed A) (k : ℕ) → Stands s (scan_of l p) (no k) → bind p f ≡ bad k
+  pub scan-bad : {A : Type 0} (f : List Interval → List ℕ → Parsed A) (k : Refusal) → Stands s (scan_of l p) (no k) → bind p f ≡ bad k
   unfolding scan_of
   scan-bad f k h = go p h.means
     where

@@ -1,5 +1,7 @@
 -- What the code's results stand for. The code's way, tied to the instants by `last-is` and `tail-is` (proofs/CountLaws.antt).
-use Rattle.std.specs.Prelude.{◌≡◌, List, [], ◌∷◌, ℕ, ◌+◌, ◌-◌, ◌≤◌, ◌<◌, eqb, ltb, length, drop}
+use Rattle.base.specs.declared.Refusal.{Refusal}
+use Rattle.base.specs.Coded.{Coded}
+use Rattle.std.specs.Prelude.{◌≡◌, List, [], ◌∷◌, ℕ, ◌+◌, ◌-◌, ◌≤◌, ◌<◌, eqb, ltb, length, drop, Err, Ok, Result}
 use Rattle.base.specs.Pick.{pick}
 use Rattle.base.specs.Parsed.{Parsed, got, bad, bind, behind}
 use Rattle.base.specs.Moment.{end_of_time}
@@ -15,10 +17,6 @@ use Rattle.local_times.specs.Tally.{nothing, tally_of}
 use Rattle.local_times.specs.Instants.{candidate, of_list, tail_candidate, instants_of}
 use Rattle.local_times.specs.declared.Tally.{Tally}
 use Rattle.local_times.specs.declared.LocalScan.{LocalScan}
-use Rattle.local_times.specs.declared.LocalScanRead.{LocalScanRead}
-use Rattle.local_times.specs.declared.LocalScanRead.TheVariants.{Got, Refused as ScanRefused}
-use Rattle.local_times.specs.declared.LocalAnswer.{LocalAnswer}
-use Rattle.local_times.specs.declared.LocalAnswer.TheVariants.{Instants, Refused}
 
 -- one instant more, later than those before; 0 is none
 unfoldable pub counted : Tally → ℕ → Tally
@@ -45,9 +43,9 @@ scanned l is = scan_from l unscanned is
 unfoldable pub scan_of : ℕ → Parsed (List Interval) → Parsed LocalScan
 scan_of l p = bind p (λ is r. got (scanned l is) r)
 
-abbrev pub of_scan : LocalScanRead → Placed LocalScan
-of_scan (Got c e) = at c e
-of_scan (ScanRefused n) = no n
+abbrev pub of_scan : Coded LocalScan → Placed LocalScan
+of_scan (Ok (c, e)) = at c e
+of_scan (Err n) = no n
 
 -- the list ends at a moment
 unfoldable pub with_last : ℕ → LocalScan → ℕ → Tally
@@ -89,7 +87,7 @@ pub record IntervalsTo (pool l : ℕ) (s : List ℕ) (place : ℕ) (c : LocalSca
   pub few : c.tally.count ≤ 4096
   pub counts : (end : ℕ) → c.last < end → with_last l c end ≡ tally_of (of_list l end list)
 
--- the instants of what was read, or the number of the zone's fault
-abbrev pub answer_of : ℕ → Parsed Zone → LocalAnswer
-answer_of l (got z r) = Instants (tally_of (instants_of l z.body))
-answer_of l (bad n) = Refused n
+-- the instants of what was read, or the zone's fault
+abbrev pub answer_of : ℕ → Parsed Zone → Result Tally Refusal
+answer_of l (got z r) = Ok (tally_of (instants_of l z.body))
+answer_of l (bad n) = Err n

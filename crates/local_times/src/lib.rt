@@ -28,19 +28,6 @@ pub struct LocalScan {
     pub last: u64,
 }
 
-#[derive(Clone, Copy)]
-pub enum LocalScanRead {
-    Got(LocalScan, usize),
-    Refused(u8),
-}
-
-// The instants, or the number of the zone's fault.
-#[derive(Clone, Copy)]
-pub enum LocalAnswer {
-    Instants(Tally),
-    Refused(u8),
-}
-
 // The instant from start to before end that reads as the local time l at a wall offset, or 0, which is no instant.
 pub fn candidate(l: u64, wall: u64, start: u64, end: u64) -> u64
     requires { wall ≤ 172800000 }

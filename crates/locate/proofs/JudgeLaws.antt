@@ -1,4 +1,6 @@
 -- What a zone says by its ID and its check. Assumes nothing.
+use Rattle.base.specs.declared.Refusal.{Refusal}
+use Rattle.std.specs.Prelude.{Err, Ok}
 use mathlib.Core.Path.{◌≡◌, refl, sym, ap, ◌∙◌}
 use mathlib.Core.Bool.{true, false}
 use mathlib.Core.List.{List, []}
@@ -13,7 +15,6 @@ use Rattle.places.proofs.ValueLaws.{name-ok}
 use Rattle.zones.specs.Content.{Zone}
 use Rattle.zones.specs.Parse.{parse_zone}
 use Rattle.zones.specs.Lookup.{verdict_of}
-use Rattle.zones.specs.declared.ZoneVerdict.TheVariants.{Good, Refused}
 use Rattle.zones.proofs.SoundLaws.{zone-id, zone-bad}
 use Rattle.frames.specs.Machine.{bad as fault, keep}
 use Rattle.answers.specs.Answers.{Pool, pool_of}
@@ -31,13 +32,13 @@ module _ (count : ℕ) (s : List ℕ) (x : Placed ℕ) (h : Stands s (parse_name
   id_below z e f = name-ok count s z (drop e s) (name-is z e f)
 
   module _ (pool id : List ℕ) where
-    pub judged-unnamed : (n : ℕ) → x ≡ no n → JudgedAs id pool (parse_zone count s) (Fault n)
+    pub judged-unnamed : (n : Refusal) → x ≡ no n → JudgedAs id pool (parse_zone count s) (Fault n)
     judged-unnamed n f = record { means = λ start. rw (zone-bad count s n (h.means ∙ ap (view_placed s) f)) }
 
-    pub judged-fault : (n : ℕ) → Refused n ≡ verdict_of (parse_zone count s) → JudgedAs id pool (parse_zone count s) (Fault n)
+    pub judged-fault : (n : Refusal) → Err n ≡ verdict_of (parse_zone count s) → JudgedAs id pool (parse_zone count s) (Fault n)
     judged-fault n k = record { means = λ start. go (pool_of start pool) (parse_zone count s) k }
       where
-        go : (m : Pool) (p : Parsed Zone) → Refused n ≡ verdict_of p → zone_says held id m p ≡ fault n
+        go : (m : Pool) (p : Parsed Zone) → Err n ≡ verdict_of p → zone_says held id m p ≡ fault n
         go m (got w r) g = clash cc
         go m (bad k) g = let y : k ≡ n = cc in ap fault y
 
@@ -51,11 +52,11 @@ module _ (count : ℕ) (s : List ℕ) (x : Placed ℕ) (h : Stands s (parse_name
               rw j
           go m o (bad k) q = refl
 
-      pub judged-keep : (y : ℕ) → false ≡ equal (get_or (strings_of pool) z []) id → Good y ≡ verdict_of (parse_zone count s)
+      pub judged-keep : (y : ℕ) → false ≡ equal (get_or (strings_of pool) z []) id → Ok y ≡ verdict_of (parse_zone count s)
           → JudgedAs id pool (parse_zone count s) Keep
       judged-keep y n k = record { means = λ start. go (pool_of start pool) refl (parse_zone count s) refl k }
         where
-          go : (m : Pool) → strings_of m.body ≡ strings_of pool → (p : Parsed Zone) → parse_zone count s ≡ p → Good y ≡ verdict_of p → zone_says held id m p ≡ keep m
+          go : (m : Pool) → strings_of m.body ≡ strings_of pool → (p : Parsed Zone) → parse_zone count s ≡ p → Ok y ≡ verdict_of p → zone_says held id m p ≡ keep m
           go m o (got w r) q g =
               let j : equal (get_or (strings_of m.body) w.id []) id ≡ false = rw (o, zone-id count s w r z (drop e s) (name-is z e f) q) (sym n) in
               rw j

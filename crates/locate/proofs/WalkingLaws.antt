@@ -1,4 +1,5 @@
 -- Where the walk over the zones stands, and each way on from there. Assumes nothing.
+use Rattle.base.specs.declared.Refusal.{Refusal}
 use mathlib.Core.Path.{◌≡◌, refl, sym, ap, ◌∙◌, subst}
 use mathlib.Core.Bool.{true, false}
 use mathlib.Core.List.{List, []}
@@ -48,7 +49,7 @@ module _ (s : List ℕ) (version : version_frame 1 s ≡ Version) (f : Frame) (r
   pub pool-cut : f ≡ FrameCut → FirstOf s (FirstCut 4)
   pool-cut e = record { means = behind refl versioned (lent FrameCut e) }
 
-  pub pool-refused : (n : ℕ) → f ≡ FrameRefused n → FirstOf s (FirstRefused n 4)
+  pub pool-refused : (n : Refusal) → f ≡ FrameRefused n → FirstOf s (FirstRefused n 4)
   pool-refused n e = record { means = behind refl versioned (lent (FrameRefused n) e) }
 
   pub pool-version : {A : Type 0} → f ≡ Version → A
@@ -86,7 +87,7 @@ module _ (s : List ℕ) where
   pub first-cut : FrameCut ≡ frame 1 0 false 0 s → FirstOf s (FirstCut 0)
   first-cut e = record { means = ahead refl (front FrameCut e) }
 
-  pub first-refused : (n : ℕ) → FrameRefused n ≡ frame 1 0 false 0 s → FirstOf s (FirstRefused n 0)
+  pub first-refused : (n : Refusal) → FrameRefused n ≡ frame 1 0 false 0 s → FirstOf s (FirstRefused n 0)
   first-refused n e = record { means = ahead refl (front (FrameRefused n) e) }
 
 -- the walk over the zones
@@ -112,7 +113,7 @@ module _ (id : List ℕ) (s : List ℕ) (start end : ℕ) where
     pub walking-cut : f ≡ FrameCut → LocatedAs s m whole (Cut at)
     walking-cut e = record { means = w.goes ∙ at_cut (holder id) s at true prev m w.inside f read e }
 
-    pub walking-refused : (n : ℕ) → f ≡ FrameRefused n → LocatedAs s m whole (Refused n at)
+    pub walking-refused : (n : Refusal) → f ≡ FrameRefused n → LocatedAs s m whole (Refused n at)
     walking-refused n e = record { means = w.goes ∙ at-refused (holder id) s at true prev m w.inside f read n e }
 
     pub walking-version : {A : Type 0} → f ≡ Version → A
@@ -154,7 +155,7 @@ module _ (id : List ℕ) (s : List ℕ) (start end : ℕ) where
             go (got z r) k = at-answer (holder id) s at true prev m w.inside f read i h n e (held m z) k
             go (bad l) k = at-bad (holder id) s at true prev m w.inside f read i h n e l k
 
-        pub walking-fault : (l : ℕ) → j ≡ Fault l → LocatedAs s m whole (Refused l at)
+        pub walking-fault : (l : Refusal) → j ≡ Fault l → LocatedAs s m whole (Refused l at)
         walking-fault l o =
             record { means = w.goes ∙ at-bad (holder id) s at true prev m w.inside f read i h n e l (zone-says ∙ judged (Fault l) o) }
 
@@ -167,7 +168,7 @@ module _ (id : List ℕ) (s : List ℕ) (start end : ℕ) where
 
 -- field 0 itself
 module _ (id s : List ℕ) (a e : ℕ) (p : Parsed (List (List ℕ))) where
-  pub pool-fault : (n : ℕ) → p ≡ bad n → LocatedAs s (pool_at s a e) (by_pool id s a e p) (Refused n 4)
+  pub pool-fault : (n : Refusal) → p ≡ bad n → LocatedAs s (pool_at s a e) (by_pool id s a e p) (Refused n 4)
   unfolding by_pool
   pool-fault n k = record { means = rw k }
 
@@ -184,7 +185,7 @@ module _ {s : List ℕ} {m : Pool} {o : Out Pool Held} {r : Located} (h : Locate
   pub located-found : (v : Spot) → r ≡ Found v → Spotted s m o v
   located-found v e = located-is (Found v) e
 
-  pub located-refused : (n p : ℕ) → r ≡ Refused n p → o ≡ refused n p
+  pub located-refused : (n : Refusal) (p : ℕ) → r ≡ Refused n p → o ≡ refused n p
   located-refused n p e = located-is (Refused n p) e
 
   pub located-cut : (p : ℕ) → r ≡ Cut p → o ≡ cut p
@@ -215,7 +216,7 @@ module _ {s : List ℕ} {r : First} (h : FirstOf s r) where
   first-pool a e k = first-is (Pooled a e) k
 
   module _ {M A : Type 0} (J : Job M A) (m : M) where
-    pub first-fault : (n p : ℕ) → r ≡ FirstRefused n p → walk J m s ≡ refused n p
+    pub first-fault : (n : Refusal) (p : ℕ) → r ≡ FirstRefused n p → walk J m s ≡ refused n p
     first-fault n p k = go (first-is (FirstRefused n p) k)
       where
         go : StopsAt s (FrameRefused n) p → walk J m s ≡ refused n p
@@ -246,7 +247,7 @@ module _ {s : List ℕ} {a e : ℕ} (p : PoolAt s a e) {M A : Type 0} (J : Job M
       let w : 4 + (p.head + p.size) ≡ 4 + p.head + p.size = omega arith in
       rw (p.start_is, p.end_is, w, body-part s 4 p.head p.size)
 
-  pub pool-bad : (k : ℕ) → J.content m pool_field ≡ fault k → walk J m s ≡ refused k 4
+  pub pool-bad : (k : Refusal) → J.content m pool_field ≡ fault k → walk J m s ≡ refused k 4
   pool-bad k c =
       front-version J m s (sym (p.version-is J.last))
       ∙ from-bad J 4 (drop 4 s) false 0 m 0 p.head p.size (sym (p.pool-is J.last)) k (ap (J.content m) field_is ∙ c)

@@ -3,6 +3,8 @@
 // first_fields and asked_zones.
 #![tactic(auto)]
 
+use base::Refusal;
+
 // The field of the asked zone: the place of its ID byte, where its data start and end, and how many strings the pool has.
 #[derive(Clone, Copy)]
 pub struct Spot {
@@ -16,7 +18,7 @@ pub struct Spot {
 #[derive(Clone, Copy)]
 pub enum Located {
     Found(Spot),
-    Refused(u8, usize),
+    Refused(Refusal, usize),
     Cut(usize),
     End(usize),
 }
@@ -25,15 +27,15 @@ pub enum Located {
 #[derive(Clone, Copy)]
 pub enum First {
     Pool(usize, usize),
-    Refused(u8, usize),
+    Refused(Refusal, usize),
     Cut(usize),
     End(usize),
 }
 
-// What a zone says by its ID: it is the asked one, or another, or the number of its fault.
+// What a zone says by its ID: it is the asked one, or another, or its fault.
 #[derive(Clone, Copy)]
 pub enum Judged {
     Here,
     Keep,
-    Fault(u8),
+    Fault(Refusal),
 }

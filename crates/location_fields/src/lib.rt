@@ -6,8 +6,9 @@ ghost use Rattle.signed.specs.Zigzag.{unzigzag_of};
 ghost use Rattle.pins.specs.Degrees.{pin_of};
 ghost use Rattle.location_lookup.specs.Location.{located_at, in_field};
 
-use location_lookup::{Located, LocationAnswer};
-use locations::{LocationField, Sought, Spot};
+use base::{Fault, Refusal};
+use location_lookup::Located;
+use locations::{LocationField, Spot};
 use pins::Pin;
 
 // The pin of seconds as signed counts have them.
@@ -49,14 +50,14 @@ pub fn in_field(
     e: usize,
     field: LocationField,
     number: u64,
-) -> LocationAnswer
+) -> Result<Located, Fault>
     ensures { result ≡ in_field s.now b c p a e field number }
 {
     let count = pool::room(location_lookup::lent(s, b, c));
     let found = location_reads::find(location_lookup::lent(s, a, e), field, count as u64, number);
     match found {
-        Sought::Here(x) => LocationAnswer::Here(locate(s, b, c, a, e, x)),
-        Sought::Beyond => LocationAnswer::Refused(12, p),
-        Sought::Refused(k) => LocationAnswer::Refused(k, p),
+        Ok(Some(x)) => Ok(locate(s, b, c, a, e, x)),
+        Ok(None) => Err((Refusal::NotFound, p)),
+        Err(k) => Err((k, p)),
     }
 }

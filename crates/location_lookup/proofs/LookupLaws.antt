@@ -1,4 +1,10 @@
 -- Each way out of the lookup. Assumes nothing.
+use Rattle.base.specs.declared.Refusal.{Refusal}
+use Rattle.std.specs.declared.option.Option.{Option}
+use Rattle.base.specs.declared.Refusal.TheVariants.{NotFound}
+use Rattle.std.specs.declared.option.Option.TheVariants.{None, Some}
+use Rattle.base.specs.Coded.{Fault}
+use Rattle.std.specs.Prelude.{Err, Ok, Result}
 use mathlib.Core.Path.{◌≡◌, refl, sym, ap, ◌∙◌}
 use mathlib.Core.Bool.{Bool, true, false}
 use mathlib.Core.Logic.{◌⊎◌, inl, inr}
@@ -24,23 +30,14 @@ use Rattle.locations.specs.Find.{sought_of}
 use Rattle.locations.proofs.SoundLaws.{sought-sound}
 use Rattle.locations.specs.declared.LocationField.{LocationField}
 use Rattle.locations.specs.declared.Spot.{Spot}
-use Rattle.locations.specs.declared.Sought.{Sought}
-use Rattle.locations.specs.declared.Sought.TheVariants.{Here as There, Beyond, Refused as Unread}
 use Rattle.countries.specs.Step.{step_at}
-use Rattle.countries.specs.declared.Item.TheVariants.{Country as Named, NoMore as NoItem}
 use Rattle.countries.specs.declared.Stepped.{Stepped}
 use Rattle.field_search.specs.Search.{field_place}
-use Rattle.field_search.specs.declared.FieldPlace.{FieldPlace}
-use Rattle.field_search.specs.declared.FieldPlace.TheVariants.{At, Nowhere}
 use Rattle.field_checks.specs.Check.{check_of}
-use Rattle.field_checks.specs.declared.Verdict.TheVariants.{Good, Refused as Ill}
 use Rattle.location_lookup.specs.Location.{lent_part, text_in, located_at, answer_in, in_field, by_fields, in_file, by_check, location_of}
 use Rattle.location_lookup.specs.Country.{no_bytes, pair_by, pair_of, next_by, next_of}
 use Rattle.location_lookup.specs.declared.Located.{Located}
-use Rattle.location_lookup.specs.declared.LocationAnswer.{LocationAnswer}
-use Rattle.location_lookup.specs.declared.LocationAnswer.TheVariants.{Here, Refused}
 use Rattle.location_lookup.specs.declared.Pair.{Pair}
-use Rattle.location_lookup.specs.declared.NextPair.TheVariants.{Given, NoMore}
 
 -- a part of the bytes
 module _ (f : List ℕ) (a e : ℕ) where
@@ -100,60 +97,60 @@ unfolding located_at
 located-is f b c a e x pin zone comment h i j = rw (h, i, j)
 
 -- the field
-module _ (f : List ℕ) (b c p a e : ℕ) (field : LocationField) (number : ℕ) (found : Sought) (pool d : List ℕ) (count : ℕ) (lent : d ≡ lent_part f a e)
+module _ (f : List ℕ) (b c p a e : ℕ) (field : LocationField) (number : ℕ) (found : Result (Option Spot) Refusal) (pool d : List ℕ) (count : ℕ) (lent : d ≡ lent_part f a e)
     (lent-pool : pool ≡ lent_part f b c) (counts : count ≡ room_of pool) (finds : found ≡ sought_of d number (parse_locations field count d)) where
   sought-is : found ≡ sought_of (lent_part f a e) number (parse_locations field (room_of (lent_part f b c)) (lent_part f a e))
   sought-is = finds ∙ rw (counts, lent-pool, lent)
 
-  pub field-sound : (x : Spot) → found ≡ There x → (x.latitude ≤ 648000) × (x.longitude ≤ 1296000)
+  pub field-sound : (x : Spot) → found ≡ Ok (Some x) → (x.latitude ≤ 648000) × (x.longitude ≤ 1296000)
   field-sound x q = sought-sound field count d number x (sym q ∙ finds)
 
-  pub field-here : (x : Spot) (y : Located) → found ≡ There x → y ≡ located_at f b c a e x → Here y ≡ in_field f b c p a e field number
+  pub field-here : (x : Spot) (y : Located) → found ≡ Ok (Some x) → y ≡ located_at f b c a e x → Ok y ≡ in_field f b c p a e field number
   unfolding in_field
-  field-here x y q h = ap Here h ∙ ap (answer_in f b c p a e) (sym q ∙ sought-is)
+  field-here x y q h = ap Ok h ∙ ap (answer_in f b c p a e) (sym q ∙ sought-is)
 
-  pub field-beyond : found ≡ Beyond → Refused 12 p ≡ in_field f b c p a e field number
+  pub field-beyond : found ≡ Ok None → Err (NotFound, p) ≡ in_field f b c p a e field number
   unfolding in_field
   field-beyond q = ap (answer_in f b c p a e) (sym q ∙ sought-is)
 
-  pub field-bad : (k : ℕ) → found ≡ Unread k → Refused k p ≡ in_field f b c p a e field number
+  pub field-bad : (k : Refusal) → found ≡ Err k → Err (k, p) ≡ in_field f b c p a e field number
   unfolding in_field
   field-bad k q = ap (answer_in f b c p a e) (sym q ∙ sought-is)
 
 -- the file
 module _ (f : List ℕ) (field : LocationField) (number : ℕ) where
-  pub file-no-pool : Nowhere ≡ field_place 0 f → Refused 12 (length f) ≡ in_file f field number
+  pub file-no-pool : None ≡ field_place 0 f → Err (NotFound, length f) ≡ in_file f field number
   unfolding in_file
-  file-no-pool q = ap (λ (x : FieldPlace). by_fields f field number x (field_place (id_of field) f)) q
+  file-no-pool q = ap (λ (x : Option (ℕ × ℕ × ℕ)). by_fields f field number x (field_place (id_of field) f)) q
 
-  module _ (z b c : ℕ) (pool : At z b c ≡ field_place 0 f) (i : ℕ) (is : i ≡ id_of field) where
-    pub file-no-field : Nowhere ≡ field_place i f → Refused 12 (length f) ≡ in_file f field number
+  module _ (z b c : ℕ) (pool : Some (z, b, c) ≡ field_place 0 f) (i : ℕ) (is : i ≡ id_of field) where
+    pub file-no-field : None ≡ field_place i f → Err (NotFound, length f) ≡ in_file f field number
     unfolding in_file
     file-no-field q =
-        ap (by_fields f field number (At z b c)) (q ∙ ap (λ (j : ℕ). field_place j f) is)
-        ∙ ap (λ (x : FieldPlace). by_fields f field number x (field_place (id_of field) f)) pool
+        ap (by_fields f field number (Some (z, b, c))) (q ∙ ap (λ (j : ℕ). field_place j f) is)
+        ∙ ap (λ (x : Option (ℕ × ℕ × ℕ)). by_fields f field number x (field_place (id_of field) f)) pool
 
-    pub file-field : (p a e : ℕ) (r : LocationAnswer) → At p a e ≡ field_place i f → r ≡ in_field f b c p a e field number → r ≡ in_file f field number
+    pub file-field : (p a e : ℕ) (r : Result Located Fault) → Some (p, a, e) ≡ field_place i f → r ≡ in_field f b c p a e field number → r ≡ in_file f field number
     unfolding in_file
     file-field p a e r q h =
-        h ∙ ap (by_fields f field number (At z b c)) (q ∙ ap (λ (j : ℕ). field_place j f) is)
-        ∙ ap (λ (x : FieldPlace). by_fields f field number x (field_place (id_of field) f)) pool
+        h ∙ ap (by_fields f field number (Some (z, b, c))) (q ∙ ap (λ (j : ℕ). field_place j f) is)
+        ∙ ap (λ (x : Option (ℕ × ℕ × ℕ)). by_fields f field number x (field_place (id_of field) f)) pool
 
-  pub checked-ill : (n p : ℕ) → Ill n p ≡ check_of f → Refused n p ≡ location_of f field number
+  pub checked-ill : (n : Refusal) (p : ℕ) → Err (n, p) ≡ check_of f → Err (n, p) ≡ location_of f field number
   unfolding location_of
   checked-ill n p q = ap (by_check f field number) q
 
-  pub checked-good : (r : LocationAnswer) → Good ≡ check_of f → r ≡ in_file f field number → r ≡ location_of f field number
+  pub checked-good : (r : Result Located Fault) → Ok tt ≡ check_of f → r ≡ in_file f field number → r ≡ location_of f field number
   unfolding location_of
   checked-good r q h = h ∙ ap (by_check f field number) q
 
 -- the view
 module _ (f : List ℕ) (name code at left : ℕ) where
-  pub pair-nowhere : Nowhere ≡ field_place 0 f → record { name = no_bytes; code = no_bytes; at = at; left = left } ≡ pair_of f name code at left
+  pub pair-nowhere : None ≡ field_place 0 f → record { name = no_bytes; code = no_bytes; at = at; left = left } ≡ pair_of f name code at left
   unfolding pair_of
   pair-nowhere q = ap (pair_by f name code at left) q
 
-  pub pair-here : (z b c : ℕ) (x y : Span) → At z b c ≡ field_place 0 f → x ≡ text_in f b c name → y ≡ text_in f b c code
+  pub pair-here : (z b c : ℕ) (x y : Span) → Some (z, b, c) ≡ field_place 0 f → x ≡ text_in f b c name → y ≡ text_in f b c code
       → record { name = x; code = y; at = at; left = left } ≡ pair_of f name code at left
   unfolding pair_of
   pair-here z b c x y q h i = rw (h, i) (ap (pair_by f name code at left) q)
@@ -162,11 +159,11 @@ module _ (f : List ℕ) (start end at left : ℕ) (d : List ℕ) (x : Stepped) (
   step_is : x ≡ step_at (lent_part f start end) at left
   step_is = steps ∙ rw lent
 
-  pub next-none : x.item ≡ NoItem → NoMore ≡ next_of f start end at left
+  pub next-none : x.item ≡ None → None ≡ next_of f start end at left
   unfolding next_of
   next-none q = ap (next_by f x.at x.left) (sym q) ∙ ap (λ (y : Stepped). next_by f y.at y.left y.item) step_is
 
-  pub next-given : (name code : ℕ) (y : Pair) → x.item ≡ Named name code → y ≡ pair_of f name code x.at x.left → Given y ≡ next_of f start end at left
+  pub next-given : (name code : ℕ) (y : Pair) → x.item ≡ Some (name, code) → y ≡ pair_of f name code x.at x.left → Some y ≡ next_of f start end at left
   unfolding next_of
   next-given name code y q h =
-      ap Given h ∙ ap (next_by f x.at x.left) (sym q) ∙ ap (λ (y : Stepped). next_by f y.at y.left y.item) step_is
+      ap Some h ∙ ap (next_by f x.at x.left) (sym q) ∙ ap (λ (y : Stepped). next_by f y.at y.left y.item) step_is

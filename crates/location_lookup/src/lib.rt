@@ -21,13 +21,6 @@ pub struct Located {
     pub left: usize,
 }
 
-#[derive(Clone, Copy)]
-pub enum LocationAnswer {
-    Here(Located),
-    // The number and the place of a refusal.
-    Refused(u8, usize),
-}
-
 // The places and lengths of a country's name and code in the lent bytes, and where the view stands behind it.
 #[derive(Clone, Copy)]
 pub struct Pair {
@@ -35,12 +28,6 @@ pub struct Pair {
     pub code: Span,
     pub at: usize,
     pub left: usize,
-}
-
-#[derive(Clone, Copy)]
-pub enum NextPair {
-    Given(Pair),
-    NoMore,
 }
 
 // The bytes from a to e; none where they are not all there.

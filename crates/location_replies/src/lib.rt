@@ -4,15 +4,16 @@
 ghost use Rattle.location_replies.specs.Locations.{GivesLocation, GivesCountry};
 ghost use Rattle.location_replies.specs.Small.{SmallLocation};
 
-use location_lookup::{LocationAnswer, NextPair};
+use base::Fault;
+use location_lookup::{Located, Pair};
 
 // The pin, the texts and the view of a location.
-pub fn give_location(a: LocationAnswer, pin: &mut [f64; 2], out: &mut [u64; 8]) -> u64
+pub fn give_location(a: Result<Located, Fault>, pin: &mut [f64; 2], out: &mut [u64; 8]) -> u64
     requires { SmallLocation a }
     ensures { GivesLocation a pin.old out.old result pin.new out.new }
 {
     match a {
-        LocationAnswer::Here(x) => {
+        Ok(x) => {
             let p = x.pin;
             let zone = x.zone;
             let comment = x.comment;
@@ -29,13 +30,13 @@ pub fn give_location(a: LocationAnswer, pin: &mut [f64; 2], out: &mut [u64; 8]) 
             ];
             0
         }
-        LocationAnswer::Refused(n, p) => replies::refusal(n, p),
+        Err((n, p)) => replies::refusal(n, p),
     }
 }
 
 // The texts of a country, and the view behind it.
 pub fn give_country(
-    x: NextPair,
+    x: Option<Pair>,
     start: u64,
     end: u64,
     view: &mut [u64; 4],
@@ -44,8 +45,8 @@ pub fn give_country(
     ensures { GivesCountry x start end view.old out.old result view.new out.new }
 {
     match x {
-        NextPair::NoMore => false,
-        NextPair::Given(p) => {
+        None => false,
+        Some(p) => {
             let name = p.name;
             let code = p.code;
             *view = [start, end, p.at as u64, p.left as u64];

@@ -1,4 +1,9 @@
 -- The walk over the locations of a field. Assumes nothing.
+use Rattle.base.specs.declared.Refusal.{Refusal}
+use Rattle.std.specs.declared.option.Option.{Option}
+use Rattle.std.specs.declared.option.Option.TheVariants.{None, Some}
+use Rattle.std.specs.Prelude.{Err, Ok, Result}
+use Rattle.base.specs.declared.Refusal.TheVariants.{BadData}
 use mathlib.Core.Path.{◌≡◌, refl, sym, ap, ◌∙◌}
 use mathlib.Core.Bool.{Bool, true, false}
 use mathlib.Core.List.{List, [], ◌∷◌, ◌++◌}
@@ -18,9 +23,6 @@ use Rattle.locations.specs.Content.{Location, no_state, parse_location, all_loca
 use Rattle.locations.specs.Find.{spot_of, numbered, sought_of, verdict_of, spots_of, kept_by}
 use Rattle.locations.specs.declared.Spot.{Spot}
 use Rattle.locations.specs.declared.LocationField.{LocationField}
-use Rattle.locations.specs.declared.Sought.{Sought}
-use Rattle.locations.specs.declared.Sought.TheVariants.{Here, Beyond, Refused}
-use Rattle.locations.specs.declared.FieldVerdict.TheVariants.{Good, Refused as Ill}
 use Rattle.base.proofs.Tests.{clash}
 
 eqb-suc : (a b : ℕ) → eqb a b ≡ eqb (suc a) (suc b)
@@ -37,9 +39,9 @@ unfolding numbered
 numbered-snoc s zero [] l = refl
 numbered-snoc s (suc n) [] l = rw (ne_eqb 0 (suc n) (λ e. omega arith))
 numbered-snoc s zero (m ∷ pre) l = rw (ne_eqb (suc (length pre)) 0 (λ e. omega arith))
-numbered-snoc s (suc n) (m ∷ pre) l = numbered-snoc s n pre l ∙ ap (λ (t : Bool). pick t (Here (spot_of s l)) (numbered s n pre)) (eqb-suc (length pre) n)
+numbered-snoc s (suc n) (m ∷ pre) l = numbered-snoc s n pre l ∙ ap (λ (t : Bool). pick t (Ok (Some (spot_of s l))) (numbered s n pre)) (eqb-suc (length pre) n)
 
-spot-bad : (s : List ℕ) (p : Parsed Location) (k : ℕ) → spots_of s p ≡ bad k → p ≡ bad k
+spot-bad : (s : List ℕ) (p : Parsed Location) (k : Refusal) → spots_of s p ≡ bad k → p ≡ bad k
 unfolding spots_of
 spot-bad s (got l r) k e = bad-got (sym e)
 spot-bad s (bad j) k e = let z : j ≡ k = cc in ap bad z
@@ -54,24 +56,24 @@ module _ (field : LocationField) (pool : ℕ) (s : List ℕ) (from n number : �
   whole = all_locations field pool n (drop from s)
 
   -- i of n locations are read, up to `place`, and `found` is kept of them
-  pub record Seeking (i place : ℕ) (found : Sought) : Type 0 where
+  pub record Seeking (i place : ℕ) (found : Result (Option Spot) Refusal) : Type 0 where
     pub pre : List Location
     pub going : Going (parse_location field pool) no_state whole ended s tt n (n - i) place tt pre
     pub count : length pre ≡ i
     pub keeps : found ≡ numbered s number pre
 
-  pub seeking-start : from ≤ length s → Seeking 0 from Beyond
+  pub seeking-start : from ≤ length s → Seeking 0 from (Ok None)
   unfolding all_locations numbered
   seeking-start h =
       let z : n - 0 ≡ n = omega arith in
       record { pre = []; going = rw z (going_start _ _ _ _ s _ n from h refl); count = refl; keeps = refl }
 
-  module _ (i place : ℕ) (found : Sought) (g : Seeking i place found) where
+  module _ (i place : ℕ) (found : Result (Option Spot) Refusal) (g : Seeking i place found) where
     pub seeking-in : place ≤ length s
     seeking-in = g.going.place
 
     module _ (h : i < n) where
-      pub seeking-bad : (k : ℕ) → Stands s (spots_of s (parse_location field pool tt (drop place s))) (no k) → Refused k ≡ sought_of s number whole
+      pub seeking-bad : (k : Refusal) → Stands s (spots_of s (parse_location field pool tt (drop place s))) (no k) → Err k ≡ sought_of s number whole
       unfolding sought_of
       seeking-bad k b =
           rw (going-bad _ _ _ _ s _ n (n - i) place tt g.pre k g.going (omega arith) (spot-bad s _ k b.means))
@@ -93,7 +95,7 @@ module _ (field : LocationField) (pool : ℕ) (s : List ℕ) (from n number : �
       done : whole ≡ ended g.pre (drop place s)
       done = going_done _ _ _ _ s _ n (n - i) place tt g.pre g.going (omega arith)
 
-      pub seeking-over : place < length s → Refused 9 ≡ sought_of s number whole
+      pub seeking-over : place < length s → Err BadData ≡ sought_of s number whole
       unfolding sought_of
       seeking-over l = rw (done, ended-over g.pre s place l)
 
@@ -111,41 +113,41 @@ locations-end field pool s ls r e =
 
 -- the check, by what asking for any location gives
 module _ (s : List ℕ) (number : ℕ) (p : Parsed (List Location)) where
-  numbered-never : (k n : ℕ) (ls : List Location) → Refused k ≡ numbered s n ls → ⊥
+  numbered-never : (k : Refusal) (n : ℕ) (ls : List Location) → Err k ≡ numbered s n ls → ⊥
   unfolding numbered
   numbered-never k n [] e = clash cc
   numbered-never k zero (l ∷ ls) e = clash cc
   numbered-never k (suc n) (l ∷ ls) e = numbered-never k n ls e
 
-  pub verdict-ill : (k : ℕ) → Refused k ≡ sought_of s number p → Ill k ≡ verdict_of p
+  pub verdict-ill : (k : Refusal) → Err k ≡ sought_of s number p → Err k ≡ verdict_of p
   unfolding sought_of verdict_of
   verdict-ill k e = go p e
     where
-      go : (p : Parsed (List Location)) → Refused k ≡ sought_of s number p → Ill k ≡ verdict_of p
+      go : (p : Parsed (List Location)) → Err k ≡ sought_of s number p → Err k ≡ verdict_of p
       go (got ls r) e = absurd (numbered-never k number ls e)
-      go (bad j) e = let z : k ≡ j = cc in ap Ill z
+      go (bad j) e = let z : k ≡ j = cc in ap Err z
 
-  pub verdict-here : (x : Spot) → Here x ≡ sought_of s number p → Good ≡ verdict_of p
+  pub verdict-here : (x : Spot) → Ok (Some x) ≡ sought_of s number p → Ok tt ≡ verdict_of p
   unfolding sought_of verdict_of
   verdict-here x e = go p e
     where
-      go : (p : Parsed (List Location)) → Here x ≡ sought_of s number p → Good ≡ verdict_of p
+      go : (p : Parsed (List Location)) → Ok (Some x) ≡ sought_of s number p → Ok tt ≡ verdict_of p
       go (got ls r) e = refl
       go (bad j) e = clash cc
 
-  pub verdict-beyond : Beyond ≡ sought_of s number p → Good ≡ verdict_of p
+  pub verdict-beyond : Ok None ≡ sought_of s number p → Ok tt ≡ verdict_of p
   unfolding sought_of verdict_of
   verdict-beyond e = go p e
     where
-      go : (p : Parsed (List Location)) → Beyond ≡ sought_of s number p → Good ≡ verdict_of p
+      go : (p : Parsed (List Location)) → Ok None ≡ sought_of s number p → Ok tt ≡ verdict_of p
       go (got ls r) e = refl
       go (bad j) e = clash cc
 
 -- by what was read first
 module _ (s : List ℕ) (number : ℕ) (p : Parsed (List Location)) where
-  pub sought-bad : (k : ℕ) → p ≡ bad k → Refused k ≡ sought_of s number p
+  pub sought-bad : (k : Refusal) → p ≡ bad k → Err k ≡ sought_of s number p
   unfolding sought_of
   sought-bad k e = rw e
 
-  pub sought-on : (q : Parsed (List Location)) (r : Sought) → p ≡ q → r ≡ sought_of s number q → r ≡ sought_of s number p
+  pub sought-on : (q : Parsed (List Location)) (r : Result (Option Spot) Refusal) → p ≡ q → r ≡ sought_of s number q → r ≡ sought_of s number p
   sought-on q r e h = h ∙ ap (sought_of s number) (sym e)

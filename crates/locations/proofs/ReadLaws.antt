@@ -1,4 +1,6 @@
 -- Each way out of the readers of a location. Assumes nothing.
+use Rattle.base.specs.declared.Refusal.TheVariants.{BadLocation}
+use Rattle.base.specs.declared.Refusal.{Refusal}
 use mathlib.Core.Path.{◌≡◌, refl, sym, ap, ◌∙◌}
 use mathlib.Core.Bool.{Bool, true, false}
 use mathlib.Core.List.{List, [], ◌∷◌, ◌++◌}
@@ -57,17 +59,17 @@ module _ (s : List ℕ) (v : ℕ) where
   unfolding judge_seconds
   seconds-in most e h w = rw (within-yes most v h) (here s v v e refl w)
 
-  pub seconds-out : (most : ℕ) (r : List ℕ) → 2 * most < v → Stands s (judge_seconds most v r) (no 20)
+  pub seconds-out : (most : ℕ) (r : List ℕ) → 2 * most < v → Stands s (judge_seconds most v r) (no BadLocation)
   unfolding judge_seconds
-  seconds-out most r h = rw (within-no most v h) (refuse s 20)
+  seconds-out most r h = rw (within-no most v h) (refuse s BadLocation)
 
   pub number-in : (e : ℕ) → v % 2 ≡ 0 → e ≤ length s → Stands s (judge_number v (drop e s)) (at (v / 2) e)
   unfolding judge_number not_negative
   number-in e h w = rw (unzigzag-even v h) (here s (v / 2) (v / 2) e refl w)
 
-  pub number-out : (r : List ℕ) → (v % 2 ≡ 0 → ⊥) → Stands s (judge_number v r) (no 20)
+  pub number-out : (r : List ℕ) → (v % 2 ≡ 0 → ⊥) → Stands s (judge_number v r) (no BadLocation)
   unfolding judge_number not_negative
-  number-out r h = rw (unzigzag-odd v h) (refuse s 20)
+  number-out r h = rw (unzigzag-odd v h) (refuse s BadLocation)
 
 pub number-one : (f : LocationField) (s : List ℕ) (p : ℕ) → f ≡ Zone → p ≤ length s → Stands s (parse_number f (drop p s)) (at 1 p)
 unfolding parse_number
@@ -96,7 +98,7 @@ module _ (pool : ℕ) (s : List ℕ) (from n : ℕ) where
     counting-in = g.going.place
 
     module _ (h : 0 < left) where
-      pub counting-bad : (k : ℕ) → Stands s (parse_country pool tt (drop place s)) (no k) → Stands s whole (no k)
+      pub counting-bad : (k : Refusal) → Stands s (parse_country pool tt (drop place s)) (no k) → Stands s whole (no k)
       counting-bad k b = record { means = going-bad _ _ _ _ s _ n left place tt g.pre k g.going h b.means; within = tt }
 
       pub counting-next : (c : Country) (e : ℕ) → Stands s (parse_country pool tt (drop place s)) (at c e) → Counting (left - 1) e
@@ -124,13 +126,13 @@ module _ {A : Type 0} {s : List ℕ} {p : Parsed A} {x : Placed A} (h : Stands s
   pub on-spot : (a : A) (e : ℕ) (y : Placed Spot) → x ≡ at a e → Stands s (spots_of s (k a (drop e s))) y → Stands s (spots_of s (bind p k)) y
   on-spot a e y f g = rw (then-got h k a e f) g
 
-  pub off-spot : (n : ℕ) → x ≡ no n → Stands s (spots_of s (bind p k)) (no n)
+  pub off-spot : (n : Refusal) → x ≡ no n → Stands s (spots_of s (bind p k)) (no n)
   unfolding spots_of
   off-spot n f = record { means = rw (then-bad h k n f); within = tt }
 
 -- the same behind countries of which their number is known
 module _ {s : List ℕ} (p : Parsed (List Country)) {x : Placed ℕ} (h : Stands s (how_many p) x) (k : List Country → List ℕ → Parsed Location) where
-  pub off-counted : (n : ℕ) → x ≡ no n → Stands s (spots_of s (bind p k)) (no n)
+  pub off-counted : (n : Refusal) → x ≡ no n → Stands s (spots_of s (bind p k)) (no n)
   unfolding spots_of how_many
   off-counted n f = go p (h.means ∙ rw f)
     where

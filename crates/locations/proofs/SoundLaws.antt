@@ -1,8 +1,11 @@
 -- The ranges of what is read from fields 6 and 7. Assumes nothing.
+use Rattle.std.specs.declared.option.Option.TheVariants.{Some}
+use Rattle.std.specs.Prelude.{Ok}
 use mathlib.Core.Path.{◌≡◌, refl}
 use mathlib.Core.Bool.{true}
 use mathlib.Core.List.{List, [], ◌∷◌}
 use Prim.Native.Nat.{ℕ, zero, suc, ◌*◌, ◌≤◌}
+use Rattle.base.specs.declared.Refusal.TheVariants.{BadLocation}
 use Rattle.base.specs.All.{All, all_none, all-also}
 use Rattle.base.specs.Parsed.{Parsed, got, bad, parse, ended, many, prepend}
 use Rattle.base.proofs.AllLaws.{all_head, all_tail}
@@ -17,14 +20,13 @@ use Rattle.locations.specs.Find.{spot_of, numbered, sought_of}
 use Rattle.locations.specs.Sound.{Ranged}
 use Rattle.locations.specs.declared.LocationField.{LocationField}
 use Rattle.locations.specs.declared.Spot.{Spot}
-use Rattle.locations.specs.declared.Sought.TheVariants.{Here}
 use Rattle.locations.proofs.ReadLaws.{within-no}
 
 seconds-sound : (most : ℕ) (s : List ℕ) (v : ℕ) (r : List ℕ) → parse_seconds most s ≡ got v r → within most (unzigzag_of v) ≡ true
 unfolding parse_seconds judge_seconds
 seconds-sound most s v r e =
     let x = bind-good (parse read_zigzag s) (judge_seconds most) v r e in
-    let y = pick_good (within most (unzigzag_of x.first)) (got x.first x.rest) 20 v r x.on in
+    let y = pick_good (within most (unzigzag_of x.first)) (got x.first x.rest) BadLocation v r x.on in
     let z : x.first ≡ v = got-value y.1 in
     rw z at y.0
 
@@ -62,7 +64,7 @@ locations-sound field pool s ls r e =
 within-most : (most v : ℕ) → within most (unzigzag_of v) ≡ true → v ≤ 2 * most
 within-most most v h = by_order (2 * most) v (λ l. never h (within-no most v l)) (λ l. l)
 
-numbered-sound : (s : List ℕ) (number : ℕ) (ls : List Location) (x : Spot) → All Ranged ls → Here x ≡ numbered s number ls
+numbered-sound : (s : List ℕ) (number : ℕ) (ls : List Location) (x : Spot) → All Ranged ls → Ok (Some x) ≡ numbered s number ls
     → (x.latitude ≤ 648000) × (x.longitude ≤ 1296000)
 unfolding numbered
 numbered-sound s number [] x a e = clash cc
@@ -71,12 +73,12 @@ numbered-sound s zero (l ∷ ls) x a e =
     rw z (within-most 324000 l.latitude (all_head a).latitude-ok, within-most 648000 l.longitude (all_head a).longitude-ok)
 numbered-sound s (suc n) (l ∷ ls) x a e = numbered-sound s n ls x (all_tail a) e
 
-pub sought-sound : (field : LocationField) (pool : ℕ) (s : List ℕ) (number : ℕ) (x : Spot) → Here x ≡ sought_of s number (parse_locations field pool s)
+pub sought-sound : (field : LocationField) (pool : ℕ) (s : List ℕ) (number : ℕ) (x : Spot) → Ok (Some x) ≡ sought_of s number (parse_locations field pool s)
     → (x.latitude ≤ 648000) × (x.longitude ≤ 1296000)
 unfolding sought_of
 sought-sound field pool s number x e = go (parse_locations field pool s) (locations-sound field pool s) e
   where
-    go : (p : Parsed (List Location)) → ((ls : List Location) (r : List ℕ) → p ≡ got ls r → All Ranged ls) → Here x ≡ sought_of s number p
+    go : (p : Parsed (List Location)) → ((ls : List Location) (r : List ℕ) → p ≡ got ls r → All Ranged ls) → Ok (Some x) ≡ sought_of s number p
         → (x.latitude ≤ 648000) × (x.longitude ≤ 1296000)
     go (got ls r) a e = numbered-sound s number ls x (a ls r refl) e
     go (bad k) a e = clash cc

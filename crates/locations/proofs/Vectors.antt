@@ -1,4 +1,7 @@
 -- Fields 6 and 7 on worked data, by computation, with a pool of three strings. Assumes nothing.
+use Rattle.base.specs.declared.Refusal.{Refusal}
+use Rattle.std.specs.Prelude.{Err, Ok, Result}
+use Rattle.base.specs.declared.Refusal.TheVariants.{BadCode, BadData, BadLocation, BadText}
 use mathlib.Core.Path.{◌≡◌, refl}
 use mathlib.Core.List.{List, [], ◌∷◌, map}
 use Prim.Native.Nat.{ℕ}
@@ -10,13 +13,11 @@ use Rattle.locations.specs.Content.{within, judge_seconds, parse_seconds, not_ne
 use Rattle.locations.specs.Content.{parse_location, all_locations, parse_locations}
 use Rattle.locations.specs.Find.{verdict_of}
 use Rattle.locations.specs.declared.LocationField.TheVariants.{Zone, Zone1970}
-use Rattle.locations.specs.declared.FieldVerdict.{FieldVerdict}
-use Rattle.locations.specs.declared.FieldVerdict.TheVariants.{Good, Refused}
 
-abbrev zone : List ℕ → FieldVerdict
+abbrev zone : List ℕ → Result (Unit {0}) Refusal
 zone d = verdict_of (parse_locations Zone 3 d)
 
-abbrev zone1970 : List ℕ → FieldVerdict
+abbrev zone1970 : List ℕ → Result (Unit {0}) Refusal
 zone1970 d = verdict_of (parse_locations Zone1970 3 d)
 
 -- no data; no location; one with zone ID and comment, without a comment, with a byte left over; 324,001 north, cut or before a bad code;
@@ -38,7 +39,7 @@ pub field-6 :
     (1 ∷ 128 ∷ []) ∷
     (1 ∷ 0 ∷ 0 ∷ 0 ∷ 1 ∷ 3 ∷ 0 ∷ []) ∷
     [])
-    ≡ Refused 9 ∷ Good ∷ Good ∷ Refused 9 ∷ Refused 9 ∷ Refused 20 ∷ Refused 20 ∷ Refused 20 ∷ Good ∷ Refused 20 ∷ Good ∷ Refused 9 ∷ Refused 9 ∷ Refused 8 ∷ []
+    ≡ Err BadData ∷ Ok tt ∷ Ok tt ∷ Err BadData ∷ Err BadData ∷ Err BadLocation ∷ Err BadLocation ∷ Err BadLocation ∷ Ok tt ∷ Err BadLocation ∷ Ok tt ∷ Err BadData ∷ Err BadData ∷ Err BadText ∷ []
 unfolding verdict_of parse_locations all_locations parse_location parse_texts parse_countries parse_country parse_number judge_number not_negative parse_seconds judge_seconds within unzigzag_of many ended parse_name judge_name read_groups
 field-6 = refl
 
@@ -54,6 +55,6 @@ pub field-7 :
     (1 ∷ 0 ∷ 0 ∷ 254 ∷ 255 ∷ 255 ∷ 255 ∷ 15 ∷ 3 ∷ []) ∷
     (1 ∷ 0 ∷ 0 ∷ 128 ∷ 0 ∷ []) ∷
     [])
-    ≡ Good ∷ Good ∷ Good ∷ Refused 20 ∷ Refused 9 ∷ Refused 8 ∷ Refused 7 ∷ []
+    ≡ Ok tt ∷ Ok tt ∷ Ok tt ∷ Err BadLocation ∷ Err BadData ∷ Err BadText ∷ Err BadCode ∷ []
 unfolding verdict_of parse_locations all_locations parse_location parse_texts parse_countries parse_country parse_number judge_number not_negative parse_seconds judge_seconds within unzigzag_of many ended parse_name judge_name read_groups
 field-7 = refl

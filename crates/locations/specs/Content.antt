@@ -1,5 +1,6 @@
 -- The content of fields 6 and 7: locations of zones, read left to right, "each judged as read". Seconds are signed counts as the numbers that
 -- stand in the file (signed's specs/Zigzag.antt); texts are pool numbers. To be believed.
+use Rattle.base.specs.declared.Refusal.TheVariants.{BadLocation}
 use Rattle.std.specs.Prelude.{ℕ, suc, Bool, List, leb, ℤ, pos, negsuc}
 use Rattle.base.specs.Pick.{pick}
 use Rattle.base.specs.Parsed.{Parsed, got, bad, bind, parse, ended, many}
@@ -32,7 +33,7 @@ within most (negsuc n) = leb (suc n) most
 
 -- "Latitude is within 324,000 and longitude within 648,000, else 20"
 unfoldable pub judge_seconds : ℕ → ℕ → List ℕ → Parsed ℕ
-judge_seconds most v s = pick (within most (unzigzag_of v)) (got v s) (bad 20)
+judge_seconds most v s = pick (within most (unzigzag_of v)) (got v s) (bad BadLocation)
 
 unfoldable pub parse_seconds : ℕ → List ℕ → Parsed ℕ
 parse_seconds most s = bind (parse read_zigzag s) (judge_seconds most)
@@ -40,7 +41,7 @@ parse_seconds most s = bind (parse read_zigzag s) (judge_seconds most)
 -- "a negative number of countries is 20 too"
 unfoldable pub not_negative : ℤ → List ℕ → Parsed ℕ
 not_negative (pos n) s = got n s
-not_negative (negsuc n) s = bad 20
+not_negative (negsuc n) s = bad BadLocation
 
 unfoldable pub judge_number : ℕ → List ℕ → Parsed ℕ
 judge_number v s = not_negative (unzigzag_of v) s

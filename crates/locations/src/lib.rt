@@ -26,31 +26,3 @@ pub struct Spot {
     pub zone: u64,
     pub comment: u64,
 }
-
-// Each reader gives a value and the place behind it, or a refusal's number.
-#[derive(Clone, Copy)]
-pub enum CountryRead {
-    Got(Country, usize),
-    Refused(u8),
-}
-
-#[derive(Clone, Copy)]
-pub enum LocationRead {
-    Got(Spot, usize),
-    Refused(u8),
-}
-
-// What asking a field for a location by number gives.
-#[derive(Clone, Copy)]
-pub enum Sought {
-    Here(Spot),
-    Beyond,
-    Refused(u8),
-}
-
-// What the check of a field gives.
-#[derive(Clone, Copy)]
-pub enum FieldVerdict {
-    Good,
-    Refused(u8),
-}

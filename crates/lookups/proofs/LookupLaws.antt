@@ -1,4 +1,6 @@
 -- The lookup: what one walk keeps gives the interval that holds the instant, and no other interval of the zone does. Assumes nothing.
+use Rattle.base.specs.declared.Refusal.{Refusal}
+use Rattle.std.specs.Prelude.{Err, Ok, Result}
 use mathlib.Core.Path.{◌≡◌, refl, sym, ap, ◌∙◌, subst}
 use mathlib.Core.Bool.{Bool}
 use mathlib.Core.List.{List, [], ◌∷◌}
@@ -27,8 +29,6 @@ use Rattle.zones.proofs.SoundLaws.{zone-sound}
 use Rattle.zones.specs.declared.Edition.{Edition}
 use Rattle.zones.specs.declared.Edition.TheVariants.{One, Two}
 use Rattle.zones.specs.declared.Found.{Found}
-use Rattle.zones.specs.declared.Answer.{Answer}
-use Rattle.zones.specs.declared.Answer.TheVariants.{In, Refused as Denied}
 use Rattle.lookups.specs.declared.ZoneRead.{ZoneRead}
 use Rattle.lookups.specs.declared.ZoneRead.TheVariants.{Fixed, Listed, Tailed, Refused}
 
@@ -69,23 +69,23 @@ held-is pool t end (i ∷ is) h =
 abbrev pub tail_answer : ℕ → Scan → NamedTail → Found
 tail_answer t c n = pick (ltb t n.tail.start) (held_until c n.tail.start) (in_tail t n)
 
-abbrev pub answer_read : Edition → ℕ → ZoneRead → Answer
-answer_read ed t (Fixed id offset n form) = In (record { wall = offset; savings = zero_offset; name = fixed_name ed id n; start = start_of_time; end = end_of_time })
-answer_read ed t (Listed id c form) = In (held_until c end_of_time)
-answer_read ed t (Tailed id c n form) = In (tail_answer t c n)
-answer_read ed t (Refused k) = Denied k
+abbrev pub answer_read : Edition → ℕ → ZoneRead → Result Found Refusal
+answer_read ed t (Fixed id offset n form) = Ok (record { wall = offset; savings = zero_offset; name = fixed_name ed id n; start = start_of_time; end = end_of_time })
+answer_read ed t (Listed id c form) = Ok (held_until c end_of_time)
+answer_read ed t (Tailed id c n form) = Ok (tail_answer t c n)
+answer_read ed t (Refused k) = Err k
 
 list-answer : (ed : Edition) (pool t : ℕ) (form : Bool) (id : ℕ) (is : List Interval) (end : ℕ) (e : Ending) → Finite t → BodyOk pool (listed is end e)
-    → answer_read ed t (body_read t form id (listed is end e)) ≡ In (in_body t id (listed is end e))
+    → answer_read ed t (body_read t form id (listed is end e)) ≡ Ok (in_body t id (listed is end e))
 unfolding in_body behind_list
 list-answer ed pool t form id is end untailed f h =
-    rw (h.1, lt-ltb t end_of_time (omega (arith, f.high))) (ap In (held-is pool t end_of_time is h.0))
+    rw (h.1, lt-ltb t end_of_time (omega (arith, f.high))) (ap Ok (held-is pool t end_of_time is h.0))
 list-answer ed pool t form id is end (tailed n) f h =
-    ap (λ (m : ℕ). In (pick (ltb t m) (held_until (scanned t is) m) (in_tail t n))) h.1.2.starts
-    ∙ ap (λ (x : Found). In (pick (ltb t end) x (in_tail t n))) (held-is pool t end is h.0)
+    ap (λ (m : ℕ). Ok (pick (ltb t m) (held_until (scanned t is) m) (in_tail t n))) h.1.2.starts
+    ∙ ap (λ (x : Found). Ok (pick (ltb t end) x (in_tail t n))) (held-is pool t end is h.0)
 
 zone-answer : (ed : Edition) (pool t : ℕ) (form : Bool) (id : ℕ) (b : Body) → Finite t → BodyOk pool b
-    → answer_read ed t (body_read t form id b) ≡ In (in_zone t (under ed (record { id = id; body = b })))
+    → answer_read ed t (body_read t form id b) ≡ Ok (in_zone t (under ed (record { id = id; body = b })))
 unfolding in_body fixed_name_of nameless under
 zone-answer One pool t form id (fixed offset n) f h = refl
 zone-answer Two pool t form id (fixed offset n) f h = refl
@@ -104,17 +104,17 @@ answer-is ed pool t form s r f e = ap (answer_read ed t) e ∙ answer-read ed po
 
 pub fixed-is : (ed : Edition) (pool t : ℕ) (form : Bool) (s : List ℕ) (id offset n : ℕ) (b : Bool) (r : ℕ) → Finite t
     → Fixed id offset n b ≡ read_of t form (parse_zone pool s) → r ≡ fixed_name ed id n
-    → In (record { wall = offset; savings = zero_offset; name = r; start = start_of_time; end = end_of_time }) ≡ answer_of ed t (parse_zone pool s)
+    → Ok (record { wall = offset; savings = zero_offset; name = r; start = start_of_time; end = end_of_time }) ≡ answer_of ed t (parse_zone pool s)
 fixed-is ed pool t form s id offset n b r f e g =
-    ap (λ (m : ℕ). In (record { wall = offset; savings = zero_offset; name = m; start = start_of_time; end = end_of_time })) g
+    ap (λ (m : ℕ). Ok (record { wall = offset; savings = zero_offset; name = m; start = start_of_time; end = end_of_time })) g
     ∙ answer-is ed pool t form s (Fixed id offset n b) f e
 
 -- before the tail's start, and from it on
-pub before-tail : (t : ℕ) (c : Scan) (n : NamedTail) (r : Found) → t < n.tail.start → r ≡ held_until c n.tail.start → In r ≡ In (tail_answer t c n)
-before-tail t c n r h e = rw (lt-ltb t n.tail.start h) (ap In e)
+pub before-tail : (t : ℕ) (c : Scan) (n : NamedTail) (r : Found) → t < n.tail.start → r ≡ held_until c n.tail.start → ◌≡◌ {A = Result Found Refusal} (Ok r) (Ok (tail_answer t c n))
+before-tail t c n r h e = rw (lt-ltb t n.tail.start h) (ap Ok e)
 
-pub from_tail : (t : ℕ) (c : Scan) (n : NamedTail) (r : Found) → n.tail.start ≤ t → r ≡ in_tail t n → In r ≡ In (tail_answer t c n)
-from_tail t c n r h e = rw (le-ltb t n.tail.start h) (ap In e)
+pub from_tail : (t : ℕ) (c : Scan) (n : NamedTail) (r : Found) → n.tail.start ≤ t → r ≡ in_tail t n → ◌≡◌ {A = Result Found Refusal} (Ok r) (Ok (tail_answer t c n))
+from_tail t c n r h e = rw (le-ltb t n.tail.start h) (ap Ok e)
 
 -- a tail that is read may be asked
 pub tail-ok : (pool t : ℕ) (form : Bool) (s : List ℕ) (id : ℕ) (c : Scan) (n : NamedTail) (b : Bool) → Tailed id c n b ≡ read_of t form (parse_zone pool s) → TailOk n.tail

@@ -1,4 +1,6 @@
 -- Each way out of the walk over a whole zone. Assumes nothing.
+use Rattle.base.specs.declared.Refusal.{Refusal}
+use Rattle.std.specs.Prelude.{Err, Ok, Result}
 use mathlib.Core.Path.{◌≡◌, refl, sym, ap, ap₂, ◌∙◌, subst}
 use mathlib.Core.Bool.{Bool, true, false}
 use mathlib.Core.List.{List, []}
@@ -15,8 +17,6 @@ use Rattle.pieces.proofs.CodeLaws.{last-form}
 use Rattle.recurrence.specs.declared.Interval.{Interval as Lookup}
 use Rattle.intervals.specs.declared.Interval.{Interval}
 use Rattle.intervals.specs.declared.Scan.{Scan}
-use Rattle.intervals.specs.declared.ScanRead.{ScanRead}
-use Rattle.intervals.specs.declared.ScanRead.TheVariants.{Got as ScanGot}
 use Rattle.intervals.specs.Interval.{start_of}
 use Rattle.intervals.specs.Scan.{scanned, scan_of, FormTo, FormOf}
 use Rattle.intervals.proofs.ScanLaws.{last-start}
@@ -24,17 +24,13 @@ use Rattle.tails.specs.declared.NamedTail.{NamedTail}
 use Rattle.zones.specs.Content.{untailed, tailed, FixedName, Body, fixed, listed, Zone}
 use Rattle.zones.specs.Lookup.{verdict_of, named, fixed_name_of}
 use Rattle.zones.specs.View.{EndOf}
-use Rattle.zones.specs.declared.ZoneVerdict.{ZoneVerdict}
-use Rattle.zones.specs.declared.ZoneVerdict.TheVariants.{Good, Refused as Denied}
 use Rattle.zones.specs.declared.ZoneEnd.TheVariants.{Untailed, Tailed as WithTail, Refused as EndRefused}
 use Rattle.lookups.specs.View.{body_read, read_of, form_of}
-use Rattle.lookups.specs.declared.ZoneForm.{ZoneForm}
-use Rattle.lookups.specs.declared.ZoneForm.TheVariants.{Good as WithForm, Refused as NoForm}
 use Rattle.lookups.specs.declared.ZoneRead.{ZoneRead}
 use Rattle.lookups.specs.declared.ZoneRead.TheVariants.{Fixed, Listed, Tailed, Refused}
 
 -- at one instant
-pub read-bad : (t : ℕ) (b : Bool) (p : Parsed Zone) (k : ℕ) → p ≡ bad k → Refused k ≡ read_of t b p
+pub read-bad : (t : ℕ) (b : Bool) (p : Parsed Zone) (k : Refusal) → p ≡ bad k → Refused k ≡ read_of t b p
 unfolding read_of
 read-bad t b p k e = rw e
 
@@ -57,15 +53,15 @@ fixed-form true d e = rw e
 fixed-form false d e = refl
 
 -- the intervals' form, then that of the end transition
-pub end-form : (s : List ℕ) (n from : ℕ) (b : Bool) (r : ScanRead) (c : Scan) (e : ℕ) (before form : Bool) → FormOf s n from b r → r ≡ ScanGot c e before
+pub end-form : (s : List ℕ) (n from : ℕ) (b : Bool) (r : Result (Scan × ℕ × Bool) Refusal) (c : Scan) (e : ℕ) (before form : Bool) → FormOf s n from b r → r ≡ Ok (c, e, before)
     → form ≡ both before (code_preferred c.last (drop e s)) → form ≡ both b (pieces_preferred (suc n) end_of_time (drop from s))
 end-form s n from b r c e before form h f g =
-    let m : FormTo s n from b (ScanGot c e before) = (subst (FormOf s n from b) f h).means in
+    let m : FormTo s n from b (Ok (c, e, before)) = (subst (FormOf s n from b) f h).means in
     g ∙ ap (both before) (last-form c.last (drop e s)) ∙ sym m
 
 -- what follows the intervals, from what a scan of them kept
 module _ (t : ℕ) (s : List ℕ) (p : Parsed (List Interval)) (f : List Interval → List ℕ → Parsed Zone) where
-  pub scan-bad : (k : ℕ) → Stands s (scan_of t p) (no k) → bind p f ≡ bad k
+  pub scan-bad : (k : Refusal) → Stands s (scan_of t p) (no k) → bind p f ≡ bad k
   unfolding scan_of
   scan-bad k h = go p h.means
     where
@@ -95,7 +91,7 @@ module _ (t id : ℕ) (form : Bool) (p : Parsed Zone) (f : ℕ → List Interval
   last_of : c.last ≡ behind start_of end_of_time is
   last_of = ap (λ (x : Scan). x.last) scans ∙ last-start t is
 
-  pub ended-bad : (k : ℕ) → EndOf f c.last (EndRefused k) → Refused k ≡ read_of t form p
+  pub ended-bad : (k : Refusal) → EndOf f c.last (EndRefused k) → Refused k ≡ read_of t form p
   ended-bad k h = read-bad t form p k (goes ∙ h.means id is last_of)
 
   pub ended-untailed : EndOf f c.last Untailed → (b : Bool) → b ≡ form → Listed id c b ≡ read_of t form p
@@ -107,18 +103,18 @@ module _ (t id : ℕ) (form : Bool) (p : Parsed Zone) (f : ℕ → List Interval
   ended-tailed n h b e = rw (goes ∙ (h.means id is last_of).1) (ap₂ (λ (x : Scan) (y : Bool). Tailed id x n y) scans e)
 
 -- what is said of the form is that of the walk, whatever its instant
-abbrev pub form_read : ZoneRead → ZoneForm
-form_read (Fixed id offset n form) = WithForm id form
-form_read (Listed id c form) = WithForm id form
-form_read (Tailed id c n form) = WithForm id form
-form_read (Refused k) = NoForm k
+abbrev pub form_read : ZoneRead → Result (ℕ × Bool) Refusal
+form_read (Fixed id offset n form) = Ok (id, form)
+form_read (Listed id c form) = Ok (id, form)
+form_read (Tailed id c n form) = Ok (id, form)
+form_read (Refused k) = Err k
 
 form-read : (t : ℕ) (form : Bool) (p : Parsed Zone) → form_read (read_of t form p) ≡ form_of form p
 unfolding read_of
 form-read t form (bad k) = refl
 form-read t form (got z r) = go z.body
   where
-    go : (b : Body) → form_read (body_read t form z.id b) ≡ WithForm z.id form
+    go : (b : Body) → form_read (body_read t form z.id b) ≡ Ok (z.id, form)
     go (fixed offset n) = refl
     go (listed is end untailed) = refl
     go (listed is end (tailed n)) = refl
@@ -126,19 +122,19 @@ form-read t form (got z r) = go z.body
 pub form-is : (t : ℕ) (form : Bool) (p : Parsed Zone) (r : ZoneRead) → r ≡ read_of t form p → form_read r ≡ form_of form p
 form-is t form p r e = ap form_read e ∙ form-read t form p
 
-pub form-on : (a b : Bool) (p q : Parsed Zone) (r : ZoneForm) → p ≡ q → a ≡ b → r ≡ form_of b q → r ≡ form_of a p
+pub form-on : (a b : Bool) (p q : Parsed Zone) (r : Result (ℕ × Bool) Refusal) → p ≡ q → a ≡ b → r ≡ form_of b q → r ≡ form_of a p
 form-on a b p q r e f h = h ∙ ap₂ form_of (sym f) (sym e)
 
 -- without the form it is the zone's check
-abbrev pub verdict_by : ZoneForm → ZoneVerdict
-verdict_by (WithForm id form) = Good id
-verdict_by (NoForm k) = Denied k
+abbrev pub verdict_by : Result (ℕ × Bool) Refusal → Result ℕ Refusal
+verdict_by (Ok (id, form)) = Ok id
+verdict_by (Err k) = Err k
 
 verdict-by : (form : Bool) (p : Parsed Zone) → verdict_by (form_of form p) ≡ verdict_of p
 verdict-by form (bad k) = refl
 verdict-by form (got z r) = refl
 
-pub verdict-is : (form : Bool) (p : Parsed Zone) (r : ZoneForm) → r ≡ form_of form p → verdict_by r ≡ verdict_of p
+pub verdict-is : (form : Bool) (p : Parsed Zone) (r : Result (ℕ × Bool) Refusal) → r ≡ form_of form p → verdict_by r ≡ verdict_of p
 verdict-is form p r e = ap verdict_by e ∙ verdict-by form p
 
 -- the tail's answer by what is in force

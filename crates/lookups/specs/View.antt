@@ -1,5 +1,6 @@
 -- What one walk over a zone keeps for an instant. The code's way, tied to the answer by `answer-is` (proofs/LookupLaws.antt).
-use Rattle.std.specs.Prelude.{ℕ, Bool, ltb}
+use Rattle.base.specs.declared.Refusal.{Refusal}
+use Rattle.std.specs.Prelude.{ℕ, Bool, ltb, Err, Ok, Result}
 use Rattle.base.specs.Pick.{pick}
 use Rattle.base.specs.Parsed.{Parsed, got, bad}
 use Rattle.base.specs.Moment.{end_of_time}
@@ -12,8 +13,6 @@ use Rattle.zones.specs.declared.Edition.TheVariants.{One, Two}
 use Rattle.zones.specs.declared.Found.{Found}
 use Rattle.lookups.specs.declared.ZoneRead.{ZoneRead}
 use Rattle.lookups.specs.declared.ZoneRead.TheVariants.{Fixed, Listed, Tailed, Refused as ZoneRefused}
-use Rattle.lookups.specs.declared.ZoneForm.{ZoneForm}
-use Rattle.lookups.specs.declared.ZoneForm.TheVariants.{Good, Refused as FormRefused}
 
 -- the interval that a scan holds, up to the first start after the instant, or else to the end of the list
 unfoldable pub held_until : Scan → ℕ → Found
@@ -30,9 +29,9 @@ read_of t form (got z r) = body_read t form z.id z.body
 read_of t form (bad n) = ZoneRefused n
 
 -- a zone's check, with its form
-abbrev pub form_of : Bool → Parsed Zone → ZoneForm
-form_of form (got z r) = Good z.id form
-form_of form (bad n) = FormRefused n
+abbrev pub form_of : Bool → Parsed Zone → Result (ℕ × Bool) Refusal
+form_of form (got z r) = Ok (z.id, form)
+form_of form (bad n) = Err n
 
 -- the name of a fixed zone under an edition, from the ID and the name that the walk keeps
 abbrev pub fixed_name : Edition → ℕ → ℕ → ℕ

@@ -8,7 +8,7 @@ ghost use Rattle.recurrence.specs.Tails.{TailOk};
 ghost use Rattle.zones.specs.Lookup.{in_tail};
 ghost use Rattle.lookups.specs.View.{held_until, fixed_name};
 
-use base::END;
+use base::{END, Refusal};
 use intervals::Scan;
 use tails::NamedTail;
 use zones::{Edition, Found};
@@ -19,14 +19,7 @@ pub enum ZoneRead {
     Fixed(u64, u64, u64, bool),
     Listed(u64, Scan, bool),
     Tailed(u64, Scan, NamedTail, bool),
-    Refused(u8),
-}
-
-// A well-formed zone's ID, and whether its data are in their preferred form, or a refusal's number.
-#[derive(Clone, Copy)]
-pub enum ZoneForm {
-    Good(u64, bool),
-    Refused(u8),
+    Refused(Refusal),
 }
 
 // A listed interval that lasts to the next start after the instant, or else to the end of the list.

@@ -6,7 +6,6 @@ ghost use Rattle.use_order.specs.Order.{mention as mention_of};
 ghost use Rattle.mentions.specs.declared.Stage.TheVariants.{Names};
 ghost use Rattle.mention_runs.specs.Run.{Room, Counted};
 
-use base::Read;
 use mentions::Stage;
 
 // One use more of k.
@@ -42,13 +41,13 @@ fn count_names(
     let mut n = left;
     while 0 < n {
         match places::count_at(s, place) {
-            Read::Refused(_) => {
+            Err(_) => {
                 return Row {
                     place: place,
                     left: n,
                 };
             }
-            Read::Value(v, e) => {
+            Ok((v, e)) => {
                 mention(uses, v as usize);
                 place = e;
                 n -= 1;
@@ -103,22 +102,22 @@ fn count_locations(
             };
         }
         match mention_steps::location_names(s, place, numbered) {
-            Read::Refused(_) => {
+            Err(_) => {
                 return List {
                     place: place,
                     left: n,
                     locations: k,
                 };
             }
-            Read::Value(m, p) => match places::count_at(s, p) {
-                Read::Refused(_) => {
+            Ok((m, p)) => match places::count_at(s, p) {
+                Err(_) => {
                     return List {
                         place: place,
                         left: n,
                         locations: k,
                     };
                 }
-                Read::Value(v, e) => {
+                Ok((v, e)) => {
                     mention(uses, v as usize);
                     place = e;
                     n = m;

@@ -7,114 +7,112 @@ ghost use Rattle.mentions.specs.Walk.{numbered_names, location_names, before_nam
 ghost use Rattle.mentions.specs.View.{of_skipped, NextMention};
 ghost use Rattle.mention_steps.specs.View.{NamedAt};
 
-use base::Read;
-use mentions::{Mentioned, Skipped, Stage};
+use base::{Coded, Refusal};
+use mentions::Stage;
 
 // The names behind the first of a location that has a number of countries, and the place of the first.
-fn numbered_names(s: &[u8], at: usize) -> Read
+fn numbered_names(s: &[u8], at: usize) -> Coded<u64>
     requires { at ≤ length s.now }
     ensures { Stands s.now (numbered_names (drop at s.now)) (of_read result) }
 {
-    match places::zigzag_at(s, at) {
-        Read::Refused(k) => Read::Refused(k),
-        Read::Value(v, e) => Read::Value(2 * (v / 2) + 1, e),
-    }
+    let (v, e) = places::zigzag_at(s, at)?;
+    Ok((2 * (v / 2) + 1, e))
 }
 
 // How many names stand behind the first of a location, and the place of the first.
-pub fn location_names(s: &[u8], at: usize, numbered: bool) -> Read
+pub fn location_names(s: &[u8], at: usize, numbered: bool) -> Coded<u64>
     requires { at ≤ length s.now }
     ensures { Stands s.now (location_names numbered (drop at s.now)) (of_read result) }
 {
     match places::zigzag_at(s, at) {
-        Read::Refused(k) => Read::Refused(k),
-        Read::Value(_, a) => match places::zigzag_at(s, a) {
-            Read::Refused(k) => Read::Refused(k),
-            Read::Value(_, b) => {
+        Err(k) => Err(k),
+        Ok((_, a)) => match places::zigzag_at(s, a) {
+            Err(k) => Err(k),
+            Ok((_, b)) => {
                 if numbered {
                     return numbered_names(s, b);
                 }
-                Read::Value(3, b)
+                Ok((3, b))
             }
         },
     }
 }
 
 // Before n names in a row and so many locations.
-pub fn before_names(s: &[u8], at: usize, n: u64, locations: u64, numbered: bool) -> Skipped
+pub fn before_names(
+    s: &[u8],
+    at: usize,
+    n: u64,
+    locations: u64,
+    numbered: bool,
+) -> Result<(Stage, usize), Refusal>
     requires { at ≤ length s.now }
     ensures { Stands s.now (before_names n locations numbered (drop at s.now)) (of_skipped result) }
 {
     if 0 < n {
-        return Skipped::At(Stage::Names(n - 1, locations, numbered), at);
+        return Ok((Stage::Names(n - 1, locations, numbered), at));
     }
     if locations == 0 {
-        return Skipped::At(Stage::Rest, s.len());
+        return Ok((Stage::Rest, s.len()));
     }
-    match location_names(s, at, numbered) {
-        Read::Refused(k) => Skipped::Refused(k),
-        Read::Value(m, e) => Skipped::At(Stage::Names(m, locations - 1, numbered), e),
-    }
+    let (m, e) = location_names(s, at, numbered)?;
+    Ok((Stage::Names(m, locations - 1, numbered), e))
 }
 
 // At the front of field 3: its count.
-pub fn before_pairs(s: &[u8], at: usize) -> Skipped
+pub fn before_pairs(s: &[u8], at: usize) -> Result<(Stage, usize), Refusal>
     requires { at ≤ length s.now }
     ensures { Stands s.now (before_pairs (drop at s.now)) (of_skipped result) }
 {
-    match places::count_at(s, at) {
-        Read::Refused(k) => Skipped::Refused(k),
-        Read::Value(n, e) => before_names(s, e, 2 * n, 0, false),
-    }
+    let (n, e) = places::count_at(s, at)?;
+    before_names(s, e, 2 * n, 0, false)
 }
 
 // At the front of field 6 or 7: its count.
-pub fn before_locations(s: &[u8], at: usize, numbered: bool) -> Skipped
+pub fn before_locations(s: &[u8], at: usize, numbered: bool) -> Result<(Stage, usize), Refusal>
     requires { at ≤ length s.now }
     ensures { Stands s.now (before_locations numbered (drop at s.now)) (of_skipped result) }
 {
-    match places::count_at(s, at) {
-        Read::Refused(k) => Skipped::Refused(k),
-        Read::Value(n, e) => before_names(s, e, 0, n, numbered),
-    }
+    let (n, e) = places::count_at(s, at)?;
+    before_names(s, e, 0, n, numbered)
 }
 
-// From a stage at a place to the next mention.
-fn skip(s: &[u8], at: usize, stage: Stage) -> Skipped
+// From a stage at a place to the next mention: the stage behind it and the mention's place, or the end of the data where there is none.
+fn skip(s: &[u8], at: usize, stage: Stage) -> Result<(Stage, usize), Refusal>
     requires { at ≤ length s.now }
     ensures { Stands s.now (ahead_of stage (drop at s.now)) (of_skipped result) }
 {
     match stage {
-        Stage::Zone => Skipped::At(Stage::Flag, at),
+        Stage::Zone => Ok((Stage::Flag, at)),
         Stage::Flag => zone_mentions::behind_id(s, at),
         Stage::Interval(start, left) => zone_mentions::behind_details(s, at, start, left),
         Stage::Rule => zone_mentions::behind_rule(s, at),
         Stage::Aliases => before_pairs(s, at),
         Stage::Locations(numbered) => before_locations(s, at, numbered),
         Stage::Names(n, locations, numbered) => before_names(s, at, n, locations, numbered),
-        Stage::Rest => Skipped::At(Stage::Rest, s.len()),
+        Stage::Rest => Ok((Stage::Rest, s.len())),
     }
 }
 
 // The mention at the place p, with the stage behind it.
-fn named(s: &[u8], p: usize, behind: Stage) -> Mentioned
+fn named(s: &[u8], p: usize, behind: Stage) -> Option<(Stage, u64, usize, usize)>
     requires { p ≤ length s.now }
     ensures { NamedAt s.now p behind result }
 {
     match places::count_at(s, p) {
-        Read::Refused(_) => Mentioned::Nothing,
-        Read::Value(v, e) => Mentioned::Here(behind, v, p, e),
+        Err(_) => None,
+        Ok((v, e)) => Some((behind, v, p, e)),
     }
 }
 
-// The next mention from a stage at a place on.
-pub fn next(s: &[u8], at: usize, stage: Stage) -> Mentioned
+// The next mention from a stage at a place on: the stage behind it, its number, its place and the place behind it.
+pub fn next(s: &[u8], at: usize, stage: Stage) -> Option<(Stage, u64, usize, usize)>
     requires { at ≤ length s.now }
     ensures { NextMention s.now at stage result }
 {
     match skip(s, at, stage) {
-        Skipped::Refused(_) => Mentioned::Nothing,
-        Skipped::At(behind, p) => named(s, p, behind),
+        Err(_) => None,
+        Ok((behind, p)) => named(s, p, behind),
     }
 }
 

@@ -1,4 +1,5 @@
 -- EVERY NUMBER THAT A GOOD FILE MENTIONS is below 8,192, the largest count of a pool, and a field without mentions is copied. Assumes nothing.
+use Rattle.base.specs.declared.Refusal.TheVariants.{BadData}
 use mathlib.Core.Path.{◌≡◌, refl, ap, ◌∙◌, subst, subst⁻¹}
 use mathlib.Core.Bool.{Bool, true, false}
 use mathlib.Core.List.{List, [], ◌∷◌}
@@ -67,11 +68,11 @@ module _ (pool : ℕ) where
 -- a field without mentions
 pub numbers-rest : (i : ℕ) (d : List ℕ) → Rest ≡ first_stage i → numbers_of i d ≡ []
 unfolding parse_mention ahead_of read_groups
-numbers-rest i d e = rw (← e) (numbers-none Rest d 9 refl)
+numbers-rest i d e = rw (← e) (numbers-none Rest d BadData refl)
 
 pub copied-rest : (ρ : ℕ → ℕ) (i : ℕ) (d : List ℕ) → Rest ≡ first_stage i → renumbered ρ i d ≡ d
 unfolding parse_mention ahead_of read_groups
-copied-rest ρ i d e = rw (← e) (print-none ρ Rest d 9 refl)
+copied-rest ρ i d e = rw (← e) (print-none ρ Rest d BadData refl)
 
 module _ (ts : List (List ℕ)) where
   field_below : (g : Field) → AsZone ts g → AsAliases ts g → AsLocations ts g → Below (length ts) (numbers_of g.id g.body)

@@ -1,4 +1,7 @@
 -- The mentions of renumbered data are the old ones, renumbered; so renumbering twice is renumbering once. Assumes nothing.
+use Rattle.std.specs.Prelude.{Err, Ok}
+use Rattle.base.specs.Coded.{Coded}
+use Rattle.base.specs.declared.Refusal.TheVariants.{BadData}
 use mathlib.Core.Path.{◌≡◌, refl, sym, ap, ◌∙◌, subst}
 use mathlib.Core.Bool.{Bool, true, false}
 use mathlib.Core.List.{List, [], ◌∷◌, ◌++◌, append_assoc, map}
@@ -13,8 +16,6 @@ use Rattle.base.specs.All.{All}
 use Rattle.base.specs.Bytes.{Bytes}
 use Rattle.base.specs.Parsed.{Parsed, got, bad, bind, behind_code, parse, parse_byte}
 use Rattle.base.specs.Moment.{end_of_time}
-use Rattle.base.specs.declared.Read.{Read}
-use Rattle.base.specs.declared.Read.TheVariants.{Value, Refused}
 use Rattle.base.proofs.AllLaws.{all_head, all_tail}
 use Rattle.base.proofs.ByteLaws.{drop-bytes}
 use Rattle.base.proofs.ParseLaws.{bad-got, got-value, got-rest, bind-good}
@@ -118,7 +119,7 @@ ahead-fronts Rest = none-fronts
 -- no count is read from no bytes
 count-some : (s : List ℕ) (v : ℕ) (r : List ℕ) → parse read_count s ≡ got v r → s ≡ [] → ⊥
 unfolding read_groups
-count-some s v r e z = let f : bad 9 ≡ got v r = sym (ap (parse read_count) z) ∙ e in bad-got f
+count-some s v r e z = let f : bad BadData ≡ got v r = sym (ap (parse read_count) z) ∙ e in bad-got f
 
 -- the codes before a mention, and its number
 record Parts (σ : Stage) (s : List ℕ) (m : Mention) (r : List ℕ) : Type 0 where
@@ -156,10 +157,10 @@ mention-again σ s m r e k h q =
 count-shape : (s : List ℕ) (v : ℕ) (r : List ℕ) → Bytes s → parse read_count s ≡ got v r → s ≡ write_count v ++ r
 count-shape s v r b e = go (read_count s) refl e
   where
-    go : (x : Read) → x ≡ read_count s → behind_code s x ≡ got v r → s ≡ write_count v ++ r
-    go (Value w n) h f =
+    go : (x : Coded ℕ) → x ≡ read_count s → behind_code s x ≡ got v r → s ≡ write_count v ++ r
+    go (Ok (w, n)) h f =
         (count-form s b h).form ∙ ap (λ (y : ℕ). write_count y ++ drop n s) (got-value f) ∙ ap (λ (y : List ℕ). write_count v ++ y) (got-rest f)
-    go (Refused n) h f = bad-got f
+    go (Err n) h f = bad-got f
 
 -- so has a mention
 mention-form : (σ : Stage) (s : List ℕ) (m : Mention) (r : List ℕ) → Bytes s → parse_mention σ s ≡ got m r
@@ -252,4 +253,4 @@ renumbered-same ρ i d b h = renumbered-alike ρ (λ k. k) i d h ∙ print-same 
 -- ---- a field with no mention
 pub numbers-none-in : (i : ℕ) (d : List ℕ) → first_stage i ≡ Rest → numbers_of i d ≡ []
 unfolding parse_mention ahead_of read_groups
-numbers-none-in i d e = ap (λ (σ : Stage). numbers_in (content_at σ d).mentions) e ∙ numbers-none Rest d 9 refl
+numbers-none-in i d e = ap (λ (σ : Stage). numbers_in (content_at σ d).mentions) e ∙ numbers-none Rest d BadData refl

@@ -1,4 +1,5 @@
 -- The mentions of a field's data one by one, and what the content says of the data. Assumes nothing.
+use Rattle.base.specs.declared.Refusal.{Refusal}
 use mathlib.Core.Path.{◌≡◌, refl, ap}
 use mathlib.Core.List.{List, []}
 use Prim.Native.Nat.{ℕ, zero, suc, ◌-◌, ◌≤◌, ◌<◌}
@@ -44,18 +45,18 @@ content-next σ s m r e =
     let l = mention-left σ s m r e in
     rw e (ap (before m) (enough (length s) (suc (length r)) m.behind r (omega arith) (omega arith)))
 
-pub content-end : (σ : Stage) (s : List ℕ) (k : ℕ) → parse_mention σ s ≡ bad k → content_at σ s ≡ record { mentions = []; rest = s }
+pub content-end : (σ : Stage) (s : List ℕ) (k : Refusal) → parse_mention σ s ≡ bad k → content_at σ s ≡ record { mentions = []; rest = s }
 unfolding content_from
 content-end σ s k e = rw e
 
 -- ---- what the code finds
 module _ (s : List ℕ) (place : ℕ) (σ : Stage) where
-  pub none_ahead : (k : ℕ) → Stands s (ahead_of σ (drop place s)) (no k) → NoMention s place σ
+  pub none_ahead : (k : Refusal) → Stands s (ahead_of σ (drop place s)) (no k) → NoMention s place σ
   unfolding parse_mention
   none_ahead k a = record { fault = k; none = rw a.means }
 
   module _ (τ : Stage) (p : ℕ) (a : Stands s (ahead_of σ (drop place s)) (at τ p)) where
-    pub none_number : (k : ℕ) → Stands s (parse read_count (drop p s)) (no k) → NoMention s place σ
+    pub none_number : (k : Refusal) → Stands s (parse read_count (drop p s)) (no k) → NoMention s place σ
     unfolding parse_mention
     none_number k b = record { fault = k; none = rw (a.means, b.means) }
 

@@ -1,4 +1,8 @@
 -- Codes that were read from the front of some bytes: they read the same in front of any others, whatever their form. Assumes nothing.
+use Rattle.base.specs.declared.Refusal.{Refusal}
+use Rattle.std.specs.Prelude.{Err, Ok}
+use Rattle.base.specs.Coded.{Coded}
+use Rattle.base.specs.declared.Refusal.TheVariants.{BadCode, BadData}
 use mathlib.Core.Path.{◌≡◌, refl, sym, ap, ◌∙◌}
 use mathlib.Core.Bool.{Bool, true, false}
 use mathlib.Core.List.{List, [], ◌∷◌, ◌++◌, append_assoc}
@@ -11,8 +15,7 @@ use borrow.Author.Tests.{le-leb, leb-true, eqb-true}
 use Rattle.base.specs.Pick.{pick}
 use Rattle.base.specs.Moment.{finite}
 use Rattle.base.specs.Parsed.{Parsed, got, bad, bind, behind_code, parse, parse_byte}
-use Rattle.base.specs.declared.Read.{Read}
-use Rattle.base.specs.declared.Read.TheVariants.{Value, Refused}
+use Rattle.base.proofs.PairLaws.{ok_parts}
 use Rattle.base.proofs.Tests.{clash, pick-holds}
 use Rattle.base.proofs.ParseLaws.{bad-got, got-value, got-rest}
 use Rattle.counts.specs.Groups.{read_groups}
@@ -32,16 +35,16 @@ pub record Front {A : Type 0} (p : List ℕ → Parsed A) (s : List ℕ) (a : A)
   pub again : (x : List ℕ) → p (used ++ x) ≡ got a x
 
 -- the n bytes of a value alone say it
-record Alone (read : List ℕ → Read) (s : List ℕ) (v n : ℕ) : Type 0 where
+record Alone (read : List ℕ → Coded ℕ) (s : List ℕ) (v n : ℕ) : Type 0 where
   within : n ≤ length s
-  same : (x : List ℕ) → read (take n s ++ x) ≡ Value v n
+  same : (x : List ℕ) → read (take n s ++ x) ≡ Ok (v, n)
 
-code-front : (read : List ℕ → Read) → ((s : List ℕ) (v n : ℕ) → Value v n ≡ read s → Alone read s v n) → (s : List ℕ) (v : ℕ) (r : List ℕ)
+code-front : (read : List ℕ → Coded ℕ) → ((s : List ℕ) (v n : ℕ) → Ok (v, n) ≡ read s → Alone read s v n) → (s : List ℕ) (v : ℕ) (r : List ℕ)
     → parse read s ≡ got v r → Front (parse read) s v r
 code-front read f s v r e = go (read s) refl e
   where
-    go : (x : Read) → x ≡ read s → behind_code s x ≡ got v r → Front (parse read) s v r
-    go (Value w n) h k =
+    go : (x : Coded ℕ) → x ≡ read s → behind_code s x ≡ got v r → Front (parse read) s v r
+    go (Ok (w, n)) h k =
         let p = f s w n h in
         let i : w ≡ v = got-value k in
         let j : drop n s ≡ r = got-rest k in
@@ -50,15 +53,15 @@ code-front read f s v r e = go (read s) refl e
           splits = sym (take-append-drop n s) ∙ ap (λ (y : List ℕ). take n s ++ y) j;
           again = λ x. rw (p.same x, drop_at (take n s) x n (length-take-le n s p.within)) (ap (λ (y : ℕ). got y x) i);
         }
-    go (Refused n) h k = bad-got k
+    go (Err n) h k = bad-got k
 
 -- ---- groups: what is not cut is the same with more bytes
-group-alone : (k top : ℕ) (s : List ℕ) (v n : ℕ) → Value v n ≡ read_groups k top s → Alone (read_groups k top) s v n
+group-alone : (k top : ℕ) (s : List ℕ) (v n : ℕ) → Ok (v, n) ≡ read_groups k top s → Alone (read_groups k top) s v n
 group-alone k top s v n e =
     let w : n ≤ length s = (group k top s e).within in
     let l : length (take n s) ≡ n = length-take-le n s w in
-    let f : Value v n ≡ read_groups k top (take n s ++ drop n s) = e ∙ ap (read_groups k top) (sym (take-append-drop n s)) in
-    let p : Refused 9 ≡ read_groups k top (take n s) → ⊥ = λ z. let h = past-added (drop n s) k top (take n s) z f in omega arith in
+    let f : Ok (v, n) ≡ read_groups k top (take n s ++ drop n s) = e ∙ ap (read_groups k top) (sym (take-append-drop n s)) in
+    let p : Err BadData ≡ read_groups k top (take n s) → ⊥ = λ z. let h = past-added (drop n s) k top (take n s) z f in omega arith in
     record {
       within = w;
       same = λ x. same-added x k top (take n s) p ∙ sym (same-added (drop n s) k top (take n s) p) ∙ sym f;
@@ -71,19 +74,19 @@ fixed-alone zero high s x h = refl
 fixed-alone (suc n) high [] x h = absurd (omega arith)
 fixed-alone (suc n) high (b ∷ s) x h = fixed-alone n (high * 256 + b) s x (omega arith)
 
-read-fixed-alone : (n high : ℕ) (s x : List ℕ) → n ≤ length s → read_fixed n high (take n s ++ x) ≡ Value (fixed_from n high s) n
+read-fixed-alone : (n high : ℕ) (s x : List ℕ) → n ≤ length s → read_fixed n high (take n s ++ x) ≡ Ok (fixed_from n high s, n)
 read-fixed-alone n high s x h =
     let l : n ≤ length (take n s ++ x) = rw (length-append, length-take-le n s h) (omega arith) in
     rw (le-leb n (length (take n s ++ x)) l, fixed-alone n high s x h)
 
 -- a value that was read takes n bytes
-abbrev Sized : ℕ → Read → Type 0
-Sized n (Value v k) = k ≡ n
-Sized n (Refused k) = Unit {0}
+abbrev Sized : ℕ → Coded ℕ → Type 0
+Sized n (Ok (v, k)) = k ≡ n
+Sized n (Err k) = Unit {0}
 
-sized : (n : ℕ) (r : Read) → Sized n r → (v k : ℕ) → Value v k ≡ r → k ≡ n
-sized n (Value w m) h v k e = let i : k ≡ m = cc in i ∙ h
-sized n (Refused j) h v k e = clash cc
+sized : (n : ℕ) (r : Coded ℕ) → Sized n r → (v k : ℕ) → Ok (v, k) ≡ r → k ≡ n
+sized n (Ok (w, m)) h v k e = (ok_parts e).1 ∙ h
+sized n (Err j) h v k e = clash cc
 
 offset-sized : (n coarser sum : ℕ) → Sized n (offset_of n coarser sum)
 offset-sized n coarser sum =
@@ -93,13 +96,13 @@ offset-sized n coarser sum =
 record Behind (unit coarser n high : ℕ) (s : List ℕ) (v k : ℕ) : Type 0 where
   within : n ≤ length s
   size : k ≡ suc n
-  same : (x : List ℕ) → in_units unit coarser (read_fixed n high (take n s ++ x)) ≡ Value v k
+  same : (x : List ℕ) → in_units unit coarser (read_fixed n high (take n s ++ x)) ≡ Ok (v, k)
 
-behind-alone : (unit coarser n high : ℕ) (s : List ℕ) (v k : ℕ) → Value v k ≡ in_units unit coarser (read_fixed n high s)
+behind-alone : (unit coarser n high : ℕ) (s : List ℕ) (v k : ℕ) → Ok (v, k) ≡ in_units unit coarser (read_fixed n high s)
     → Behind unit coarser n high s v k
 behind-alone unit coarser n high s v k e = go (leb n (length s)) refl e
   where
-    go : (t : Bool) → leb n (length s) ≡ t → Value v k ≡ in_units unit coarser (pick t (Value (fixed_from n high s) n) (Refused 9))
+    go : (t : Bool) → leb n (length s) ≡ t → Ok (v, k) ≡ in_units unit coarser (pick t (Ok (fixed_from n high s, n)) (Err BadData))
         → Behind unit coarser n high s v k
     go true h f =
         let l = leb-true n (length s) h in
@@ -107,29 +110,29 @@ behind-alone unit coarser n high s v k e = go (leb n (length s)) refl e
         record { within = l; size = omega arith; same = λ x. ap (in_units unit coarser) (read-fixed-alone n high s x l) ∙ sym f }
     go false h f = clash cc
 
-sum-alone : (s : List ℕ) (v n : ℕ) → Value v n ≡ read_sum s → Alone read_sum s v n
+sum-alone : (s : List ℕ) (v n : ℕ) → Ok (v, n) ≡ read_sum s → Alone read_sum s v n
 unfolding read_sum
 sum-alone [] v n e = clash cc
 sum-alone (b ∷ s) v n e = go (ltb b 128) (ltb b 160) (ltb b 192) (ltb b 224) refl refl refl refl e
   where
     go : (t₁ t₂ t₃ t₄ : Bool) → ltb b 128 ≡ t₁ → ltb b 160 ≡ t₂ → ltb b 192 ≡ t₃ → ltb b 224 ≡ t₄
-        → Value v n
+        → Ok (v, n)
         ≡ pick t₁ (offset_of 1 172800000 (b * 1800000))
         (pick t₂ (in_units 60000 1800000 (read_fixed 1 (b % 32) s))
-        (pick t₃ (in_units 1000 60000 (read_fixed 2 (b % 32) s)) (pick t₄ (in_units 1 1000 (read_fixed 3 (b % 32) s)) (Refused 7))))
+        (pick t₃ (in_units 1000 60000 (read_fixed 2 (b % 32) s)) (pick t₄ (in_units 1 1000 (read_fixed 3 (b % 32) s)) (Err BadCode))))
         → Alone read_sum (b ∷ s) v n
     go true t₂ t₃ t₄ h₁ h₂ h₃ h₄ f =
         let i : n ≡ 1 = sized 1 _ (offset-sized 1 172800000 (b * 1800000)) v n f in
-        rw i (record { within = omega arith; same = λ x. rw h₁ (sym f ∙ ap (Value v) i) })
+        rw i (record { within = omega arith; same = λ x. rw h₁ (sym f ∙ ap (λ (m : ℕ). Ok (v, m)) i) })
     go false true t₃ t₄ h₁ h₂ h₃ h₄ f =
         let a = behind-alone 60000 1800000 1 (b % 32) s v n f in
-        rw a.size (record { within = omega (arith, a.within); same = λ x. rw (h₁, h₂) (a.same x ∙ ap (Value v) a.size) })
+        rw a.size (record { within = omega (arith, a.within); same = λ x. rw (h₁, h₂) (a.same x ∙ ap (λ (m : ℕ). Ok (v, m)) a.size) })
     go false false true t₄ h₁ h₂ h₃ h₄ f =
         let a = behind-alone 1000 60000 2 (b % 32) s v n f in
-        rw a.size (record { within = omega (arith, a.within); same = λ x. rw (h₁, h₂, h₃) (a.same x ∙ ap (Value v) a.size) })
+        rw a.size (record { within = omega (arith, a.within); same = λ x. rw (h₁, h₂, h₃) (a.same x ∙ ap (λ (m : ℕ). Ok (v, m)) a.size) })
     go false false false true h₁ h₂ h₃ h₄ f =
         let a = behind-alone 1 1000 3 (b % 32) s v n f in
-        rw a.size (record { within = omega (arith, a.within); same = λ x. rw (h₁, h₂, h₃, h₄) (a.same x ∙ ap (Value v) a.size) })
+        rw a.size (record { within = omega (arith, a.within); same = λ x. rw (h₁, h₂, h₃, h₄) (a.same x ∙ ap (λ (m : ℕ). Ok (v, m)) a.size) })
     go false false false false h₁ h₂ h₃ h₄ f = clash cc
 
 -- ---- transitions
@@ -143,12 +146,12 @@ count-sized prev c n =
     (λ _. pick-holds (Sized n) (ltb c 2097152)
     (λ _. pick-holds (Sized n) (finite prev) (λ _. range-sized n (prev + c * hour)) (λ _. tt)) (λ _. range-sized n (year1800 + c * minute)))))
 
-moment-alone : (prev : ℕ) (s : List ℕ) (v n : ℕ) → Value v n ≡ read_moment prev s → Alone (read_moment prev) s v n
+moment-alone : (prev : ℕ) (s : List ℕ) (v n : ℕ) → Ok (v, n) ≡ read_moment prev s → Alone (read_moment prev) s v n
 unfolding read_moment
 moment-alone prev s v n e = go (read_count s) refl e
   where
-    ticks : (m : ℕ) → Value 2 m ≡ read_count s → (t : Bool) → leb 8 (length (drop m s)) ≡ t
-        → Value v n ≡ from_ticks m (pick t (Value (fixed_from 8 0 (drop m s)) 8) (Refused 9)) → Alone (read_moment prev) s v n
+    ticks : (m : ℕ) → Ok (2, m) ≡ read_count s → (t : Bool) → leb 8 (length (drop m s)) ≡ t
+        → Ok (v, n) ≡ from_ticks m (pick t (Ok (fixed_from 8 0 (drop m s), 8)) (Err BadData)) → Alone (read_moment prev) s v n
     ticks m h true l f =
         let c = group-alone 4 7 s 2 m h in
         let w = leb-true 8 (length (drop m s)) l in
@@ -161,21 +164,21 @@ moment-alone prev s v n e = go (read_count s) refl e
               let q : take (m + 8) s ++ x ≡ take m s ++ y =
               ap (λ (z : List ℕ). z ++ x) (take-add m 8 s) ∙ append_assoc (take m s) (take 8 (drop m s)) x in
               rw (q, c.same y, drop_at (take m s) y m (length-take-le m s c.within), read-fixed-alone 8 0 (drop m s) x w)
-              (sym f ∙ ap (Value v) i);
+              (sym f ∙ ap (λ (m : ℕ). Ok (v, m)) i);
         })
     ticks m h false l f = clash cc
 
-    other : (c m : ℕ) → Value c m ≡ read_count s → (t : Bool) → eqb c 2 ≡ t
-        → Value v n ≡ pick t (from_ticks m (read_fixed 8 0 (drop m s))) (from_count prev c m) → Alone (read_moment prev) s v n
+    other : (c m : ℕ) → Ok (c, m) ≡ read_count s → (t : Bool) → eqb c 2 ≡ t
+        → Ok (v, n) ≡ pick t (from_ticks m (read_fixed 8 0 (drop m s))) (from_count prev c m) → Alone (read_moment prev) s v n
     other c m h true t f = ticks m (rw (eqb-true c 2 t) at h) (leb 8 (length (drop m s))) refl f
     other c m h false t f =
         let a = group-alone 4 7 s c m h in
         let i : n ≡ m = sized m _ (count-sized prev c m) v n f in
-        rw i (record { within = a.within; same = λ x. rw (a.same x, t) (sym f ∙ ap (Value v) i) })
+        rw i (record { within = a.within; same = λ x. rw (a.same x, t) (sym f ∙ ap (λ (m : ℕ). Ok (v, m)) i) })
 
-    go : (r : Read) → r ≡ read_count s → Value v n ≡ after_count prev s r → Alone (read_moment prev) s v n
-    go (Value c m) h f = other c m h (eqb c 2) refl f
-    go (Refused k) h f = clash cc
+    go : (r : Coded ℕ) → r ≡ read_count s → Ok (v, n) ≡ after_count prev s r → Alone (read_moment prev) s v n
+    go (Ok (c, m)) h f = other c m h (eqb c 2) refl f
+    go (Err k) h f = clash cc
 
 -- ---- the codes
 module _ (s : List ℕ) (v : ℕ) (r : List ℕ) where
@@ -213,6 +216,6 @@ pub got-front : {A : Type 0} (a : A) (s : List ℕ) → Front (λ x. got a x) s 
 got-front a s = record { used = []; splits = refl; again = λ x. refl }
 
 -- a test of what was read
-pub test-front : {A : Type 0} (t : Bool) (n : ℕ) (p : List ℕ → Parsed A) (s : List ℕ) (a : A) (r : List ℕ) → t ≡ true → Front p s a r
+pub test-front : {A : Type 0} (t : Bool) (n : Refusal) (p : List ℕ → Parsed A) (s : List ℕ) (a : A) (r : List ℕ) → t ≡ true → Front p s a r
     → Front (λ x. pick t (p x) (bad n)) s a r
 test-front t n p s a r h f = record { used = f.used; splits = f.splits; again = λ x. rw h (f.again x) }

@@ -1,4 +1,5 @@
 -- A field's data with other numbers, and the numbers it mentions, one mention after the other. Assumes nothing.
+use Rattle.base.specs.declared.Refusal.{Refusal}
 use mathlib.Core.Path.{◌≡◌, ap, ◌∙◌}
 use mathlib.Core.List.{List, [], ◌∷◌, ◌++◌, append_assoc}
 use Prim.Native.Nat.{ℕ}
@@ -17,7 +18,7 @@ module _ (ρ : ℕ → ℕ) (σ : Stage) (s : List ℕ) where
       → print ρ (content_at σ s) ≡ (m.prior ++ write_count (ρ m.number)) ++ print ρ (content_at m.behind r)
   print-here m r e = ap (print ρ) (content-next σ s m r e) ∙ print-before ρ m (content_at m.behind r)
 
-  pub print-none : (n : ℕ) → parse_mention σ s ≡ bad n → print ρ (content_at σ s) ≡ s
+  pub print-none : (n : Refusal) → parse_mention σ s ≡ bad n → print ρ (content_at σ s) ≡ s
   unfolding print print_mentions
   print-none n e = ap (print ρ) (content-end σ s n e)
 
@@ -27,6 +28,6 @@ module _ (σ : Stage) (s : List ℕ) where
   unfolding numbers_in
   numbers-here m r e = ap (λ (c : Content). numbers_in c.mentions) (content-next σ s m r e)
 
-  pub numbers-none : (n : ℕ) → parse_mention σ s ≡ bad n → numbers_in (content_at σ s).mentions ≡ []
+  pub numbers-none : (n : Refusal) → parse_mention σ s ≡ bad n → numbers_in (content_at σ s).mentions ≡ []
   unfolding numbers_in
   numbers-none n e = ap (λ (c : Content). numbers_in c.mentions) (content-end σ s n e)

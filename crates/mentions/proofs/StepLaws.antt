@@ -1,4 +1,6 @@
 -- A reader of a field reads its data with other numbers as it reads the data: code by code between two mentions, and at a mention. Assumes nothing.
+use Rattle.base.specs.declared.Refusal.{Refusal}
+use Rattle.base.specs.declared.Refusal.TheVariants.{BadData, BadText}
 use mathlib.Core.Path.{◌≡◌, refl, sym, ap, ◌∙◌}
 use mathlib.Core.Bool.{Bool, true}
 use mathlib.Core.List.{List, [], ◌∷◌, ◌++◌, append-nil, append_assoc}
@@ -73,7 +75,7 @@ module _ (κ : Ahead) (s : List ℕ) where
     unfolding numbers_by numbers_in
     numbers-some = ap (λ (c : Content). numbers_in c.mentions) some-by
 
-  module _ (k : ℕ) (e : mention_by κ s ≡ bad k) where
+  module _ (k : Refusal) (e : mention_by κ s ≡ bad k) where
     none-by : content_by κ s ≡ record { mentions = []; rest = s }
     unfolding content_by
     none-by = rw e
@@ -122,7 +124,7 @@ module _ (ρ : ℕ → ℕ) where
         let j : κ s ≡ κ' a r = e ∙ rw i in
         go (κ' a r) j refl l
       where
-        none : (k : ℕ) → mention_by κ s ≡ bad k → mention_by (κ' a) r ≡ bad k → Copied
+        none : (k : Refusal) → mention_by κ s ≡ bad k → mention_by (κ' a) r ≡ bad k → Copied
         none k g h = (
           print-none κ s k g ρ ∙ f.splits ∙ ap (λ (y : List ℕ). f.used ++ y) (sym (print-none (κ' a) r k h ρ)),
           numbers-none κ s k g ∙ sym (numbers-none (κ' a) r k h),
@@ -162,22 +164,22 @@ module _ (ρ : ℕ → ℕ) where
     unfolding parse_name judge_name
     name-reads pool pool' h f l =
         let a = bind-good (parse read_count s) (judge_name pool) n q f in
-        let t = pick_good (ltb a.first pool) (got a.first a.rest) 8 n q a.on in
+        let t = pick_good (ltb a.first pool) (got a.first a.rest) BadText n q a.on in
         let c : parse read_count s ≡ got n q = a.is ∙ t.1 in
         let m = mention-reads c (omega arith) in
         record { again = rw (m.again, lt-ltb (ρ n) pool' l); numbers = m.numbers }
 
   -- where the data end before a mention, and where no mention follows
   module _ (κ : Ahead) (s : List ℕ) (τ : Stage) (e : κ s ≡ got τ []) where
-    none : mention_by κ s ≡ bad 9
+    none : mention_by κ s ≡ bad BadData
     unfolding mention_by read_groups
     none = rw e
 
     print-rest : print_by ρ κ s ≡ s
-    print-rest = print-none κ s 9 none ρ
+    print-rest = print-none κ s BadData none ρ
 
     numbers-rest : numbers_by κ s ≡ []
-    numbers-rest = numbers-none κ s 9 none
+    numbers-rest = numbers-none κ s BadData none
 
   -- a whole that ends without a mention more; its end is one place, by whatever way it is reached
   pub last-reads : {A : Type 0} (κ : Ahead) (s : List ℕ) (τ : Stage) (p : List ℕ → Parsed A) (a : A) → κ s ≡ got τ [] → p s ≡ got a []
@@ -195,7 +197,7 @@ module _ (ρ : ℕ → ℕ) where
   end_reads {κ' = κ'} {r = r} k b h f = record { again = rw f.again (h (print_by ρ κ' r)); numbers = f.numbers }
 
   -- a test of what was read
-  pub test-reads : {A : Type 0} {κ κ' : Ahead} {s r : List ℕ} {p : List ℕ → Parsed A} {a : A} {ns : List ℕ} (t : Bool) (n : ℕ) → t ≡ true
+  pub test-reads : {A : Type 0} {κ κ' : Ahead} {s r : List ℕ} {p : List ℕ → Parsed A} {a : A} {ns : List ℕ} (t : Bool) (n : Refusal) → t ≡ true
       → Reads κ s p a ns κ' r → Reads κ s (λ x. pick t (p x) (bad n)) a ns κ' r
   test-reads t n h f = record { again = rw h f.again; numbers = f.numbers }
 

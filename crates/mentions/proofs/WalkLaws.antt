@@ -1,4 +1,6 @@
 -- The bytes from the next mention on are no more than those before it, and what stands at a place. Assumes nothing.
+use Rattle.std.specs.Prelude.{Err, Ok}
+use Rattle.base.specs.Coded.{Coded}
 use mathlib.Core.Path.{◌≡◌, refl, subst⁻¹}
 use mathlib.Core.Bool.{Bool, true, false}
 use mathlib.Core.List.{List, [], ◌∷◌}
@@ -9,8 +11,6 @@ use lib.Dec.{eqb}
 use borrow.Author.Tests.{eq-eqb, ne_eqb}
 use Rattle.base.specs.Pick.{pick}
 use Rattle.base.specs.Parsed.{Parsed, got, bad, bind, behind_code, parse, parse_byte}
-use Rattle.base.specs.declared.Read.{Read}
-use Rattle.base.specs.declared.Read.TheVariants.{Value, Refused}
 use Rattle.base.specs.Moment.{end_of_time}
 use Rattle.base.proofs.ParseLaws.{bad-got, got-rest}
 use Rattle.counts.specs.Count.{read_count}
@@ -38,12 +38,12 @@ pub left-pick : {A : Type 0} (n : ℕ) (t : Bool) (p q : Parsed A) → Left n p 
 left-pick n true p q h i = h
 left-pick n false p q h i = i
 
-pub left-parse : (read : List ℕ → Read) (n : ℕ) (s : List ℕ) → length s ≤ n → Left n (parse read s)
+pub left-parse : (read : List ℕ → Coded ℕ) (n : ℕ) (s : List ℕ) → length s ≤ n → Left n (parse read s)
 left-parse read n s h = go (read s)
   where
-    go : (x : Read) → Left n (behind_code s x)
-    go (Value v k) = rw length-drop (omega arith)
-    go (Refused k) = tt
+    go : (x : Coded ℕ) → Left n (behind_code s x)
+    go (Ok (v, k)) = rw length-drop (omega arith)
+    go (Err k) = tt
 
 pub left-byte : (n : ℕ) (s : List ℕ) → length s ≤ n → Left n (parse_byte s)
 unfolding parse_byte
@@ -117,9 +117,9 @@ ahead-left σ s τ r e = go (ahead_of σ s) e (left-ahead (length s) σ s (omega
 pub count_left : (s : List ℕ) (v : ℕ) (r : List ℕ) → parse read_count s ≡ got v r → length r < length s
 count_left s v r e = go (read_count s) refl e
   where
-    go : (x : Read) → x ≡ read_count s → behind_code s x ≡ got v r → length r < length s
-    go (Value w n) h f = let c = counted s h in let l : drop n s ≡ r = got-rest f in rw (← l, length-drop) (omega (arith, c.some, c.within))
-    go (Refused k) h f = bad-got f
+    go : (x : Coded ℕ) → x ≡ read_count s → behind_code s x ≡ got v r → length r < length s
+    go (Ok (w, n)) h f = let c = counted s h in let l : drop n s ≡ r = got-rest f in rw (← l, length-drop) (omega (arith, c.some, c.within))
+    go (Err k) h f = bad-got f
 
 pub zigzag-small : (q : List ℕ) (v : ℕ) (r : List ℕ) → parse read_zigzag q ≡ got v r → v ≤ 4294967295
 zigzag-small q v r e = code_holds read_zigzag (λ w. w ≤ 4294967295) (λ s w n h. let z = (group 4 15 s h).small in omega (arith, z)) q v r e

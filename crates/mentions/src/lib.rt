@@ -22,17 +22,3 @@ pub enum Stage {
     // No mention follows.
     Rest,
 }
-
-// The stage behind the next mention, and the mention's place; the end of the data where there is none.
-#[derive(Clone, Copy)]
-pub enum Skipped {
-    At(Stage, usize),
-    Refused(u8),
-}
-
-// The next mention: the stage behind it, its number, its place and the place behind it; or that there is none.
-#[derive(Clone, Copy)]
-pub enum Mentioned {
-    Here(Stage, u64, usize, usize),
-    Nothing,
-}

@@ -6,7 +6,7 @@ ghost use Rattle.replies.specs.Reply.{Gives};
 ghost use Rattle.replies.specs.Functions.{moment_reply, previous_of, moment_of};
 ghost use Rattle.replies.specs.Small.{SmallRead};
 
-use base::Read;
+use base::Coded;
 
 pub fn previous_of(finite: bool, previous: i64) -> u64
     ensures { result ≡ previous_of finite previous }
@@ -18,12 +18,12 @@ pub fn previous_of(finite: bool, previous: i64) -> u64
 }
 
 // Kind, ticks and length of a transition.
-pub fn give_moment(c: Read, out: &mut [i64; 3]) -> u64
+pub fn give_moment(c: Coded<u64>, out: &mut [i64; 3]) -> u64
     requires { SmallRead c }
     ensures { Gives (moment_reply c) out.old result out.new }
 {
     match c {
-        Read::Value(m, n) => {
+        Ok((m, n)) => {
             if m == 0 {
                 *out = [0, 0, n as i64];
                 return 0;
@@ -35,7 +35,7 @@ pub fn give_moment(c: Read, out: &mut [i64; 3]) -> u64
             *out = [2, signed::ticks(m), n as i64];
             0
         }
-        Read::Refused(k) => k as u64,
+        Err(k) => k.number() as u64,
     }
 }
 

@@ -1,4 +1,8 @@
 -- What fields 1 and 2 say to the named question, a law for each way out of the code. Assumes nothing.
+use Rattle.base.specs.declared.Refusal.{Refusal}
+use Rattle.std.specs.Prelude.{Err, Ok, Result}
+use Rattle.base.specs.Coded.{Coded}
+use Rattle.base.specs.declared.Refusal.TheVariants.{BadData}
 use mathlib.Core.Path.{◌≡◌, refl, sym, ap, ◌∙◌, subst}
 use mathlib.Core.List.{List, [], ◌∷◌, ◌++◌, append-nil}
 use Prim.Native.Nat.{ℕ, ◌+◌, ◌<◌}
@@ -6,12 +10,8 @@ use native.Mathlib.Omega.{arith}
 use lib.ListN.{length, drop, get_or, set}
 use borrow.Author.Tests.{eq-eqb, ne_eqb, lt-ltb, le-ltb}
 use Rattle.base.specs.Parsed.{Parsed, got, bad as unread}
-use Rattle.base.specs.declared.Read.{Read}
-use Rattle.base.specs.declared.Read.TheVariants.{Value, Refused as Unread}
 use Rattle.base.proofs.Tests.{clash}
 use Rattle.texts.specs.Text.{read_text}
-use Rattle.texts.specs.declared.Text.{Text}
-use Rattle.texts.specs.declared.Text.TheVariants.{Part, Refused as Untext}
 use Rattle.pool.specs.Pool.{strings_of}
 use Rattle.places.specs.Placed.{Stands, of_read}
 use Rattle.places.specs.Name.{parse_name}
@@ -31,15 +31,15 @@ use Rattle.named_fields.specs.View.{known_at, strings_at, Flags, TextTo, JudgedT
 use Rattle.named_fields.proofs.SeenLaws.{flags-more}
 
 -- field 2
-module _ (d : List ℕ) (u : Text) (h : u ≡ read_text d) where
-  pub text-fault : (n : ℕ) → u ≡ Untext n → JudgedText d (Fault n)
+module _ (d : List ℕ) (u : Result (ℕ × ℕ) Refusal) (h : u ≡ read_text d) where
+  pub text-fault : (n : Refusal) → u ≡ Err n → JudgedText d (Fault n)
   text-fault n q = record { means = λ k. rw (sym h ∙ q) }
 
-  module _ (b n : ℕ) (q : u ≡ Part b n) where
+  module _ (b n : ℕ) (q : u ≡ Ok (b, n)) where
     pub text-keep : b + n ≡ length d → JudgedText d Keep
     text-keep o = record { means = λ k. rw (sym h ∙ q, eq-eqb (b + n) (length d) o) }
 
-    pub text-over : (b + n ≡ length d → ⊥) → JudgedText d (Fault 9)
+    pub text-over : (b + n ≡ length d → ⊥) → JudgedText d (Fault BadData)
     text-over o = record { means = λ k. rw (sym h ∙ q, ne_eqb (b + n) (length d) o) }
 
 -- a zone, by what it says to the walk by ID
@@ -50,18 +50,18 @@ module _ (x pool : List ℕ) (count : ℕ) (d : List ℕ) (fl : List ℕ) (j : J
   pub zone-here : j ≡ Here → JudgedZone x pool (parse_zone count d) fl fl Here
   zone-here e = record { means = λ zs f start. judged Here e start }
 
-  pub zone-fault : (n : ℕ) → j ≡ Fault n → JudgedZone x pool (parse_zone count d) fl fl (Fault n)
+  pub zone-fault : (n : Refusal) → j ≡ Fault n → JudgedZone x pool (parse_zone count d) fl fl (Fault n)
   zone-fault n e = record { means = λ zs f start. judged (Fault n) e start }
 
   -- one that is passed, whose ID is read once more
-  module _ (e : j ≡ Keep) (c : count ≡ length (strings_of pool)) (r : Read) (w : Stands d (parse_name count (drop 0 d)) (of_read r)) where
-    pub zone-unnamed : {G : Type 0} (n : ℕ) → r ≡ Unread n → G
+  module _ (e : j ≡ Keep) (c : count ≡ length (strings_of pool)) (r : Coded ℕ) (w : Stands d (parse_name count (drop 0 d)) (of_read r)) where
+    pub zone-unnamed : {G : Type 0} (n : Refusal) → r ≡ Err n → G
     zone-unnamed n y =
         let z : parse_zone count d ≡ unread n = zone-bad count d n (w.means ∙ rw (ap of_read y)) in
         let v : bad n ≡ keep (pool_of 0 pool) = rw z at (judged Keep e 0) in
         clash cc
 
-    module _ (i b : ℕ) (y : r ≡ Value i b) where
+    module _ (i b : ℕ) (y : r ≡ Ok (i, b)) where
       pub zone-number : i < count
       zone-number = name-ok count d i (drop b d) (w.means ∙ rw (ap of_read y))
 

@@ -1,13 +1,15 @@
 -- The named question: "takes a canonical ID or an alias". To be believed.
-use Rattle.std.specs.Prelude.{ℕ, ◌+◌, List, [], ◌∷◌, ◌++◌, ℤ, length, get_or, eqb, ltb}
+use Rattle.answers.specs.declared.Found.{Found}
+use Rattle.base.specs.declared.Refusal.{Refusal}
+use Rattle.base.specs.declared.Refusal.TheVariants.{BadData, NotFound, OutOfRange, TooManySteps}
+use Rattle.base.specs.Coded.{Fault}
+use Rattle.std.specs.Prelude.{ℕ, ◌+◌, List, [], ◌∷◌, ◌++◌, ℤ, length, get_or, eqb, ltb, Err, Ok, Result}
 use Rattle.std.proofs.Math.Option.{Option, none, some}
 use Rattle.base.specs.Pick.{pick}
 use Rattle.base.specs.Equal.{equal}
 use Rattle.base.specs.Parsed.{Parsed, got, bad}
 use Rattle.signed.specs.Instant.{instant_of}
 use Rattle.texts.specs.Text.{read_text}
-use Rattle.texts.specs.declared.Text.{Text}
-use Rattle.texts.specs.declared.Text.TheVariants.{Part, Refused as Untext}
 use Rattle.pool.specs.Pool.{strings_of}
 use Rattle.zones.specs.Content.{Zone}
 use Rattle.zones.specs.Parse.{parse_zone}
@@ -19,8 +21,6 @@ use Rattle.frames.specs.Frame.{Field}
 use Rattle.frames.specs.Machine.{Content, bad as fault, answer, keep, Job, walk}
 use Rattle.answers.specs.Answers.{Pool, no_pool}
 use Rattle.answers.specs.declared.Mark.{Mark}
-use Rattle.answers.specs.declared.Answer.{Answer}
-use Rattle.answers.specs.declared.Answer.TheVariants.{Refused}
 use Rattle.locate.specs.Asked.{says as asked_says}
 use Rattle.questions.specs.Question.{answer_at, finish}
 
@@ -62,15 +62,15 @@ remembered k g (answer v) = answer v
 remembered k g (keep p) = keep (record { pool = p; zones = k.zones ++ zones_of (strings_of p.body) g })
 
 -- "Field 2 is checked on the way", as the whole-file check does it
-abbrev pub text_says : {A : Type 0} → Known → ℕ → Text → Content Known A
-text_says k size (Untext n) = fault n
-text_says k size (Part b n) = pick (eqb (b + n) size) (keep k) (fault 9)
+abbrev pub text_says : {A : Type 0} → Known → ℕ → Result (ℕ × ℕ) Refusal → Content Known A
+text_says k size (Err n) = fault n
+text_says k size (Ok (b, n)) = pick (eqb (b + n) size) (keep k) (fault BadData)
 
 -- "Number 18 if the eighth target is again only a key, 12 where a target is unknown", at the field's ID byte as every fault of a field
 abbrev pub resolved : {A : Type 0} → (Pool → Zone → A) → Pool → Named Zone → Content Known A
 resolved h p (here z) = answer (h p z)
-resolved h p unknown = fault 12
-resolved h p deep = fault 18
+resolved h p unknown = fault NotFound
+resolved h p deep = fault TooManySteps
 
 -- field 3: "faults of the field come before 18 and 12"
 abbrev pub alias_says : {A : Type 0} → (Pool → Zone → A) → List ℕ → Known → Parsed Dictionary → Content Known A
@@ -89,5 +89,5 @@ abbrev pub naming : {A : Type 0} → (Pool → Zone → A) → List ℕ → Job 
 naming h x = record { last = 3; content = says h x }
 
 -- the zone that x names, at the signed tick z, under an edition
-unfoldable pub ask_named : List ℕ → List ℕ → ℤ → Mark → Edition → Answer
-ask_named bs x z mark ed = pick (eqb (instant_of z) 0) (Refused 14 0) (finish mark (walk (naming (answer_at ed (instant_of z)) x) nothing bs))
+unfoldable pub ask_named : List ℕ → List ℕ → ℤ → Mark → Edition → Result Found Fault
+ask_named bs x z mark ed = pick (eqb (instant_of z) 0) (Err (OutOfRange, 0)) (finish mark (walk (naming (answer_at ed (instant_of z)) x) nothing bs))

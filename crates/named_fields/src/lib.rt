@@ -8,21 +8,20 @@ ghost use Rattle.zones.specs.Parse.{parse_zone};
 ghost use Rattle.locate.specs.View.{part, Lies};
 ghost use Rattle.named_fields.specs.View.{JudgedText, JudgedZone, JudgedField};
 
-use base::Read;
+use base::Refusal;
 use locate::Judged;
-use texts::Text;
 
 // Field 2 in d.
 fn judge_text(d: &[u8]) -> Judged
     ensures { JudgedText d.now result }
 {
     match texts::read_text(d) {
-        Text::Refused(n) => Judged::Fault(n),
-        Text::Part(b, n) => {
+        Err(n) => Judged::Fault(n),
+        Ok((b, n)) => {
             if b + n == d.len() {
                 return Judged::Keep;
             }
-            Judged::Fault(9)
+            Judged::Fault(Refusal::BadData)
         }
     }
 }
@@ -44,8 +43,8 @@ fn judge_zone(
         Judged::Here => Judged::Here,
         Judged::Fault(n) => Judged::Fault(n),
         Judged::Keep => match places::name_at(d, 0, count as u64) {
-            Read::Refused(n) => Judged::Fault(n),
-            Read::Value(k, _) => {
+            Err(n) => Judged::Fault(n),
+            Ok((k, _)) => {
                 flags[k as usize] = 1;
                 Judged::Keep
             }

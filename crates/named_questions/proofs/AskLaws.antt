@@ -1,4 +1,7 @@
 -- The named question, by the walk's outcome and the mark. Assumes nothing.
+use Rattle.base.specs.declared.Refusal.{Refusal}
+use Rattle.base.specs.declared.Refusal.TheVariants.{BadData, OutOfRange}
+use Rattle.std.specs.Prelude.{Err, Ok, Result}
 use mathlib.Core.Path.{◌≡◌, refl, sym, ap, ◌∙◌}
 use mathlib.Core.Bool.{Bool, true, false}
 use mathlib.Core.List.{List}
@@ -11,8 +14,6 @@ use Rattle.base.specs.Pick.{pick}
 use Rattle.base.specs.Parsed.{Parsed, got, bad}
 use Rattle.signed.specs.Instant.{instant_of}
 use Rattle.texts.specs.Text.{read_text}
-use Rattle.texts.specs.declared.Text.{Text}
-use Rattle.texts.specs.declared.Text.TheVariants.{Part, Refused as Untext}
 use Rattle.pool.specs.Pool.{strings_of}
 use Rattle.zones.specs.Content.{Zone}
 use Rattle.aliases.specs.Dictionary.{Dictionary}
@@ -26,7 +27,6 @@ use Rattle.zones.specs.declared.Edition.{Edition}
 use Rattle.answers.specs.Answers.{Pool, answer_of}
 use Rattle.answers.specs.declared.Mark.{Mark}
 use Rattle.answers.specs.declared.Found.{Found}
-use Rattle.answers.specs.declared.Answer.TheVariants.{Refused}
 use Rattle.answers.specs.declared.Outcome.{Outcome}
 use Rattle.answers.specs.declared.Outcome.TheVariants.{Refused as Stopped, Cut, End}
 use Rattle.locate.specs.Asked.{says as asked_says, Held, held, of_held}
@@ -50,11 +50,11 @@ module _ {A : Type 0} (h : Pool → Zone → A) (x : List ℕ) where
       of-id (answer v) = refl
       of-id (keep p) = refl
 
-      of-text : (u : Text) → ◌≡◌ {A = Content Known A} (text_says k (length g.body) u) (map_content (of_held h) (text_says k (length g.body) u))
-      of-text (Untext n) = refl
-      of-text (Part b n) = by (eqb (b + n) (length g.body))
+      of-text : (u : Result (ℕ × ℕ) Refusal) → ◌≡◌ {A = Content Known A} (text_says k (length g.body) u) (map_content (of_held h) (text_says k (length g.body) u))
+      of-text (Err n) = refl
+      of-text (Ok (b, n)) = by (eqb (b + n) (length g.body))
         where
-          by : (t : Bool) → ◌≡◌ {A = Content Known A} (pick t (keep k) (fault 9)) (map_content (of_held h) (pick t (keep k) (fault 9)))
+          by : (t : Bool) → ◌≡◌ {A = Content Known A} (pick t (keep k) (fault BadData)) (map_content (of_held h) (pick t (keep k) (fault BadData)))
           by true = refl
           by false = refl
 
@@ -102,7 +102,7 @@ module _ (ed : Edition) (t : ℕ) (x s : List ℕ) where
   pub out-walk : (r : Outcome) → r ≡ outcome_of (map_out (of_held (answer_at ed t)) all) → r ≡ outcome_of (walk (naming (answer_at ed t) x) nothing s)
   out-walk r e = e ∙ ap outcome_of (sym (named-walk (answer_at ed t) x s))
 
-  pub out-refused : (n p : ℕ) → all ≡ refused n p → Stopped n p ≡ outcome_of (walk (naming (answer_at ed t) x) nothing s)
+  pub out-refused : (n : Refusal) (p : ℕ) → all ≡ refused n p → Stopped n p ≡ outcome_of (walk (naming (answer_at ed t) x) nothing s)
   out-refused n p e = out-walk (Stopped n p) (rw e)
 
   pub out-cut : (p : ℕ) → all ≡ cut p → Cut p ≡ outcome_of (walk (naming (answer_at ed t) x) nothing s)
@@ -112,7 +112,7 @@ module _ (ed : Edition) (t : ℕ) (x s : List ℕ) where
   out-end k p e = out-walk (End p) (rw e)
 
 module _ (bs x : List ℕ) (z : ℤ) (mark : Mark) (ed : Edition) (t : ℕ) (e : t ≡ instant_of z) where
-  pub ask-outside : t ≡ 0 → Refused 14 0 ≡ ask_named bs x z mark ed
+  pub ask-outside : t ≡ 0 → Err (OutOfRange, 0) ≡ ask_named bs x z mark ed
   unfolding ask_named
   ask-outside h = rw (eq-eqb (instant_of z) 0 (sym e ∙ h))
 

@@ -1,4 +1,7 @@
 -- What the named question remembers behind fields that it keeps. Assumes nothing.
+use Rattle.base.specs.declared.Refusal.{Refusal}
+use Rattle.base.specs.declared.Refusal.TheVariants.{BadData}
+use Rattle.std.specs.Prelude.{Err, Ok, Result}
 use mathlib.Core.Path.{◌≡◌, refl, sym, ap, ◌∙◌}
 use mathlib.Core.Bool.{Bool, true, false}
 use mathlib.Core.List.{List, [], ◌∷◌, ◌++◌, append-nil, append_assoc}
@@ -14,8 +17,6 @@ use Rattle.base.specs.All.{All}
 use Rattle.base.proofs.AllLaws.{all_head, all_tail}
 use Rattle.base.proofs.Tests.{clash}
 use Rattle.texts.specs.Text.{read_text}
-use Rattle.texts.specs.declared.Text.{Text}
-use Rattle.texts.specs.declared.Text.TheVariants.{Part, Refused as Untext}
 use Rattle.pool.specs.Pool.{parse_pool, strings_of}
 use Rattle.zones.specs.Content.{Zone}
 use Rattle.zones.specs.Parse.{parse_zone}
@@ -59,11 +60,11 @@ module _ (id : List ℕ) (ed : Edition) (t : ℕ) where
   unfolding zones_of
   no-zone k g n = rw (ne_eqb g.id 1 n) (append-nil k.zones)
 
-  text_same : (k k' : Known) (size : ℕ) (u : Text) → text_says {A = Found} k size u ≡ keep k' → k ≡ k'
-  text_same k k' size (Untext n) e = clash cc
-  text_same k k' size (Part b n) e = go (eqb (b + n) size) e
+  text_same : (k k' : Known) (size : ℕ) (u : Result (ℕ × ℕ) Refusal) → text_says {A = Found} k size u ≡ keep k' → k ≡ k'
+  text_same k k' size (Err n) e = clash cc
+  text_same k k' size (Ok (b, n)) e = go (eqb (b + n) size) e
     where
-      go : (y : Bool) → pick {A = Content Known Found} y (keep k) (fault 9) ≡ keep k' → k ≡ k'
+      go : (y : Bool) → pick {A = Content Known Found} y (keep k) (fault BadData) ≡ keep k' → k ≡ k'
       go true q = cc
       go false q = clash cc
 

@@ -1,4 +1,8 @@
 -- The name of an answer to the named question is a part of the bytes that were asked. Assumes nothing.
+use Rattle.base.specs.declared.Refusal.{Refusal}
+use Rattle.base.specs.declared.Refusal.TheVariants.{BadData, OutOfRange}
+use Rattle.std.specs.Prelude.{Err, Ok, Result}
+use Rattle.base.specs.Coded.{Fault}
 use mathlib.Core.Path.{◌≡◌, refl, sym, ap, ◌∙◌, subst}
 use mathlib.Core.Bool.{Bool, true, false}
 use mathlib.Core.List.{List, [], ◌∷◌, ◌++◌}
@@ -21,8 +25,6 @@ use Rattle.base.proofs.Tests.{clash}
 use Rattle.signed.specs.Instant.{instant_of}
 use Rattle.signed.proofs.IntegerLaws.{instant-finite}
 use Rattle.texts.specs.Text.{read_text}
-use Rattle.texts.specs.declared.Text.{Text}
-use Rattle.texts.specs.declared.Text.TheVariants.{Part, Refused as Untext}
 use Rattle.pool.specs.Pool.{strings_of}
 use Rattle.pool.proofs.StringLaws.{span-inside}
 use Rattle.zones.specs.Content.{Zone}
@@ -46,7 +48,6 @@ use Rattle.frames.proofs.WalkLaws.{walk-pass}
 use Rattle.answers.specs.Answers.{Pool, answered, name_of}
 use Rattle.answers.specs.declared.Mark.TheVariants.{More}
 use Rattle.answers.specs.declared.Found.{Found}
-use Rattle.answers.specs.declared.Answer.TheVariants.{In, Refused}
 use Rattle.locate.specs.Asked.{says as asked_says}
 use Rattle.questions.specs.Question.{answer_at, finish}
 use Rattle.questions.proofs.NameLaws.{Inside, Named, says-named, says-inside}
@@ -88,11 +89,11 @@ module _ (bs id : List ℕ) (ed : Edition) (t : ℕ) (f : Finite t) where
   asked-named k g o (answer x) e v h = let w : x ≡ v = cc in subst (Named bs id ed t f) w (says-named bs id ed t f k.pool g o.inside x e)
   asked-named k g o (keep p) e v h = clash cc
 
-  text-named : (k : Known) (size : ℕ) (u : Text) (v : Found) → text_says k size u ≡ answer v → Named bs id ed t f v
-  text-named k size (Untext n) v e = clash cc
-  text-named k size (Part b n) v e = go (eqb (b + n) size) e
+  text-named : (k : Known) (size : ℕ) (u : Result (ℕ × ℕ) Refusal) (v : Found) → text_says k size u ≡ answer v → Named bs id ed t f v
+  text-named k size (Err n) v e = clash cc
+  text-named k size (Ok (b, n)) v e = go (eqb (b + n) size) e
     where
-      go : (y : Bool) → pick {A = Content Known Found} y (keep k) (fault 9) ≡ answer v → Named bs id ed t f v
+      go : (y : Bool) → pick {A = Content Known Found} y (keep k) (fault BadData) ≡ answer v → Named bs id ed t f v
       go true q = clash cc
       go false q = clash cc
 
@@ -179,11 +180,11 @@ module _ (bs id : List ℕ) (ed : Edition) (t : ℕ) (f : Finite t) where
       go (next m) e k = by_end (listing 3 bs).ending m k
 
 -- "The same answer: every value that it carries is equal, the name byte for byte."
-pub standing-name : (bs more id : List ℕ) (z : ℤ) (ed : Edition) (x : Found) → ask_named bs id z More ed ≡ In x → name_of (bs ++ more) x ≡ name_of bs x
+pub standing-name : (bs more id : List ℕ) (z : ℤ) (ed : Edition) (x : Found) → ask_named bs id z More ed ≡ Ok x → name_of (bs ++ more) x ≡ name_of bs x
 unfolding ask_named
 standing-name bs more id z ed x = go (eqb (instant_of z) 0) refl
   where
-    within : (instant_of z ≡ 0 → ⊥) → (o : Out Known Found) → walk (naming (answer_at ed (instant_of z)) id) nothing bs ≡ o → finish More o ≡ In x → x.name + x.length ≤ length bs
+    within : (instant_of z ≡ 0 → ⊥) → (o : Out Known Found) → walk (naming (answer_at ed (instant_of z)) id) nothing bs ≡ o → finish More o ≡ Ok x → x.name + x.length ≤ length bs
     within h (found v p) e k =
         let w : v ≡ x = cc in
         subst (λ (u : Found). u.name + u.length ≤ length bs) w (name-inside bs id ed (instant_of z) (instant-finite (instant_of z) z refl h) v p e)
@@ -191,7 +192,7 @@ standing-name bs more id z ed x = go (eqb (instant_of z) 0) refl
     within h (cut p) e k = clash cc
     within h (ended m p) e k = clash cc
 
-    go : (t : Bool) → eqb (instant_of z) 0 ≡ t → pick t (Refused 14 0) (finish More (walk (naming (answer_at ed (instant_of z)) id) nothing bs)) ≡ In x
+    go : (t : Bool) → eqb (instant_of z) 0 ≡ t → pick {A = Result Found Fault} t (Err (OutOfRange, 0)) (finish More (walk (naming (answer_at ed (instant_of z)) id) nothing bs)) ≡ Ok x
         → name_of (bs ++ more) x ≡ name_of bs x
     go true e k = clash cc
     go false e k =

@@ -1,4 +1,5 @@
 -- Where the walk of the named question stands, and each way on from there. Assumes nothing.
+use Rattle.base.specs.declared.Refusal.{Refusal}
 use mathlib.Core.Path.{◌≡◌, refl, sym, ap, ◌∙◌, subst}
 use mathlib.Core.Bool.{Bool, true, false}
 use mathlib.Core.List.{List, [], ◌∷◌, ◌++◌, append-nil}
@@ -87,7 +88,7 @@ module _ (x : List ℕ) (s : List ℕ) (start end : ℕ) where
     pub walking-cut : f ≡ FrameCut → NamedAs s m whole (Cut at)
     walking-cut e = stops (Cut at) (record { lies = tt }) (ap told (at_cut (naming held x) s at true prev k w.inside f read e))
 
-    pub walking-refused : (n : ℕ) → f ≡ FrameRefused n → NamedAs s m whole (Refused n at)
+    pub walking-refused : (n : Refusal) → f ≡ FrameRefused n → NamedAs s m whole (Refused n at)
     walking-refused n e = stops (Refused n at) (record { lies = tt }) (ap told (at-refused (naming held x) s at true prev k w.inside f read n e))
 
     pub walking-version : {A : Type 0} → f ≡ Version → A
@@ -163,7 +164,7 @@ module _ (x : List ℕ) (s : List ℕ) (start end : ℕ) where
             go (got z r) y = ap told (at-answer (naming held x) s at true prev k w.inside f read i h n e (held m z) y)
             go (unread l) y = ap told (at-bad (naming held x) s at true prev k w.inside f read i h n e l y)
 
-        pub walking-fault : (l : ℕ) → j ≡ Fault l → NamedAs s m whole (Refused l at)
+        pub walking-fault : (l : Refusal) → j ≡ Fault l → NamedAs s m whole (Refused l at)
         walking-fault l o =
             stops (Refused l at) (record { lies = tt }) (ap told (at-bad (naming held x) s at true prev k w.inside f read i h n e l (field-says (Fault l) o)))
 
@@ -254,7 +255,7 @@ module _ (x : List ℕ) (s : List ℕ) (start end : ℕ) where
 
 -- field 0 itself
 module _ (x s : List ℕ) (a e : ℕ) (p : Parsed (List (List ℕ))) where
-  pub named-fault : (n : ℕ) → p ≡ unread n → NamedAs s (pool_at s a e) (by_pool x s a e p) (Refused n 4)
+  pub named-fault : (n : Refusal) → p ≡ unread n → NamedAs s (pool_at s a e) (by_pool x s a e p) (Refused n 4)
   unfolding by_pool
   named-fault n k = record { within = record { lies = tt }; goes = rw k }
 

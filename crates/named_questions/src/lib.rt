@@ -16,11 +16,10 @@ ghost use Rattle.questions.specs.View.{outcome_of};
 ghost use Rattle.named_fields.specs.Named.{nothing, naming, ask_named};
 
 use alias_lookup::Target;
-use aliases::Verdict;
-use answers::{Answer, Mark, Outcome};
+use answers::{Found, Mark, Outcome};
+use base::{Fault, Refusal};
 use frames::Frame;
 use locate::{First, Judged, Located, Spot};
-use pool::Checked;
 use zones::Edition;
 
 // Field 3 in s[d..q], whose ID byte is at a place: what the name leads to. It is no zone's ID, so its zone is that of a target.
@@ -41,12 +40,12 @@ pub fn follow(
 {
     let v = aliases::check(&s[start..end], starts, count, &s[d..q]);
     match v {
-        Verdict::Refused(n) => Located::Refused(n, place),
-        Verdict::Good => {
+        Err(n) => Located::Refused(n, place),
+        Ok(()) => {
             let t = alias_lookup::lookup(&s[start..end], starts, count, &s[d..q], flags, name, 8);
             match t {
-                Target::Unknown => Located::Refused(12, place),
-                Target::Deep => Located::Refused(18, place),
+                Target::Unknown => Located::Refused(Refusal::NotFound, place),
+                Target::Deep => Located::Refused(Refusal::TooManySteps, place),
                 Target::Zone(k) => asked_zones::walk_zones(
                     s,
                     starts,
@@ -136,8 +135,8 @@ fn walk_named(
     ensures { NamedAs s.now (pool_at s.now d e) (by_pool name.now s.now d e (parse_pool (part d e s.now))) result × (starts.new ≡ sets starts.old 0 (starts_of (part d e s.now))) }
 {
     match pool::check_pool(&s[d..e], starts) {
-        Checked::Refused(m) => Located::Refused(m, 4),
-        Checked::Strings(k) => walk_fields(s, &*starts, d, e, k, name, flags),
+        Err(m) => Located::Refused(m, 4),
+        Ok(k) => walk_fields(s, &*starts, d, e, k, name, flags),
     }
 }
 
@@ -198,12 +197,18 @@ fn ask_at(s: &[u8], name: &[u8], t: u64, edition: Edition) -> Outcome
 }
 
 // The named question: the zone with the bytes name for its ID, or else the one that the alias name leads to, at a tick since 1970, under an edition.
-pub fn ask_named(s: &[u8], name: &[u8], ticks: i64, mark: Mark, edition: Edition) -> Answer
+pub fn ask_named(
+    s: &[u8],
+    name: &[u8],
+    ticks: i64,
+    mark: Mark,
+    edition: Edition,
+) -> Result<Found, Fault>
     ensures { result ≡ ask_named s.now name.now ticks mark edition }
 {
     let t = signed::instant(ticks);
     if t == 0 {
-        return Answer::Refused(14, 0);
+        return Err((Refusal::OutOfRange, 0));
     }
     let o = ask_at(s, name, t, edition);
     answers::finish(o, mark)

@@ -5,36 +5,29 @@
 ghost use Rattle.std.specs.Prelude.{◌≡◌, []};
 ghost use Rattle.rewrite.specs.Preferred.{rewrite_of, output_of};
 
-use field_checks::Verdict;
-use rewrite::Rewritten;
+use base::{Fault, Refusal};
 
 // Checks a whole file for an output without room for any file: 15 where it is well formed.
-fn check_only(s: &[u8]) -> Rewritten
+fn check_only(s: &[u8]) -> Result<usize, Fault>
     ensures { result ≡ rewrite_of s.now [] }
 {
-    match checks::check(s) {
-        Verdict::Refused(n, p) => Rewritten::Refused(n, p),
-        Verdict::Good => Rewritten::Refused(15, 0),
-    }
+    checks::check(s)?;
+    Err((Refusal::TooShort, 0))
 }
 
 // Checks a whole file with lent flags, all 0, then writes its preferred form to the front of the output.
-fn normalize_with(s: &[u8], flags: &mut [u8], out: &mut [u8]) -> Rewritten
+fn normalize_with(s: &[u8], flags: &mut [u8], out: &mut [u8]) -> Result<usize, Fault>
     ensures { (result ≡ rewrite_of s.now out.old) × (out.new ≡ output_of s.now out.old) }
 {
-    match checks::check_flags(s, &mut *flags) {
-        Verdict::Refused(n, p) => Rewritten::Refused(n, p),
-        Verdict::Good => {
-            if preferred_walks::has_room(s, &*flags, out.len()) {
-                return Rewritten::Length(preferred_walks::write_file(s, &*flags, out));
-            }
-            Rewritten::Refused(15, 0)
-        }
+    checks::check_flags(s, &mut *flags)?;
+    if preferred_walks::has_room(s, &*flags, out.len()) {
+        return Ok(preferred_walks::write_file(s, &*flags, out));
     }
+    Err((Refusal::TooShort, 0))
 }
 
 // The same with flags of its own, for a pool of at most 256 strings.
-fn normalize_short(s: &[u8], out: &mut [u8]) -> Rewritten
+fn normalize_short(s: &[u8], out: &mut [u8]) -> Result<usize, Fault>
     ensures { (result ≡ rewrite_of s.now out.old) × (out.new ≡ output_of s.now out.old) }
 {
     let mut flags = [0u8; 256];
@@ -42,7 +35,7 @@ fn normalize_short(s: &[u8], out: &mut [u8]) -> Rewritten
 }
 
 // The same for every pool.
-fn normalize_long(s: &[u8], out: &mut [u8]) -> Rewritten
+fn normalize_long(s: &[u8], out: &mut [u8]) -> Result<usize, Fault>
     ensures { (result ≡ rewrite_of s.now out.old) × (out.new ≡ output_of s.now out.old) }
 {
     let mut flags = [0u8; 8192];
@@ -50,7 +43,7 @@ fn normalize_long(s: &[u8], out: &mut [u8]) -> Rewritten
 }
 
 // Checks a whole file, then writes its preferred form to the front of the output. Where there is no room for the version, no flags are asked for.
-pub fn normalize(s: &[u8], out: &mut [u8]) -> Rewritten
+pub fn normalize(s: &[u8], out: &mut [u8]) -> Result<usize, Fault>
     ensures { (result ≡ rewrite_of s.now out.old) × (out.new ≡ output_of s.now out.old) }
 {
     if out.len() < 4 {

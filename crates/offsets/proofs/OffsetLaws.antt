@@ -1,5 +1,9 @@
 -- Laws of the offset code: how a reading goes on, what a sum that reads is, and that reading and writing undo one another.
 -- Assumes nothing.
+use Rattle.base.specs.declared.Refusal.{Refusal}
+use Rattle.std.specs.Prelude.{Err, Ok}
+use Rattle.base.specs.Coded.{Coded}
+use Rattle.base.specs.declared.Refusal.TheVariants.{BadCode, BadData}
 use mathlib.Core.Path.{◌≡◌, refl, ap, sym, ◌∙◌, subst, subst⁻¹}
 use mathlib.Core.List.{List, [], ◌∷◌, ◌++◌}
 use mathlib.Core.Bool.{Bool, true, false}
@@ -11,13 +15,10 @@ use lib.Dec.{ltb, leb, eqb, lit≤}
 use lib.IntN.{ℤ}
 use lib.ListN.{length, get_or, take, drop}
 use borrow.Author.Tests.{lt-ltb, le-ltb, le-leb, lt-leb, eq-eqb, ne_eqb, ltb-true, ltb-false, leb-true, eqb-true, eqb-false}
-use Rattle.base.specs.declared.Read.{Read}
-use Rattle.base.specs.declared.Read.TheVariants.{Value, Refused}
 use Rattle.base.proofs.Tests.{pick-holds, both_left, both_right}
 use Rattle.base.proofs.Parts.{Bytes, part-from}
 use Rattle.counts.specs.Fixed.{fixed_from, read_fixed, fixed_bytes, prefixed}
 use Rattle.counts.proofs.FixedLaws.{prefixed-written, prefixed-form, length-prefixed}
-use Rattle.signed.specs.declared.Number.TheVariants.{Value as Signed}
 use Rattle.signed.specs.Number.{number}
 use Rattle.signed.specs.OffsetSum.{sum_of, milliseconds_of}
 use Rattle.signed.proofs.NumberLaws.{number-of}
@@ -32,33 +33,33 @@ product v unit hv hu =
     omega (arith, mul-le-mul a hu)
 
 -- each way out of the test of a sum
-pub sum-small : (n coarser sum : ℕ) → sum < 1 → Refused 7 ≡ offset_of n coarser sum
+pub sum-small : (n coarser sum : ℕ) → sum < 1 → Err BadCode ≡ offset_of n coarser sum
 sum-small n coarser sum h = rw (lt-leb 1 sum h)
 
-pub sum-large : (n coarser sum : ℕ) → 1 ≤ sum → 172799999 < sum → Refused 7 ≡ offset_of n coarser sum
+pub sum-large : (n coarser sum : ℕ) → 1 ≤ sum → 172799999 < sum → Err BadCode ≡ offset_of n coarser sum
 sum-large n coarser sum l h = rw (le-leb 1 sum l, lt-leb sum 172799999 h)
 
-pub sum-later : (n coarser sum : ℕ) → 1 ≤ sum → sum ≤ 172799999 → sum % coarser ≡ 0 → Refused 7 ≡ offset_of n coarser sum
+pub sum-later : (n coarser sum : ℕ) → 1 ≤ sum → sum ≤ 172799999 → sum % coarser ≡ 0 → Err BadCode ≡ offset_of n coarser sum
 sum-later n coarser sum l h e = rw (le-leb 1 sum l, le-leb sum 172799999 h, eq-eqb (sum % coarser) 0 e)
 
 -- how a reading goes on
-pub offset-none : (s : List ℕ) → length s ≡ 0 → Refused 9 ≡ read_sum s
+pub offset-none : (s : List ℕ) → length s ≡ 0 → Err BadData ≡ read_sum s
 unfolding read_sum
 offset-none [] h = refl
 offset-none (b ∷ s) h = absurd (omega arith)
 
-pub offset-half : (s : List ℕ) (r : Read) → 0 < length s → get_or s 0 0 < 128 → r ≡ offset_of 1 172800000 (get_or s 0 0 * 1800000) → r ≡ read_sum s
+pub offset-half : (s : List ℕ) (r : Coded ℕ) → 0 < length s → get_or s 0 0 < 128 → r ≡ offset_of 1 172800000 (get_or s 0 0 * 1800000) → r ≡ read_sum s
 unfolding read_sum
 offset-half [] r h l e = absurd (omega arith)
 offset-half (b ∷ s) r h l e = rw (lt-ltb b 128 l) e
 
-pub offset-prefix : (s : List ℕ) → 0 < length s → 224 ≤ get_or s 0 0 → Refused 7 ≡ read_sum s
+pub offset-prefix : (s : List ℕ) → 0 < length s → 224 ≤ get_or s 0 0 → Err BadCode ≡ read_sum s
 unfolding read_sum
 offset-prefix [] h l = absurd (omega arith)
 offset-prefix (b ∷ s) h l =
     rw (le-ltb b 128 (omega arith), le-ltb b 160 (omega arith), le-ltb b 192 (omega arith), le-ltb b 224 l)
 
-pub fine_of : (n coarser sum : ℕ) → Fine coarser sum → offset_of n coarser sum ≡ Value sum n
+pub fine_of : (n coarser sum : ℕ) → Fine coarser sum → offset_of n coarser sum ≡ Ok (sum, n)
 fine_of n coarser sum h = rw (le-leb 1 sum h.least, le-leb sum 172799999 h.most, ne_eqb (sum % coarser) 0 h.fine)
 
 -- no multiple of a coarser unit where none of a finer one
@@ -105,46 +106,46 @@ milliseconds = record {
       rw (ne_eqb (v * 1 % 1800000) 0 (not-half-hours (v * 1) n), ne_eqb (v * 1 % 60000) 0 n, ne_eqb (v * 1 % 1000) 0 f.fine, d);
 }
 
-pub offset-level : {n p unit coarser : ℕ} → Level n p unit coarser → (s : List ℕ) (r : Read) → 0 < length s → p ≤ get_or s 0 0 → get_or s 0 0 < p + 32
+pub offset-level : {n p unit coarser : ℕ} → Level n p unit coarser → (s : List ℕ) (r : Coded ℕ) → 0 < length s → p ≤ get_or s 0 0 → get_or s 0 0 < p + 32
     → r ≡ in_units unit coarser (read_fixed n (get_or s 0 0 % 32) (take (length s - 1) (drop 1 s))) → r ≡ read_sum s
 offset-level l [] r h lo hi e = absurd (omega arith)
 offset-level {n} {p} {unit} {coarser} l (b ∷ s) r h lo hi e =
     e ∙ ap (λ (x : List ℕ). in_units unit coarser (read_fixed n (b % 32) x)) (part-from 1 (b ∷ s)) ∙ sym (l.reads b s lo hi)
 
 -- P of what is read, from P of each form
-module _ (P : Read → Type 0) (refused : (k : ℕ) → P (Refused k)) where
-  pub offset-holds : (n coarser sum : ℕ) → (Fine coarser sum → P (Value sum n)) → P (offset_of n coarser sum)
+module _ (P : Coded ℕ → Type 0) (refused : (k : Refusal) → P (Err k)) where
+  pub offset-holds : (n coarser sum : ℕ) → (Fine coarser sum → P (Ok (sum, n))) → P (offset_of n coarser sum)
   offset-holds n coarser sum f =
-      pick-holds P (in_day sum) (λ t. pick-holds P (eqb (sum % coarser) 0) (λ _. refused 7) (λ u. f (record {
+      pick-holds P (in_day sum) (λ t. pick-holds P (eqb (sum % coarser) 0) (λ _. refused BadCode) (λ u. f (record {
         least = leb-true 1 sum (both_left (leb 1 sum) (leb sum 172799999) t);
         most = leb-true sum 172799999 (both_right (leb 1 sum) (leb sum 172799999) t);
         fine = eqb-false (sum % coarser) 0 u;
-      }))) (λ _. refused 7)
+      }))) (λ _. refused BadCode)
 
   units-holds : (n high unit coarser : ℕ) (s : List ℕ)
-      → (n ≤ length s → Fine coarser (fixed_from n high s * unit) → P (Value (fixed_from n high s * unit) (n + 1)))
+      → (n ≤ length s → Fine coarser (fixed_from n high s * unit) → P (Ok (fixed_from n high s * unit, n + 1)))
       → P (in_units unit coarser (read_fixed n high s))
   units-holds n high unit coarser s f =
-      pick-holds (λ (r : Read). P (in_units unit coarser r)) (leb n (length s))
+      pick-holds (λ (r : Coded ℕ). P (in_units unit coarser r)) (leb n (length s))
       (λ t. offset-holds (n + 1) coarser (fixed_from n high s * unit) (f (leb-true n (length s) t)))
-      (λ _. refused 9)
+      (λ _. refused BadData)
 
   sum-holds : (s : List ℕ)
-      → ((b : ℕ) (r : List ℕ) → s ≡ b ∷ r → Fine 172800000 (b * 1800000) → P (Value (b * 1800000) 1))
+      → ((b : ℕ) (r : List ℕ) → s ≡ b ∷ r → Fine 172800000 (b * 1800000) → P (Ok (b * 1800000, 1)))
       → ((n p unit coarser : ℕ) → Level n p unit coarser → (b : ℕ) (r : List ℕ) → s ≡ b ∷ r → p ≤ b → b < p + 32 → n ≤ length r
-      → Fine coarser (fixed_from n (b % 32) r * unit) → P (Value (fixed_from n (b % 32) r * unit) (n + 1)))
+      → Fine coarser (fixed_from n (b % 32) r * unit) → P (Ok (fixed_from n (b % 32) r * unit, n + 1)))
       → P (read_sum s)
   unfolding read_sum
-  sum-holds [] f g = refused 9
+  sum-holds [] f g = refused BadData
   sum-holds (b ∷ s) f g =
       pick-holds P (ltb b 128) (λ t. offset-holds 1 172800000 (b * 1800000) (f b s refl)) (λ t.
       pick-holds P (ltb b 160) (λ u. units-holds 1 (b % 32) 60000 1800000 s (g 1 128 60000 1800000 minutes b s refl (ltb-false b 128 t) (ltb-true b 160 u))) (λ u.
       pick-holds P (ltb b 192) (λ w. units-holds 2 (b % 32) 1000 60000 s (g 2 160 1000 60000 seconds b s refl (ltb-false b 160 u) (ltb-true b 192 w))) (λ w.
-      pick-holds P (ltb b 224) (λ x. units-holds 3 (b % 32) 1 1000 s (g 3 192 1 1000 milliseconds b s refl (ltb-false b 192 w) (ltb-true b 224 x))) (λ _. refused 7))))
+      pick-holds P (ltb b 224) (λ x. units-holds 3 (b % 32) 1 1000 s (g 3 192 1 1000 milliseconds b s refl (ltb-false b 192 w) (ltb-true b 224 x))) (λ _. refused BadCode))))
 
-abbrev IsSum : List ℕ → Read → Type 0
-IsSum s (Value v n) = SumRead s v n
-IsSum s (Refused k) = Unit
+abbrev IsSum : List ℕ → Coded ℕ → Type 0
+IsSum s (Ok (v, n)) = SumRead s v n
+IsSum s (Err k) = Unit
 
 is_sum : (s : List ℕ) → IsSum s (read_sum s)
 is_sum s =
@@ -158,12 +159,12 @@ is_sum s =
       within = omega arith;
     }))
 
-pub sum-read : (s : List ℕ) {sum n : ℕ} → Value sum n ≡ read_sum s → SumRead s sum n
+pub sum-read : (s : List ℕ) {sum n : ℕ} → Ok (sum, n) ≡ read_sum s → SumRead s sum n
 sum-read s e = subst⁻¹ (IsSum s) e (is_sum s)
 
-abbrev IsSumWritten : List ℕ → Read → Type 0
-IsSumWritten s (Value v n) = SumWritten s v n
-IsSumWritten s (Refused k) = Unit
+abbrev IsSumWritten : List ℕ → Coded ℕ → Type 0
+IsSumWritten s (Ok (v, n)) = SumWritten s v n
+IsSumWritten s (Err k) = Unit
 
 half-written : (b : ℕ) (r : List ℕ) → SumWritten (b ∷ r) (b * 1800000) 1
 unfolding write_sum
@@ -191,12 +192,12 @@ is-sum-written s hs =
     rest : (b : ℕ) (r : List ℕ) → s ≡ b ∷ r → Bytes r
     rest b r e i = let h : Bytes (b ∷ r) = rw e at hs in h (suc i)
 
-pub sum-form : (s : List ℕ) {sum n : ℕ} → Bytes s → Value sum n ≡ read_sum s → SumWritten s sum n
+pub sum-form : (s : List ℕ) {sum n : ℕ} → Bytes s → Ok (sum, n) ≡ read_sum s → SumWritten s sum n
 sum-form s hs e = subst⁻¹ (IsSumWritten s) e (is-sum-written s hs)
 
 -- a sum that was written is read back, whatever follows
 abbrev Back : ℕ → List ℕ → Type 0
-Back sum rest = read_sum (write_sum sum ++ rest) ≡ Value sum (length (write_sum sum))
+Back sum rest = read_sum (write_sum sum ++ rest) ≡ Ok (sum, length (write_sum sum))
 
 half_back : (b : ℕ) (rest : List ℕ) → Fine 172800000 (b * 1800000) → Back (b * 1800000) rest
 unfolding read_sum write_sum
@@ -212,7 +213,7 @@ level-back {n} {p} {unit} {coarser} l v rest h f =
     let a : p % 32 ≡ 0 = l.aligned in
     let e : (p + q) % 32 ≡ q = omega arith in
     rw (l.writes v f, l.reads (p + q) (fixed_bytes n v ++ rest) (omega arith) (omega arith), prefixed-written n ((p + q) % 32) v rest (sym e), fine_of (n + 1) coarser (v * unit) f)
-    (ap (Value (v * unit)) (sym (length-prefixed n p v)))
+    (ap (λ (m : ℕ). Ok (v * unit, m)) (sym (length-prefixed n p v)))
 
 pub sum-written : (sum : ℕ) (rest : List ℕ) → 1 ≤ sum → sum ≤ 172799999 → Back sum rest
 sum-written sum rest lo hi = half (eqb (sum % 1800000) 0) refl
@@ -249,7 +250,7 @@ sum-size sum l h =
     let r = sum-read (write_sum sum ++ []) (sym (sum-written sum [] l h)) in
     record { some = r.some; most = r.size }
 
-module _ (s : List ℕ) {z : ℤ} {n : ℕ} (e : Signed z n ≡ read_offset s) where
+module _ (s : List ℕ) {z : ℤ} {n : ℕ} (e : Ok (z, n) ≡ read_offset s) where
   sum-of : SumRead s (number-of milliseconds_of (read_sum s) e).value n
   sum-of = sum-read s (number-of milliseconds_of (read_sum s) e).read
 
@@ -264,7 +265,7 @@ module _ (s : List ℕ) {z : ℤ} {n : ℕ} (e : Signed z n ≡ read_offset s) w
   pub offset-form : Bytes s → SumWritten s (sum_of z) n
   offset-form h = rw same_sum at (sum-form s h (number-of milliseconds_of (read_sum s) e).read)
 
-pub offset-written : (z : ℤ) (rest : List ℕ) → 1 ≤ sum_of z → read_offset (write_sum (sum_of z) ++ rest) ≡ Signed z (length (write_sum (sum_of z)))
+pub offset-written : (z : ℤ) (rest : List ℕ) → 1 ≤ sum_of z → read_offset (write_sum (sum_of z) ++ rest) ≡ Ok (z, length (write_sum (sum_of z)))
 offset-written z rest h =
     ap (number milliseconds_of) (sum-written (sum_of z) rest h (sum-range z))
-    ∙ ap (λ (y : ℤ). Signed y (length (write_sum (sum_of z)))) (milliseconds-sum z h)
+    ∙ ap (λ (y : ℤ). Ok (y, length (write_sum (sum_of z)))) (milliseconds-sum z h)

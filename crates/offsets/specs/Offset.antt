@@ -1,11 +1,10 @@
 -- The offset code. To be believed.
-use Rattle.std.specs.Prelude.{ℕ, ◌+◌, ◌*◌, ◌/◌, ◌%◌, List, [], ◌∷◌, Bool, ltb, leb, eqb, ℤ}
+use Rattle.base.specs.Coded.{Coded}
+use Rattle.base.specs.declared.Refusal.TheVariants.{BadCode, BadData}
+use Rattle.std.specs.Prelude.{ℕ, ◌+◌, ◌*◌, ◌/◌, ◌%◌, List, [], ◌∷◌, Bool, ltb, leb, eqb, ℤ, Err, Ok}
 use Rattle.base.specs.Pick.{pick, both}
 use Rattle.base.specs.Writing.{Form, bytes, unfit}
-use Rattle.base.specs.declared.Read.{Read}
-use Rattle.base.specs.declared.Read.TheVariants.{Value, Refused}
 use Rattle.counts.specs.Fixed.{read_fixed, fixed_bytes}
-use Rattle.signed.specs.declared.Number.{Number}
 use Rattle.signed.specs.Number.{number}
 use Rattle.signed.specs.OffsetSum.{sum_of, milliseconds_of}
 
@@ -14,23 +13,23 @@ abbrev pub in_day : ℕ → Bool
 in_day sum = both (leb 1 sum) (leb sum 172799999)
 
 -- a sum in n bytes: "A later form for a value that fits an earlier one is refused", the earlier one being in units of coarser
-abbrev pub offset_of : ℕ → ℕ → ℕ → Read
-offset_of n coarser sum = pick (in_day sum) (pick (eqb (sum % coarser) 0) (Refused 7) (Value sum n)) (Refused 7)
+abbrev pub offset_of : ℕ → ℕ → ℕ → Coded ℕ
+offset_of n coarser sum = pick (in_day sum) (pick (eqb (sum % coarser) 0) (Err BadCode) (Ok (sum, n))) (Err BadCode)
 
 -- a number of units behind the first byte
-abbrev pub in_units : ℕ → ℕ → Read → Read
-in_units unit coarser (Value v n) = offset_of (n + 1) coarser (v * unit)
-in_units unit coarser (Refused k) = Refused k
+abbrev pub in_units : ℕ → ℕ → Coded ℕ → Coded ℕ
+in_units unit coarser (Ok (v, n)) = offset_of (n + 1) coarser (v * unit)
+in_units unit coarser (Err k) = Err k
 
 -- "one byte of half hours; 100 and 13 bits of minutes; 101 and 21 bits of seconds; 110 and 29 bits of milliseconds. A later
 -- form .. is refused, as is prefix 111", also where nothing follows it. No sum in its range is a multiple of 172,800,000.
-unfoldable pub read_sum : List ℕ → Read
-read_sum [] = Refused 9
+unfoldable pub read_sum : List ℕ → Coded ℕ
+read_sum [] = Err BadData
 read_sum (b ∷ s) =
     pick (ltb b 128) (offset_of 1 172800000 (b * 1800000))
     (pick (ltb b 160) (in_units 60000 1800000 (read_fixed 1 (b % 32) s))
     (pick (ltb b 192) (in_units 1000 60000 (read_fixed 2 (b % 32) s))
-    (pick (ltb b 224) (in_units 1 1000 (read_fixed 3 (b % 32) s)) (Refused 7))))
+    (pick (ltb b 224) (in_units 1 1000 (read_fixed 3 (b % 32) s)) (Err BadCode))))
 
 -- "First form that fits"
 unfoldable pub write_sum : ℕ → List ℕ
@@ -42,10 +41,10 @@ write_sum sum =
 
 -- "writing, 7 for a number the code can't carry"
 abbrev pub sum_form : ℕ → Form
-sum_form sum = pick (in_day sum) (bytes (write_sum sum)) (unfit 7)
+sum_form sum = pick (in_day sum) (bytes (write_sum sum)) (unfit BadCode)
 
 -- the offset code in milliseconds
-abbrev pub read_offset : List ℕ → Number
+abbrev pub read_offset : List ℕ → Coded ℤ
 read_offset s = number milliseconds_of (read_sum s)
 
 abbrev pub offset_form : ℤ → Form

@@ -6,7 +6,7 @@ ghost use Rattle.base.specs.Writing.{bytes, Writes};
 ghost use Rattle.counts.specs.Fixed.{prefixed};
 ghost use Rattle.old_counts.specs.OldCount.{write_old_count, old_count_form};
 
-use base::Wrote;
+use base::Refusal;
 
 // How many bytes the count of `v` takes.
 pub fn count_size(v: u64) -> usize
@@ -28,12 +28,12 @@ pub fn count_size(v: u64) -> usize
 }
 
 // Writes `v` behind a prefix, the first of n + 1 bytes: the low bytes from the last on.
-pub fn write_prefixed(n: usize, prefix: u64, v: u64, out: &mut [u8]) -> Wrote
+pub fn write_prefixed(n: usize, prefix: u64, v: u64, out: &mut [u8]) -> Result<usize, Refusal>
     requires { (n ≤ 4) × (prefix + v / 256 ^ n < 256) }
     ensures { Writes (bytes (prefixed n prefix v)) out.old result out.new }
 {
     if out.len() <= n {
-        return Wrote::Refused(15);
+        return Err(Refusal::TooShort);
     }
     let mut rest = v;
     let mut i = n;
@@ -43,15 +43,15 @@ pub fn write_prefixed(n: usize, prefix: u64, v: u64, out: &mut [u8]) -> Wrote
         i -= 1;
     }
     out[0] = (prefix + rest) as u8;
-    Wrote::Length(n + 1)
+    Ok(n + 1)
 }
 
 // Writes `v` as a count to the front of `out`.
-pub fn write_count(v: u64, out: &mut [u8]) -> Wrote
+pub fn write_count(v: u64, out: &mut [u8]) -> Result<usize, Refusal>
     ensures { Writes (old_count_form v) out.old result out.new }
 {
     if 2147483647 < v {
-        return Wrote::Refused(7);
+        return Err(Refusal::BadCode);
     }
     if v < 0x0f {
         return write_prefixed(0, 0xf0, v, out);

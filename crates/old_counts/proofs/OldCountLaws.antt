@@ -1,5 +1,9 @@
 -- Laws of the older count: what each form reads and writes, how a reading goes on, and that reading and writing undo one another.
 -- Assumes nothing.
+use Rattle.base.specs.declared.Refusal.{Refusal}
+use Rattle.std.specs.Prelude.{Err, Ok}
+use Rattle.base.specs.Coded.{Coded}
+use Rattle.base.specs.declared.Refusal.TheVariants.{BadCode, BadData}
 use mathlib.Core.Path.{◌≡◌, refl, ap, sym, ◌∙◌, subst, subst⁻¹}
 use mathlib.Core.List.{List, [], ◌∷◌, ◌++◌}
 use Prim.Native.Nat.{ℕ, suc, ◌+◌, ◌*◌, ◌-◌, ◌/◌, ◌^◌, ◌≤◌, ◌<◌}
@@ -10,8 +14,6 @@ use lib.Dec.{ltb, leb, lit≤}
 use lib.ListN.{length, get_or, take, drop}
 use borrow.Author.Tests.{lt-ltb, le-ltb, le-leb, lt-leb, ltb-true, ltb-false, leb-true}
 use Rattle.base.specs.Pick.{both}
-use Rattle.base.specs.declared.Read.{Read}
-use Rattle.base.specs.declared.Read.TheVariants.{Value, Refused}
 use Rattle.base.proofs.Tests.{by_order, pick-holds, both_left, both_right}
 use Rattle.base.proofs.Parts.{Bytes, part-from}
 use Rattle.counts.specs.Fixed.{fixed_from, read_fixed, fixed_bytes, prefixed}
@@ -99,12 +101,12 @@ writes-largest v h =
     rw (le-ltb v 0x0f (omega arith), le-ltb v 0x8f (omega arith), le-ltb v 0x408f (omega arith), le-ltb v 0x20408f (omega arith), le-ltb v 0x1020408f h)
 
 -- how a reading goes on
-pub count_none : (s : List ℕ) → length s ≡ 0 → Refused 9 ≡ read_old_count s
+pub count_none : (s : List ℕ) → length s ≡ 0 → Err BadData ≡ read_old_count s
 unfolding read_old_count
 count_none [] h = refl
 count_none (b ∷ s) h = absurd (omega arith)
 
-pub count-level : {n prefix wide first : ℕ} → Level n prefix wide first → (s : List ℕ) (r : Read) → 0 < length s → prefix ≤ get_or s 0 0
+pub count-level : {n prefix wide first : ℕ} → Level n prefix wide first → (s : List ℕ) (r : Coded ℕ) → 0 < length s → prefix ≤ get_or s 0 0
     → get_or s 0 0 < prefix + wide → r ≡ value_from first (read_fixed n (get_or s 0 0 - prefix) (take (length s - 1) (drop 1 s))) → r ≡ read_old_count s
 count-level l [] r h lo hi e = absurd (omega arith)
 count-level {n} {prefix} {wide} {first} l (b ∷ s) r h lo hi e =
@@ -115,12 +117,12 @@ count-level {n} {prefix} {wide} {first} l (b ∷ s) r h lo hi e =
     ∙ ap (λ (x : ℕ). read_old_count (x ∷ s)) d
 
 -- the forms of one byte
-pub count-one : (s : List ℕ) → 0 < length s → get_or s 0 0 < 0x80 → Value (0x0f + get_or s 0 0) 1 ≡ read_old_count s
+pub count-one : (s : List ℕ) → 0 < length s → get_or s 0 0 < 0x80 → Ok (0x0f + get_or s 0 0, 1) ≡ read_old_count s
 unfolding read_old_count fixed_from
 count-one [] h l = absurd (omega arith)
 count-one (b ∷ s) h l = rw (lt-ltb b 0x80 l, le-leb 0 (length s) (omega arith))
 
-pub count-smallest : (s : List ℕ) → 0 < length s → 0xf0 ≤ get_or s 0 0 → get_or s 0 0 < 0xff → Value (get_or s 0 0 - 0xf0) 1 ≡ read_old_count s
+pub count-smallest : (s : List ℕ) → 0 < length s → 0xf0 ≤ get_or s 0 0 → get_or s 0 0 < 0xff → Ok (get_or s 0 0 - 0xf0, 1) ≡ read_old_count s
 unfolding fixed_from
 count-smallest s h lo hi =
     let r : List ℕ = take (length s - 1) (drop 1 s) in
@@ -128,42 +130,42 @@ count-smallest s h lo hi =
     count-level smallest s _ h lo (omega arith) (rw (le-leb 0 (length r) (omega arith), z) refl)
 
 -- the value of five bytes
-pub largest-below : (v n : ℕ) → v < 0x1020408f → Refused 7 ≡ largest (Value v n)
+pub largest-below : (v n : ℕ) → v < 0x1020408f → Err BadCode ≡ largest (Ok (v, n))
 largest-below v n h = rw (lt-leb 0x1020408f v h)
 
-pub largest-above : (v n : ℕ) → 0x1020408f ≤ v → 0x7fffffff < v → Refused 7 ≡ largest (Value v n)
+pub largest-above : (v n : ℕ) → 0x1020408f ≤ v → 0x7fffffff < v → Err BadCode ≡ largest (Ok (v, n))
 largest-above v n l h = rw (le-leb 0x1020408f v l, lt-leb v 0x7fffffff h)
 
-pub largest-in : (v n : ℕ) → 0x1020408f ≤ v → v ≤ 0x7fffffff → Value v (n + 1) ≡ largest (Value v n)
+pub largest-in : (v n : ℕ) → 0x1020408f ≤ v → v ≤ 0x7fffffff → Ok (v, n + 1) ≡ largest (Ok (v, n))
 largest-in v n l h = rw (le-leb 0x1020408f v l, le-leb v 0x7fffffff h)
 
-pub count-largest : (s : List ℕ) (r : Read) → 0 < length s → 0xff ≤ get_or s 0 0 → r ≡ largest (read_fixed 4 0 (take (length s - 1) (drop 1 s))) → r ≡ read_old_count s
+pub count-largest : (s : List ℕ) (r : Coded ℕ) → 0 < length s → 0xff ≤ get_or s 0 0 → r ≡ largest (read_fixed 4 0 (take (length s - 1) (drop 1 s))) → r ≡ read_old_count s
 count-largest [] r h l e = absurd (omega arith)
 count-largest (b ∷ s) r h l e = e ∙ ap (λ (x : List ℕ). largest (read_fixed 4 0 x)) (part-from 1 (b ∷ s)) ∙ sym (reads-largest b s l)
 
 -- P of what is read, from P of each form
-module _ (P : Read → Type 0) (refused : (k : ℕ) → P (Refused k)) where
-  level_holds : (n high first : ℕ) (s : List ℕ) → (n ≤ length s → P (Value (first + fixed_from n high s) (n + 1))) → P (value_from first (read_fixed n high s))
+module _ (P : Coded ℕ → Type 0) (refused : (k : Refusal) → P (Err k)) where
+  level_holds : (n high first : ℕ) (s : List ℕ) → (n ≤ length s → P (Ok (first + fixed_from n high s, n + 1))) → P (value_from first (read_fixed n high s))
   level_holds n high first s f =
-      pick-holds (λ (r : Read). P (value_from first r)) (leb n (length s)) (λ t. f (leb-true n (length s) t)) (λ _. refused 9)
+      pick-holds (λ (r : Coded ℕ). P (value_from first r)) (leb n (length s)) (λ t. f (leb-true n (length s) t)) (λ _. refused BadData)
 
   largest-holds : (s : List ℕ)
-      → (4 ≤ length s → 0x1020408f ≤ fixed_from 4 0 s → fixed_from 4 0 s ≤ 0x7fffffff → P (Value (fixed_from 4 0 s) 5)) → P (largest (read_fixed 4 0 s))
+      → (4 ≤ length s → 0x1020408f ≤ fixed_from 4 0 s → fixed_from 4 0 s ≤ 0x7fffffff → P (Ok (fixed_from 4 0 s, 5))) → P (largest (read_fixed 4 0 s))
   largest-holds s f =
       let v : ℕ = fixed_from 4 0 s in
-      pick-holds (λ (r : Read). P (largest r)) (leb 4 (length s))
+      pick-holds (λ (r : Coded ℕ). P (largest r)) (leb 4 (length s))
       (λ t. pick-holds P (both (leb 0x1020408f v) (leb v 0x7fffffff))
       (λ u. f (leb-true 4 (length s) t) (leb-true 0x1020408f v (both_left (leb 0x1020408f v) (leb v 0x7fffffff) u)) (leb-true v 0x7fffffff (both_right (leb 0x1020408f v) (leb v 0x7fffffff) u)))
-      (λ _. refused 7))
-      (λ _. refused 9)
+      (λ _. refused BadCode))
+      (λ _. refused BadData)
 
   count-holds : (s : List ℕ)
       → ((n prefix wide first : ℕ) → Level n prefix wide first → (high : ℕ) (r : List ℕ) → s ≡ (prefix + high) ∷ r → high < wide → n ≤ length r
-      → P (Value (first + fixed_from n high r) (n + 1)))
-      → ((b : ℕ) (r : List ℕ) → s ≡ b ∷ r → 0xff ≤ b → 4 ≤ length r → 0x1020408f ≤ fixed_from 4 0 r → fixed_from 4 0 r ≤ 0x7fffffff → P (Value (fixed_from 4 0 r) 5))
+      → P (Ok (first + fixed_from n high r, n + 1)))
+      → ((b : ℕ) (r : List ℕ) → s ≡ b ∷ r → 0xff ≤ b → 4 ≤ length r → 0x1020408f ≤ fixed_from 4 0 r → fixed_from 4 0 r ≤ 0x7fffffff → P (Ok (fixed_from 4 0 r, 5)))
       → P (read_old_count s)
   unfolding read_old_count
-  count-holds [] f g = refused 9
+  count-holds [] f g = refused BadData
   count-holds (b ∷ s) f g =
       pick-holds P (ltb b 0x80) (λ t. subst (λ (x : ℕ). P (value_from 0x0f (read_fixed 0 x s))) (let d : b - 0x00 ≡ b = omega arith in d) (on one_byte (omega arith) (omega (arith, ltb-true b 0x80 t)))) (λ t.
       pick-holds P (ltb b 0xc0) (λ u. on two-bytes (ltb-false b 0x80 t) (ltb-true b 0xc0 u)) (λ u.
@@ -177,9 +179,9 @@ module _ (P : Read → Type 0) (refused : (k : ℕ) → P (Refused k)) where
           let d : b ≡ prefix + (b - prefix) = omega arith in
           level_holds n (b - prefix) first s (f n prefix wide first l (b - prefix) s (ap (λ (x : ℕ). x ∷ s) d) (omega arith))
 
-abbrev IsSized : List ℕ → Read → Type 0
-IsSized s (Value v n) = Sized s n
-IsSized s (Refused k) = Unit
+abbrev IsSized : List ℕ → Coded ℕ → Type 0
+IsSized s (Ok (v, n)) = Sized s n
+IsSized s (Err k) = Unit
 
 is-sized : (s : List ℕ) → IsSized s (read_old_count s)
 is-sized s =
@@ -187,16 +189,16 @@ is-sized s =
     (λ n prefix wide first l high r e h w. rw e (record { some = omega arith; size = omega (arith, l.most); within = omega arith }))
     (λ b r e h w lo hi. rw e (record { some = omega arith; size = omega arith; within = omega arith }))
 
-pub count-sized : (s : List ℕ) {v n : ℕ} → Value v n ≡ read_old_count s → Sized s n
+pub count-sized : (s : List ℕ) {v n : ℕ} → Ok (v, n) ≡ read_old_count s → Sized s n
 count-sized s e = subst⁻¹ (IsSized s) e (is-sized s)
 
 -- what reads as v is the written form of v
-abbrev IsWritten : List ℕ → Read → Type 0
-IsWritten s (Value v n) = (v ≤ 2147483647) × StartsWith s (write_old_count v) n
-IsWritten s (Refused k) = Unit
+abbrev IsWritten : List ℕ → Coded ℕ → Type 0
+IsWritten s (Ok (v, n)) = (v ≤ 2147483647) × StartsWith s (write_old_count v) n
+IsWritten s (Err k) = Unit
 
 level-form : {n prefix wide first : ℕ} → Level n prefix wide first → (high : ℕ) (r : List ℕ) → Bytes r → high < wide → n ≤ length r
-    → IsWritten ((prefix + high) ∷ r) (Value (first + fixed_from n high r) (n + 1))
+    → IsWritten ((prefix + high) ∷ r) (Ok (first + fixed_from n high r, n + 1))
 level-form {n} {prefix} {wide} {first} l high r hs h w =
     let v : ℕ = fixed_from n high r in
     let a : high + 1 ≤ wide = omega arith in
@@ -209,7 +211,7 @@ level-form {n} {prefix} {wide} {first} l high r hs h w =
     )
 
 largest-form : (b : ℕ) (r : List ℕ) → Bytes (b ∷ r) → 0xff ≤ b → 4 ≤ length r → 0x1020408f ≤ fixed_from 4 0 r → fixed_from 4 0 r ≤ 0x7fffffff
-    → IsWritten (b ∷ r) (Value (fixed_from 4 0 r) 5)
+    → IsWritten (b ∷ r) (Ok (fixed_from 4 0 r, 5))
 largest-form b r hs h w lo hi =
     let c : b < 256 = hs 0 in
     let d : 0xff + 0 ≡ b = omega arith in (
@@ -226,27 +228,27 @@ is-written s hs =
     (λ n prefix wide first l high r e h w. rw e (level-form l high r (λ i. (rw e at hs) (suc i)) h w))
     (λ b r e h w lo hi. rw e (largest-form b r (rw e at hs) h w lo hi))
 
-pub count_small : (s : List ℕ) {v n : ℕ} → Bytes s → Value v n ≡ read_old_count s → v ≤ 2147483647
+pub count_small : (s : List ℕ) {v n : ℕ} → Bytes s → Ok (v, n) ≡ read_old_count s → v ≤ 2147483647
 count_small s hs e = (subst⁻¹ (IsWritten s) e (is-written s hs)).0
 
-pub count-form : (s : List ℕ) {v n : ℕ} → Bytes s → Value v n ≡ read_old_count s → StartsWith s (write_old_count v) n
+pub count-form : (s : List ℕ) {v n : ℕ} → Bytes s → Ok (v, n) ≡ read_old_count s → StartsWith s (write_old_count v) n
 count-form s hs e = (subst⁻¹ (IsWritten s) e (is-written s hs)).1
 
 -- a count that was written is read back, whatever follows
 abbrev Back : ℕ → List ℕ → Type 0
-Back v rest = read_old_count (write_old_count v ++ rest) ≡ Value v (length (write_old_count v))
+Back v rest = read_old_count (write_old_count v ++ rest) ≡ Ok (v, length (write_old_count v))
 
 level-back : {n prefix wide first : ℕ} → Level n prefix wide first → (v : ℕ) (rest : List ℕ) → v < wide * 256 ^ n → Back (first + v) rest
 level-back {n} {prefix} {wide} {first} l v rest h =
     let m : v / 256 ^ n < wide = (div-lt_iff_lt-mul (one-le-pow n 256 (lit≤ tt))).1 h in
     rw (l.writes v h, l.reads (v / 256 ^ n) (fixed_bytes n v ++ rest) m, prefixed-written n (v / 256 ^ n) v rest refl)
-    (ap (Value (first + v)) (sym (length-prefixed n prefix v)))
+    (ap (λ (m : ℕ). Ok (first + v, m)) (sym (length-prefixed n prefix v)))
 
 largest-back : (v : ℕ) (rest : List ℕ) → 0x1020408f ≤ v → v ≤ 2147483647 → Back v rest
 largest-back v rest lo hi =
     let d : v / 256 ^ 4 ≡ 0 = omega arith in
     rw (writes-largest v lo, reads-largest (0xff + v / 256 ^ 4) (fixed_bytes 4 v ++ rest) (omega arith), prefixed-written 4 0 v rest d, le-leb 0x1020408f v lo, le-leb v 0x7fffffff hi)
-    (ap (Value v) (sym (length-prefixed 4 0xff v)))
+    (ap (λ (m : ℕ). Ok (v, m)) (sym (length-prefixed 4 0xff v)))
 
 -- the form of each value: P of a value, from P of each form
 pub by_form : (P : ℕ → Type 0) → ((n prefix wide first : ℕ) → Level n prefix wide first → (v : ℕ) → v < wide * 256 ^ n → P (first + v))

@@ -1,4 +1,7 @@
 -- How the older count is written: the loop that stores a number behind a prefix, and a law for each way out of the writer. Assumes nothing.
+use Rattle.base.specs.declared.Refusal.{Refusal}
+use Rattle.std.specs.Prelude.{Err, Ok, Result}
+use Rattle.base.specs.declared.Refusal.TheVariants.{BadCode}
 use mathlib.Core.Path.{◌≡◌, refl, ap, sym, ◌∙◌}
 use mathlib.Core.List.{List, [], ◌∷◌}
 use Prim.Native.Nat.{ℕ, suc, ◌+◌, ◌*◌, ◌-◌, ◌/◌, ◌%◌, ◌^◌, ◌≤◌, ◌<◌}
@@ -9,8 +12,6 @@ use lib.ListN.{length, set}
 use lib.Seq.{sets, set_comm, length-sets}
 use borrow.Author.Tests.{le-leb, lt-leb}
 use Rattle.base.specs.Writing.{bytes, Writes}
-use Rattle.base.specs.declared.Wrote.{Wrote}
-use Rattle.base.specs.declared.Wrote.TheVariants.{Length, Refused}
 use Rattle.base.proofs.WriteLaws.{not_carried, stored}
 use Rattle.counts.specs.Fixed.{fixed_bytes, prefixed}
 use Rattle.counts.proofs.FixedLaws.{length-prefixed}
@@ -59,7 +60,7 @@ module _ (n v : ℕ) (d₀ : List ℕ) (rest i : ℕ) (d : List ℕ) (s : Storin
       let e : n - 0 ≡ n = omega arith in
       rw (z, e) at s.left
 
-  pub storing-end : (prefix : ℕ) → i ≤ 0 → n < length d₀ → Writes (bytes (prefixed n prefix v)) d₀ (Length (n + 1)) (set d 0 (prefix + rest))
+  pub storing-end : (prefix : ℕ) → i ≤ 0 → n < length d₀ → Writes (bytes (prefixed n prefix v)) d₀ (Ok (n + 1)) (set d 0 (prefix + rest))
   storing-end prefix h l =
       let z : i ≡ 0 = omega arith in
       let e : n - 0 ≡ n = omega arith in
@@ -69,16 +70,16 @@ module _ (n v : ℕ) (d₀ : List ℕ) (rest i : ℕ) (d : List ℕ) (s : Storin
       rw (sym (length-prefixed n prefix v)) (w.0, rw (k, m) (set-sets (fixed_bytes n v) d₀ 0 1 (prefix + v / 256 ^ n) (omega arith)) ∙ w.1)
 
 -- the ways out of the writer
-pub too_large : (v : ℕ) (d : List ℕ) → 2147483647 < v → Writes (old_count_form v) d (Refused 7) d
-too_large v d h = rw (lt-leb v 2147483647 h) (not_carried 7 d)
+pub too_large : (v : ℕ) (d : List ℕ) → 2147483647 < v → Writes (old_count_form v) d (Err BadCode) d
+too_large v d h = rw (lt-leb v 2147483647 h) (not_carried BadCode d)
 
-carried : (v : ℕ) (d : List ℕ) (r : Wrote) (e xs : List ℕ) → v ≤ 2147483647 → write_old_count v ≡ xs → Writes (bytes xs) d r e → Writes (old_count_form v) d r e
+carried : (v : ℕ) (d : List ℕ) (r : Result ℕ Refusal) (e xs : List ℕ) → v ≤ 2147483647 → write_old_count v ≡ xs → Writes (bytes xs) d r e → Writes (old_count_form v) d r e
 carried v d r e xs h q w = rw (le-leb v 2147483647 h, q) w
 
-pub as-level : {n prefix wide first : ℕ} → Level n prefix wide first → (v w : ℕ) (d : List ℕ) (r : Wrote) (e : List ℕ) → first + w ≡ v
+pub as-level : {n prefix wide first : ℕ} → Level n prefix wide first → (v w : ℕ) (d : List ℕ) (r : Result ℕ Refusal) (e : List ℕ) → first + w ≡ v
     → w < wide * 256 ^ n → Writes (bytes (prefixed n prefix w)) d r e → Writes (old_count_form v) d r e
 as-level {n} {prefix} {wide} {first} l v w d r e z h q =
     carried v d r e (prefixed n prefix w) (omega (arith, l.fits w h)) (ap write_old_count (sym z) ∙ l.writes w h) q
 
-pub as-largest : (v : ℕ) (d : List ℕ) (r : Wrote) (e : List ℕ) → v ≤ 2147483647 → 0x1020408f ≤ v → Writes (bytes (prefixed 4 0xff v)) d r e → Writes (old_count_form v) d r e
+pub as-largest : (v : ℕ) (d : List ℕ) (r : Result ℕ Refusal) (e : List ℕ) → v ≤ 2147483647 → 0x1020408f ≤ v → Writes (bytes (prefixed 4 0xff v)) d r e → Writes (old_count_form v) d r e
 as-largest v d r e m h w = carried v d r e (prefixed 4 0xff v) m (writes-largest v h) w

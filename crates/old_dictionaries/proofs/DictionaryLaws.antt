@@ -1,4 +1,8 @@
 -- A dictionary that was written reads back, and one that reads is the written form of its entries. Assumes nothing.
+use Rattle.base.specs.declared.Refusal.{Refusal}
+use Rattle.std.specs.Prelude.{Err, Ok}
+use Rattle.base.specs.Coded.{Coded}
+use Rattle.base.specs.declared.Refusal.TheVariants.{BadCode}
 use mathlib.Core.Path.{◌≡◌, refl, sym, ap, ◌∙◌}
 use mathlib.Core.Bool.{Bool, false}
 use mathlib.Core.List.{List, [], ◌∷◌, ◌++◌, append-nil, append_assoc}
@@ -12,8 +16,6 @@ use Rattle.base.specs.Pick.{pick}
 use Rattle.base.specs.Parsed.{Parsed, got, bad, bind}
 use Rattle.base.specs.Writing.{bytes, unfit}
 use Rattle.base.proofs.Tests.{clash, by_order}
-use Rattle.base.specs.declared.Read.{Read}
-use Rattle.base.specs.declared.Read.TheVariants.{Value, Refused}
 use Rattle.base.specs.Parsed.{behind_code}
 use Rattle.base.proofs.AllLaws.{all_head, all_tail}
 use Rattle.base.proofs.ByteLaws.{drop-bytes}
@@ -146,17 +148,17 @@ pairs-entries (suc n) pre s more q h a =
     ∙ ap (λ (y : Dictionary). got y q) (sym o)
 
 -- behind a count
-counted : (s : List ℕ) (n a : ℕ) → read_old_count s ≡ Value n a → parse_old_dictionary s ≡ parse_entries n [] (drop a s)
+counted : (s : List ℕ) (n a : ℕ) → read_old_count s ≡ Ok (n, a) → parse_old_dictionary s ≡ parse_entries n [] (drop a s)
 unfolding parse_old_dictionary
 counted s n a e = rw e
 
 -- the pairs behind the count of a dictionary are its entries; one without a count is refused
-pub dictionary-pairs : (s : List ℕ) (es : Dictionary) (r : List ℕ) (n a : ℕ) → read_old_count s ≡ Value n a → parse_old_dictionary s ≡ got es r → parse_pairs n (drop a s) ≡ got es r
+pub dictionary-pairs : (s : List ℕ) (es : Dictionary) (r : List ℕ) (n a : ℕ) → read_old_count s ≡ Ok (n, a) → parse_old_dictionary s ≡ got es r → parse_pairs n (drop a s) ≡ got es r
 dictionary-pairs s es r n a e h =
     let m = entries-pairs n [] (drop a s) es r (sym (counted s n a e) ∙ h) in
     m.pairs ∙ ap (λ (y : Dictionary). got y r) (sym m.all)
 
-pub no-count : (s : List ℕ) (k : ℕ) → read_old_count s ≡ Refused k → parse_old_dictionary s ≡ bad k
+pub no-count : (s : List ℕ) (k : Refusal) → read_old_count s ≡ Err k → parse_old_dictionary s ≡ bad k
 unfolding parse_old_dictionary
 no-count s k e = rw e
 
@@ -175,9 +177,9 @@ pub dictionary-form : (s : List ℕ) (es : Dictionary) (r : List ℕ) → Bytes 
 unfolding parse_old_dictionary
 dictionary-form s es r b h = go (read_old_count s) refl h
   where
-    go : (g : Read) → read_old_count s ≡ g → bind (behind_code s g) (λ n q. parse_entries n [] q) ≡ got es r → DictionaryForm s es r
-    go (Refused k) e p = bad-got p
-    go (Value n a) e p =
+    go : (g : Coded ℕ) → read_old_count s ≡ g → bind (behind_code s g) (λ n q. parse_entries n [] q) ≡ got es r → DictionaryForm s es r
+    go (Err k) e p = bad-got p
+    go (Ok (n, a)) e p =
         let c = count-form s b (sym e) in
         let m = entries-pairs n [] (drop a s) es r p in
         let f = pairs-form n (drop a s) m.more r (drop-bytes a s b) m.pairs in
@@ -206,8 +208,8 @@ writable-form es rest w =
 pub form-writable : (n : ℕ) (s w : List ℕ) → Bytes s → old_dictionary_form n s ≡ bytes w → (es : Dictionary) × Writable es × (w ≡ write_old_dictionary es)
 form-writable n s w b h =
     by_order 2147483647 n
-    (λ l. let z : unfit 7 ≡ bytes w = sym (rw (lt-leb n 2147483647 l) refl) ∙ h in clash cc)
-    (λ l. go (parse_entries n [] s) refl (sym (ap (λ (t : Bool). pick t (form_of (parse_entries n [] s)) (unfit 7)) (le-leb n 2147483647 l)) ∙ h) l)
+    (λ l. let z : unfit BadCode ≡ bytes w = sym (rw (lt-leb n 2147483647 l) refl) ∙ h in clash cc)
+    (λ l. go (parse_entries n [] s) refl (sym (ap (λ (t : Bool). pick t (form_of (parse_entries n [] s)) (unfit BadCode)) (le-leb n 2147483647 l)) ∙ h) l)
   where
     go : (p : Parsed Dictionary) → parse_entries n [] s ≡ p → form_of p ≡ bytes w → n ≤ 2147483647 → (es : Dictionary) × Writable es × (w ≡ write_old_dictionary es)
     go (bad k) e q l = clash cc

@@ -1,4 +1,7 @@
 -- The entries of a dictionary, one by one. Assumes nothing.
+use Rattle.base.specs.declared.Refusal.{Refusal}
+use Rattle.std.specs.Prelude.{Err, Ok}
+use Rattle.base.specs.Coded.{Coded}
 use mathlib.Core.Path.{◌≡◌, refl, sym, ap, ◌∙◌}
 use mathlib.Core.Bool.{Bool, true, false}
 use mathlib.Core.List.{List, [], ◌∷◌, ◌++◌}
@@ -7,14 +10,12 @@ use native.Mathlib.Omega.{arith}
 use native.Mathlib.Numerals.{add-one}
 use lib.ListN.{length, drop, length-drop, length-append}
 use Rattle.base.specs.Parsed.{got, bad, bind}
-use Rattle.base.specs.declared.Read.{Read}
-use Rattle.base.specs.declared.Read.TheVariants.{Value, Refused as Unread}
 use Rattle.base.specs.Equal.{equal}
 use Rattle.base.proofs.EqualLaws.{equal-true}
 use Rattle.base.proofs.Tests.{clash, never}
 use Rattle.string_order.specs.Order.{ordering}
-use Rattle.string_order.specs.declared.Ordering.{Ordering}
-use Rattle.string_order.specs.declared.Ordering.TheVariants.{Less, Equal, Greater}
+use Rattle.std.specs.declared.cmp.Ordering.{Ordering}
+use Rattle.std.specs.declared.cmp.Ordering.TheVariants.{Less, Equal, Greater}
 use Rattle.string_order.proofs.OrderLaws.{ordering-refl, less-trans}
 use Rattle.ids.specs.Ids.{among}
 use Rattle.aliases.specs.Dictionary.{Entry, entry, Dictionary, keys}
@@ -24,15 +25,13 @@ use Rattle.old_texts.specs.OldText.{parse_old_text}
 use Rattle.old_dictionaries.specs.OldDictionary.{after_key, parse_entry, parse_entries, parse_old_dictionary, found_of, read_old_dictionary}
 use Rattle.old_dictionaries.specs.Pairs.{parse_pairs, key_among}
 use Rattle.old_dictionaries.specs.View.{part, is_less, ValueAt, TurnTo, Largest, Keyed, Turned}
-use Rattle.old_dictionaries.specs.declared.Found.{Found}
-use Rattle.old_dictionaries.specs.declared.Found.TheVariants.{Entries, Refused}
 use Rattle.old_dictionaries.specs.declared.Turn.{Turn}
 use Rattle.old_dictionaries.specs.declared.Turn.TheVariants.{Next, Bad, Unordered}
 use Rattle.old_dictionaries.proofs.PairLaws.{entry-pair, pairs-more, pairs-known}
 
 -- a value behind a key
 module _ (s : List ℕ) (place lo hi : ℕ) where
-  pub value-bad : (k : ℕ) → parse_old_text (drop place s) ≡ bad k → ValueAt s place lo hi (Bad k)
+  pub value-bad : (k : Refusal) → parse_old_text (drop place s) ≡ bad k → ValueAt s place lo hi (Bad k)
   value-bad k e = record { means = e }
 
   pub value-next : (y : List ℕ) (d : ℕ) → d ≤ length s → parse_old_text (drop place s) ≡ got y (drop d s) → ValueAt s place lo hi (Next d lo hi)
@@ -70,7 +69,7 @@ module _ (s : List ℕ) (lo hi b c : ℕ) (b-c : b ≤ c) (c-s : c ≤ length s)
   abbrev m : List ℕ
   m = part lo hi s
 
-  new-bad : (pre : Dictionary) → among x (keys pre) ≡ false → (k : ℕ) → parse_old_text (drop c s) ≡ bad k → after_key pre x (drop c s) ≡ bad k
+  new-bad : (pre : Dictionary) → among x (keys pre) ≡ false → (k : Refusal) → parse_old_text (drop c s) ≡ bad k → after_key pre x (drop c s) ≡ bad k
   unfolding after_key
   new-bad pre a k f = rw (a, f)
 
@@ -102,7 +101,7 @@ module _ (s : List ℕ) (lo hi b c : ℕ) (b-c : b ≤ c) (c-s : c ≤ length s)
 
 -- the entry at a place
 module _ (s : List ℕ) (lo hi place : ℕ) where
-  pub entry-unread : (k : ℕ) → parse_old_text (drop place s) ≡ bad k → Turned s lo hi place (Bad k)
+  pub entry-unread : (k : Refusal) → parse_old_text (drop place s) ≡ bad k → Turned s lo hi place (Bad k)
   unfolding parse_entry
   entry-unread k e = record { means = λ pre h. rw e }
 
@@ -134,7 +133,7 @@ module _ (s : List ℕ) (from n done place : ℕ) (pre : Dictionary) (g : Walk s
     unfolding parse_entries
     turn = let e : n - done ≡ suc (n - (done + 1)) = omega arith in g.rest ∙ rw e refl
 
-    pub walk-bad : (k : ℕ) → parse_entry pre (drop place s) ≡ bad k → Refused k ≡ found_of s (parse_entries n [] (drop from s))
+    pub walk-bad : (k : Refusal) → parse_entry pre (drop place s) ≡ bad k → Err k ≡ found_of s (parse_entries n [] (drop from s))
     walk-bad k q = let w : parse_entries n [] (drop from s) ≡ bad k = turn ∙ rw q in rw w
 
     pub walk-next : (d : ℕ) (x : Entry) → d ≤ length s → parse_entry pre (drop place s) ≡ got x (drop d s)
@@ -150,7 +149,7 @@ module _ (s : List ℕ) (from n done place : ℕ) (pre : Dictionary) (g : Walk s
           rest = turn ∙ rw q;
         }
 
-  pub walk-done : n ≤ done → Entries n place ≡ found_of s (parse_entries n [] (drop from s))
+  pub walk-done : n ≤ done → Ok (n, place) ≡ found_of s (parse_entries n [] (drop from s))
   unfolding parse_entries
   walk-done h =
       let z : n - done ≡ 0 = omega arith in
@@ -176,7 +175,7 @@ module _ (s : List ℕ) (from n done lo hi place : ℕ) (g : Going s from n done
     to : TurnTo s g.pre (parse_entry g.pre (drop place s)) r
     to = t.means g.pre g.largest
 
-    pub going-bad : (k : ℕ) → r ≡ Bad k → Refused k ≡ found_of s (parse_entries n [] (drop from s))
+    pub going-bad : (k : Refusal) → r ≡ Bad k → Err k ≡ found_of s (parse_entries n [] (drop from s))
     going-bad k e = walk-bad s from n done place g.pre g.walk some k (rw e at to)
 
     next-at : (d b c : ℕ) → TurnTo s g.pre (parse_entry g.pre (drop place s)) (Next d b c) → Going s from n (done + 1) b c d
@@ -192,15 +191,15 @@ module _ (s : List ℕ) (from n done lo hi place : ℕ) (g : Going s from n done
     pub going_next : (d b c : ℕ) → r ≡ Next d b c → Going s from n (done + 1) b c d
     going_next d b c e = next-at d b c (rw e at to)
 
-  pub going_done : n ≤ done → Entries n place ≡ found_of s (parse_entries n [] (drop from s))
+  pub going_done : n ≤ done → Ok (n, place) ≡ found_of s (parse_entries n [] (drop from s))
   going_done = walk-done s from n done place g.pre g.walk
 
 -- the count of a dictionary, and what follows it
-module _ (s : List ℕ) (r : Read) (h : r ≡ read_old_count s) where
-  pub count-bad : (k : ℕ) → r ≡ Unread k → Refused k ≡ read_old_dictionary s
+module _ (s : List ℕ) (r : Coded ℕ) (h : r ≡ read_old_count s) where
+  pub count-bad : (k : Refusal) → r ≡ Err k → Err k ≡ read_old_dictionary s
   unfolding parse_old_dictionary
-  count-bad k e = let q : read_old_count s ≡ Unread k = sym h ∙ e in rw q
+  count-bad k e = let q : read_old_count s ≡ Err k = sym h ∙ e in rw q
 
-  pub count-read : (n a : ℕ) → r ≡ Value n a → (f : Found) → f ≡ found_of s (parse_entries n [] (drop a s)) → f ≡ read_old_dictionary s
+  pub count-read : (n a : ℕ) → r ≡ Ok (n, a) → (f : Coded ℕ) → f ≡ found_of s (parse_entries n [] (drop a s)) → f ≡ read_old_dictionary s
   unfolding parse_old_dictionary
-  count-read n a e f i = let q : read_old_count s ≡ Value n a = sym h ∙ e in i ∙ rw q
+  count-read n a e f i = let q : read_old_count s ≡ Ok (n, a) = sym h ∙ e in i ∙ rw q

@@ -1,4 +1,8 @@
 -- Pairs and entries: what the code finds at a place, and that both say the same where the keys are apart. Assumes nothing.
+use Rattle.base.specs.declared.Refusal.{Refusal}
+use Rattle.base.specs.declared.Refusal.TheVariants.{SecondAlias}
+use Rattle.std.specs.declared.option.Option.{Option}
+use Rattle.std.specs.declared.option.Option.TheVariants.{None, Some}
 use mathlib.Core.Path.{◌≡◌, sym, ap, ◌∙◌}
 use mathlib.Core.Bool.{Bool, true, false}
 use mathlib.Core.List.{List, [], ◌∷◌, ◌++◌}
@@ -13,8 +17,6 @@ use Rattle.aliases.specs.Dictionary.{Entry, entry, Dictionary, keys}
 use Rattle.old_texts.specs.OldText.{parse_old_text}
 use Rattle.old_dictionaries.specs.OldDictionary.{after_key, parse_entry}
 use Rattle.old_dictionaries.specs.Pairs.{parse_pair, parse_pairs, first_key, key_among}
-use Rattle.old_dictionaries.specs.declared.Pair.{Pair}
-use Rattle.old_dictionaries.specs.declared.Pair.TheVariants.{At, NoPair}
 use Rattle.old_dictionaries.specs.View.{part, PairTo, PairAt}
 
 -- a pair of strings, one behind the other
@@ -23,11 +25,11 @@ module _ (s x y r : List ℕ) (k : parse_old_text s ≡ got x r) where
   unfolding parse_pair
   pair-got q t = rw (k, t)
 
-  pub pair-bad : (n : ℕ) → parse_old_text r ≡ bad n → parse_pair s ≡ bad n
+  pub pair-bad : (n : Refusal) → parse_old_text r ≡ bad n → parse_pair s ≡ bad n
   unfolding parse_pair
   pair-bad n t = rw (k, t)
 
-pub key-bad : (s : List ℕ) (n : ℕ) → parse_old_text s ≡ bad n → parse_pair s ≡ bad n
+pub key-bad : (s : List ℕ) (n : Refusal) → parse_old_text s ≡ bad n → parse_pair s ≡ bad n
 unfolding parse_pair
 key-bad s n t = rw t
 
@@ -36,7 +38,7 @@ pub entry-pair : (pre : Dictionary) (s : List ℕ) (e : Entry) (q : List ℕ) �
 unfolding parse_entry after_key parse_pair
 entry-pair pre s e q h =
     let b = bind-good (parse_old_text s) _ e q h in
-    let k = pick-bad (among b.first (keys pre)) _ 19 e q b.on in
+    let k = pick-bad (among b.first (keys pre)) _ SecondAlias e q b.on in
     let c = bind-good (parse_old_text b.rest) _ e q k.1 in
     let f : e ≡ entry b.first c.first = sym (got-value c.on) in
     (rw b.is k.1, rw f k.0)
@@ -114,16 +116,16 @@ pub scan-done : (s x : List ℕ) (whole : Bool) (left place : ℕ) → Scanning 
 unfolding key_among
 scan-done s x whole left place g z = sym (rw z at g.rest)
 
-module _ (s x : List ℕ) (whole : Bool) (left place : ℕ) (g : Scanning s x whole left place) (some : 0 < left) (r : Pair) (p : PairAt s place r) where
+module _ (s x : List ℕ) (whole : Bool) (left place : ℕ) (g : Scanning s x whole left place) (some : 0 < left) (r : Option (ℕ × ℕ × ℕ × ℕ)) (p : PairAt s place r) where
   turn : whole ≡ first_key x (key_among (left - 1) x) (parse_pair (drop place s))
   unfolding key_among
   turn = let e : left ≡ suc (left - 1) = omega arith in rw e at g.rest
 
-  pub scan-none : r ≡ NoPair → false ≡ whole
-  scan-none e = let q : PairTo s (parse_pair (drop place s)) NoPair = rw e at p.means in sym (turn ∙ rw q.1)
+  pub scan-none : r ≡ None → false ≡ whole
+  scan-none e = let q : PairTo s (parse_pair (drop place s)) None = rw e at p.means in sym (turn ∙ rw q.1)
 
-  module _ (b c v e : ℕ) (h : r ≡ At b c v e) where
-    to : PairTo s (parse_pair (drop place s)) (At b c v e)
+  module _ (b c v e : ℕ) (h : r ≡ Some (b, c, v, e)) where
+    to : PairTo s (parse_pair (drop place s)) (Some (b, c, v, e))
     to = rw h at p.means
 
     pub scan-inside : (b ≤ c) × (c ≤ length s)

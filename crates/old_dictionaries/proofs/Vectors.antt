@@ -1,4 +1,5 @@
 -- Worked examples of the older dictionary. Assumes nothing.
+use Rattle.base.specs.declared.Refusal.TheVariants.{BadData, BadText, SecondAlias}
 use mathlib.Core.Path.{◌≡◌, refl}
 use mathlib.Core.List.{[], ◌∷◌, map}
 use Rattle.base.specs.Parsed.{got, bad}
@@ -17,6 +18,6 @@ pub reads :
     map parse_old_dictionary
     ((0xf0 ∷ 0xff ∷ 0xff ∷ []) ∷ (0xf2 ∷ 0xf1 ∷ 0x41 ∷ 0xf1 ∷ 0x42 ∷ 0xf0 ∷ 0xf1 ∷ 0x41 ∷ 0xff ∷ []) ∷ (0x00 ∷ []) ∷ (0xff ∷ 0x7f ∷ 0xff ∷ 0xff ∷ 0xff ∷ [])
     ∷ (0xf2 ∷ 0xf1 ∷ 0x41 ∷ 0xf1 ∷ 0x42 ∷ 0xf1 ∷ 0x41 ∷ []) ∷ (0xf2 ∷ 0xf1 ∷ 0x41 ∷ 0xf1 ∷ 0x42 ∷ 0xf1 ∷ 0x41 ∷ 0x83 ∷ 0x72 ∷ []) ∷ (0xf1 ∷ 0xf1 ∷ 0x41 ∷ 0xf1 ∷ 0xff ∷ []) ∷ [])
-    ≡ got [] (0xff ∷ 0xff ∷ []) ∷ got (entry (0x41 ∷ []) (0x42 ∷ []) ∷ entry [] (0x41 ∷ []) ∷ []) (0xff ∷ []) ∷ bad 9 ∷ bad 9 ∷ bad 19 ∷ bad 19 ∷ bad 8 ∷ []
+    ≡ got [] (0xff ∷ 0xff ∷ []) ∷ got (entry (0x41 ∷ []) (0x42 ∷ []) ∷ entry [] (0x41 ∷ []) ∷ []) (0xff ∷ []) ∷ bad BadData ∷ bad BadData ∷ bad SecondAlias ∷ bad SecondAlias ∷ bad BadText ∷ []
 unfolding read_old_count fixed_from chars text_sized among keys equal after_key parse_entry parse_entries parse_old_dictionary
 reads = refl

@@ -1,6 +1,8 @@
 -- The older edition's dictionary, as document 002 gives it: "a count number of entries in the dictionary, followed by that number of pairs of
 -- string key and string value". Its content is of the type that field 3's is. To be believed.
-use Rattle.std.specs.Prelude.{ℕ, zero, suc, ◌-◌, ◌≤◌, List, [], ◌∷◌, ◌++◌, length, leb}
+use Rattle.base.specs.Coded.{Coded}
+use Rattle.base.specs.declared.Refusal.TheVariants.{BadCode, SecondAlias}
+use Rattle.std.specs.Prelude.{ℕ, zero, suc, ◌-◌, ◌≤◌, List, [], ◌∷◌, ◌++◌, length, leb, Err, Ok}
 use Rattle.base.specs.All.{All}
 use Rattle.base.specs.Pick.{pick}
 use Rattle.base.specs.Parsed.{Parsed, got, bad, bind, parse}
@@ -10,12 +12,10 @@ use Rattle.aliases.specs.Dictionary.{Entry, entry, Dictionary, keys, Apart}
 use Rattle.texts.specs.Facts.{Fit}
 use Rattle.old_counts.specs.OldCount.{read_old_count, write_old_count}
 use Rattle.old_texts.specs.OldText.{parse_old_text, write_old_text}
-use Rattle.old_dictionaries.specs.declared.Found.{Found}
-use Rattle.old_dictionaries.specs.declared.Found.TheVariants.{Entries, Refused}
 
 -- "The second of two equal keys .. gets 19": the key x is judged as soon as it is read, before its value
 unfoldable pub after_key : Dictionary → List ℕ → List ℕ → Parsed Entry
-after_key pre x r = pick (among x (keys pre)) (bad 19) (bind (parse_old_text r) (λ y q. got (entry x y) q))
+after_key pre x r = pick (among x (keys pre)) (bad SecondAlias) (bind (parse_old_text r) (λ y q. got (entry x y) q))
 
 -- an entry behind the entries pre
 unfoldable pub parse_entry : Dictionary → List ℕ → Parsed Entry
@@ -32,11 +32,11 @@ unfoldable pub parse_old_dictionary : List ℕ → Parsed Dictionary
 parse_old_dictionary s = bind (parse read_old_count s) (λ n r. parse_entries n [] r)
 
 -- what reading gives: how many entries, and the length of the code
-abbrev pub found_of : List ℕ → Parsed Dictionary → Found
-found_of s (got es r) = Entries (length es) (length s - length r)
-found_of s (bad k) = Refused k
+abbrev pub found_of : List ℕ → Parsed Dictionary → Coded ℕ
+found_of s (got es r) = Ok (length es, length s - length r)
+found_of s (bad k) = Err k
 
-abbrev pub read_old_dictionary : List ℕ → Found
+abbrev pub read_old_dictionary : List ℕ → Coded ℕ
 read_old_dictionary s = found_of s (parse_old_dictionary s)
 
 -- the code of a dictionary
@@ -63,4 +63,4 @@ form_of (got es r) = bytes (write_old_dictionary es)
 form_of (bad k) = unfit k
 
 abbrev pub old_dictionary_form : ℕ → List ℕ → Form
-old_dictionary_form n s = pick (leb n 2147483647) (form_of (parse_entries n [] s)) (unfit 7)
+old_dictionary_form n s = pick (leb n 2147483647) (form_of (parse_entries n [] s)) (unfit BadCode)

@@ -1,16 +1,17 @@
 -- What the code's results stand for. The code's way, tied to the content by `PairTo` and `TurnTo` themselves.
+use Rattle.base.specs.declared.Refusal.{Refusal}
+use Rattle.std.specs.declared.option.Option.{Option}
+use Rattle.std.specs.declared.option.Option.TheVariants.{None, Some}
 use Rattle.std.specs.Prelude.{ℕ, ◌-◌, ◌≤◌, ◌≡◌, Bool, true, false, List, [], ◌∷◌, ◌++◌, length, take, drop}
 use Rattle.base.specs.Parsed.{Parsed, got, bad}
 use Rattle.string_order.specs.Order.{ordering}
-use Rattle.string_order.specs.declared.Ordering.{Ordering}
-use Rattle.string_order.specs.declared.Ordering.TheVariants.{Less, Equal, Greater}
+use Rattle.std.specs.declared.cmp.Ordering.{Ordering}
+use Rattle.std.specs.declared.cmp.Ordering.TheVariants.{Less, Equal, Greater}
 use Rattle.aliases.specs.Dictionary.{Entry, entry, Dictionary, keys}
 use Rattle.ids.specs.Ids.{among}
 use Rattle.old_texts.specs.OldText.{parse_old_text}
 use Rattle.old_dictionaries.specs.OldDictionary.{after_key, parse_entry}
 use Rattle.old_dictionaries.specs.Pairs.{parse_pair}
-use Rattle.old_dictionaries.specs.declared.Pair.{Pair}
-use Rattle.old_dictionaries.specs.declared.Pair.TheVariants.{At, NoPair}
 use Rattle.old_dictionaries.specs.declared.Turn.{Turn}
 use Rattle.old_dictionaries.specs.declared.Turn.TheVariants.{Next, Bad, Unordered}
 
@@ -19,11 +20,11 @@ abbrev pub part : ℕ → ℕ → List ℕ → List ℕ
 part a e s = take (e - a) (drop a s)
 
 -- a pair in the bytes s: its key stands from b to c, its value from v to e
-abbrev pub PairTo : List ℕ → Parsed Entry → Pair → Type 0
-PairTo s p (At b c v e) = (b ≤ c) × (c ≤ v) × (v ≤ e) × (e ≤ length s) × (p ≡ got (entry (part b c s) (part v e s)) (drop e s))
-PairTo s p NoPair = (k : ℕ) × (p ≡ bad k)
+abbrev pub PairTo : List ℕ → Parsed Entry → Option (ℕ × ℕ × ℕ × ℕ) → Type 0
+PairTo s p (Some (b, c, v, e)) = (b ≤ c) × (c ≤ v) × (v ≤ e) × (e ≤ length s) × (p ≡ got (entry (part b c s) (part v e s)) (drop e s))
+PairTo s p None = (k : Refusal) × (p ≡ bad k)
 
-pub record PairAt (s : List ℕ) (place : ℕ) (r : Pair) : Type 0 where
+pub record PairAt (s : List ℕ) (place : ℕ) (r : Option (ℕ × ℕ × ℕ × ℕ)) : Type 0 where
   pub means : PairTo s (parse_pair (drop place s)) r
 
 abbrev pub is_less : Ordering → Bool

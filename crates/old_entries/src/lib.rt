@@ -6,10 +6,9 @@ ghost use Rattle.string_order.specs.Order.{ordering};
 ghost use Rattle.old_dictionaries.specs.OldDictionary.{parse_entries, found_of, read_old_dictionary};
 ghost use Rattle.old_dictionaries.specs.View.{is_less, ValueAt, Keyed, Turned};
 
-use base::Read;
-use old_dictionaries::{Found, Turn};
-use string_order::Ordering;
-use texts::Text;
+use base::Coded;
+use old_dictionaries::Turn;
+use std::cmp::Ordering;
 
 // Whether a comes before b in the order of strings.
 fn comes_before(a: &[u8], b: &[u8]) -> bool
@@ -28,8 +27,8 @@ fn take_value(s: &[u8], at: usize, lo: usize, hi: usize) -> Turn
     ensures { ValueAt s.now at lo hi result }
 {
     match old_texts::read_text(&s[at..]) {
-        Text::Refused(k) => Turn::Bad(k),
-        Text::Part(v, l) => Turn::Next(at + v + l, lo, hi),
+        Err(k) => Turn::Bad(k),
+        Ok((v, l)) => Turn::Next(at + v + l, lo, hi),
     }
 }
 
@@ -51,8 +50,8 @@ fn take_entry(s: &[u8], lo: usize, hi: usize, at: usize) -> Turn
     ensures { Turned s.now lo hi at result }
 {
     match old_texts::read_text(&s[at..]) {
-        Text::Refused(k) => Turn::Bad(k),
-        Text::Part(a, m) => {
+        Err(k) => Turn::Bad(k),
+        Ok((a, m)) => {
             let b = at + a;
             take_key(s, lo, hi, b, b + m)
         }
@@ -61,7 +60,7 @@ fn take_entry(s: &[u8], lo: usize, hi: usize, at: usize) -> Turn
 
 // n entries of s from a place on. At the first key that is not larger than all before it they are read anew, by a reader that remembers the
 // keys.
-pub fn read_entries(s: &[u8], from: usize, n: u64) -> Found
+pub fn read_entries(s: &[u8], from: usize, n: u64) -> Coded<u64>
     requires { from ≤ length s.now }
     ensures { result ≡ found_of s.now (parse_entries n [] (drop from s.now)) }
 {
@@ -72,7 +71,7 @@ pub fn read_entries(s: &[u8], from: usize, n: u64) -> Found
     while done < n {
         match take_entry(s, lo, hi, at) {
             Turn::Bad(k) => {
-                return Found::Refused(k);
+                return Err(k);
             }
             Turn::Unordered => {
                 return unordered_keys::read_entries(s, from, n);
@@ -85,15 +84,13 @@ pub fn read_entries(s: &[u8], from: usize, n: u64) -> Found
             }
         }
     }
-    Found::Entries(n, at)
+    Ok((n, at))
 }
 
-// The dictionary at the front of s.
-pub fn read_dictionary(s: &[u8]) -> Found
+// The dictionary at the front of s: how many entries it has, and its length.
+pub fn read_dictionary(s: &[u8]) -> Coded<u64>
     ensures { result ≡ read_old_dictionary s.now }
 {
-    match old_count_readers::read_count(s) {
-        Read::Refused(k) => Found::Refused(k),
-        Read::Value(n, a) => read_entries(s, a, n),
-    }
+    let (n, a) = old_count_readers::read_count(s)?;
+    read_entries(s, a, n)
 }

@@ -1,4 +1,9 @@
 -- Following a name over the entries of an older dictionary, a law for each way out. Assumes nothing.
+use Rattle.base.specs.declared.Refusal.TheVariants.{NotFound, TooManySteps}
+use Rattle.std.specs.declared.option.Option.{Option as Maybe}
+use Rattle.std.specs.declared.option.Option.TheVariants.{None, Some}
+use Rattle.base.specs.Coded.{Fault}
+use Rattle.std.specs.Prelude.{Err, Ok, Result}
 use mathlib.Core.Path.{◌≡◌, refl, sym, ap, ◌∙◌}
 use mathlib.Core.List.{List}
 use mathlib.Core.Option.{Option, none, some}
@@ -10,38 +15,32 @@ use Rattle.aliases.specs.Dictionary.{Dictionary, target_of}
 use Rattle.alias_lookup.specs.Lookup.{here, lookup}
 use Rattle.old_dictionaries.specs.View.{part}
 use Rattle.answers.specs.declared.Found.{Found}
-use Rattle.answers.specs.declared.Answer.{Answer}
-use Rattle.answers.specs.declared.Answer.TheVariants.{In, Refused}
 use Rattle.old_named_questions.specs.OldNamed.{resolved}
 use Rattle.old_named_questions.specs.View.{PointsTo, Points, asked_of}
-use Rattle.old_named_questions.specs.declared.Target.{Target}
-use Rattle.old_named_questions.specs.declared.Target.TheVariants.{At, Missing}
-use Rattle.old_named_questions.specs.declared.Asked.{Asked}
-use Rattle.old_named_questions.specs.declared.Asked.TheVariants.{Zone, NoZone}
 
 -- r is what asking a zone gave
-module _ (o : Option Found) (r : Asked) (h : r ≡ asked_of o) where
-  pub asked-zone : (v : Found) → r ≡ Zone v → o ≡ some v
+module _ (o : Option Found) (r : Maybe Found) (h : r ≡ asked_of o) where
+  pub asked-zone : (v : Found) → r ≡ Some v → o ≡ some v
   asked-zone v e = go o (sym h ∙ e)
     where
-      go : (p : Option Found) → asked_of p ≡ Zone v → p ≡ some v
+      go : (p : Option Found) → asked_of p ≡ Some v → p ≡ some v
       go (some w) q = let z : w ≡ v = cc in ap some z
       go none q = clash cc
 
-  pub asked-none : r ≡ NoZone → o ≡ none
+  pub asked-none : r ≡ None → o ≡ none
   asked-none e = go o (sym h ∙ e)
     where
-      go : (p : Option Found) → asked_of p ≡ NoZone → p ≡ none
+      go : (p : Option Found) → asked_of p ≡ None → p ≡ none
       go (some w) q = clash cc
       go none q = refl
 
 -- r is where the string o lies in d
-module _ (d : List ℕ) (o : Option (List ℕ)) (r : Target) (p : Points d o r) where
-  pub point-none : r ≡ Missing → o ≡ none
+module _ (d : List ℕ) (o : Option (List ℕ)) (r : Maybe (ℕ × ℕ)) (p : Points d o r) where
+  pub point-none : r ≡ None → o ≡ none
   point-none e = (rw e at p).means
 
-  module _ (b e : ℕ) (i : r ≡ At b e) where
-    to : PointsTo d o (At b e)
+  module _ (b e : ℕ) (i : r ≡ Some (b, e)) where
+    to : PointsTo d o (Some (b, e))
     to = (rw i at p).means
 
     pub point-inside : (b ≤ e) × (e ≤ length d)
@@ -51,20 +50,20 @@ module _ (d : List ℕ) (o : Option (List ℕ)) (r : Target) (p : Points d o r) 
     point_at = to.2
 
 -- x is no zone's ID, and r is where its target lies
-module _ (zone : List ℕ → Option Found) (es : Dictionary) (d x : List ℕ) (n : ℕ) (no-zone : zone x ≡ none) (r : Target) (p : Points d (target_of es x) r) where
-  pub follow-missing : r ≡ Missing → Refused 12 0 ≡ resolved (lookup zone es n x)
+module _ (zone : List ℕ → Option Found) (es : Dictionary) (d x : List ℕ) (n : ℕ) (no-zone : zone x ≡ none) (r : Maybe (ℕ × ℕ)) (p : Points d (target_of es x) r) where
+  pub follow-missing : r ≡ None → Err (NotFound, 0) ≡ resolved (lookup zone es n x)
   unfolding lookup
   follow-missing e = go n (point-none d (target_of es x) r p e)
     where
-      go : (m : ℕ) → target_of es x ≡ none → Refused 12 0 ≡ resolved (lookup zone es m x)
+      go : (m : ℕ) → target_of es x ≡ none → Err (NotFound, 0) ≡ resolved (lookup zone es m x)
       go zero q = rw (no-zone, q) refl
       go (suc m) q = rw (no-zone, q) refl
 
-  module _ (b e : ℕ) (i : r ≡ At b e) where
+  module _ (b e : ℕ) (i : r ≡ Some (b, e)) where
     target_is : target_of es x ≡ some (part b e d)
     target_is = point_at d (target_of es x) r p b e i
 
-    pub follow-deep : n ≡ 0 → Refused 18 0 ≡ resolved (lookup zone es n x)
+    pub follow-deep : n ≡ 0 → Err (TooManySteps, 0) ≡ resolved (lookup zone es n x)
     unfolding lookup
     follow-deep z = rw (z, no-zone, target_is) refl
 
@@ -77,7 +76,7 @@ module _ (zone : List ℕ → Option Found) (es : Dictionary) (d x : List ℕ) (
           go zero s = absurd (s refl)
           go (suc m) s = let o : suc m - 1 ≡ m = omega arith in rw (o, no-zone, target_is)
 
-      pub follow-zone : (v : Found) → zone (part b e d) ≡ some v → In v ≡ resolved (lookup zone es n x)
+      pub follow-zone : (v : Found) → zone (part b e d) ≡ some v → Ok v ≡ resolved (lookup zone es n x)
       unfolding lookup
       follow-zone v z = ap resolved (sym (go (n - 1)) ∙ step-on)
         where
@@ -85,5 +84,5 @@ module _ (zone : List ℕ → Option Found) (es : Dictionary) (d x : List ℕ) (
           go zero = rw z
           go (suc m) = rw z
 
-      pub follow-on : (a : Answer) → a ≡ resolved (lookup zone es (n - 1) (part b e d)) → a ≡ resolved (lookup zone es n x)
+      pub follow-on : (a : Result Found Fault) → a ≡ resolved (lookup zone es (n - 1) (part b e d)) → a ≡ resolved (lookup zone es n x)
       follow-on a h = h ∙ ap resolved step-on

@@ -5,51 +5,44 @@ ghost use Rattle.std.specs.Prelude.{◌≡◌, ◌<◌};
 ghost use Rattle.counts.specs.Fixed.{read_fixed};
 ghost use Rattle.old_offsets.specs.OldOffset.{by_seconds, by_milliseconds, judged, read_old_sum, read_old_offset};
 
-use base::Read;
-use signed::Number;
+use base::{Coded, Refusal};
 
 // The sum of three bytes of seconds, of which the first is `high` and the others are at the front of `s`.
-fn by_seconds(s: &[u8], high: u64) -> Read
+fn by_seconds(s: &[u8], high: u64) -> Coded<u64>
     requires { high < 256 }
     ensures { result ≡ judged by_seconds 1800000 (read_fixed 2 high s.now) }
 {
-    match count_readers::read_fixed(s, 2, high) {
-        Read::Value(v, n) => {
-            if v + 86400 < 0x83ffff {
-                return Read::Refused(7);
-            }
-            offset_readers::offset_of(n + 1, 1800000, (v + 86400 - 0x83ffff) * 1000)
-        }
-        Read::Refused(k) => Read::Refused(k),
+    let (v, n) = count_readers::read_fixed(s, 2, high)?;
+    if v + 86400 < 0x83ffff {
+        return Err(Refusal::BadCode);
     }
+    offset_readers::offset_of(n + 1, 1800000, (v + 86400 - 0x83ffff) * 1000)
 }
 
 // The sum of four bytes of milliseconds, in two's complement.
-fn by_milliseconds(s: &[u8]) -> Read
+fn by_milliseconds(s: &[u8]) -> Coded<u64>
     ensures { result ≡ judged by_milliseconds 1000 (read_fixed 4 0 s.now) }
 {
-    match count_readers::read_fixed(s, 4, 0) {
-        Read::Value(v, n) => offset_readers::offset_of(n + 1, 1000, (v + 86400000) % 0x100000000),
-        Read::Refused(k) => Read::Refused(k),
-    }
+    let (v, n) = count_readers::read_fixed(s, 4, 0)?;
+    offset_readers::offset_of(n + 1, 1000, (v + 86400000) % 0x100000000)
 }
 
 // The sum of the offset at the front of `s`.
-fn read_sum(s: &[u8]) -> Read
+fn read_sum(s: &[u8]) -> Coded<u64>
     ensures { result ≡ read_old_sum s.now }
 {
     if s.len() == 0 {
-        return Read::Refused(9);
+        return Err(Refusal::BadData);
     }
     let b = s[0] as u64;
     if b < 0x10 {
-        return Read::Refused(7);
+        return Err(Refusal::BadCode);
     }
     if b < 0x6f {
         return offset_readers::offset_of(1, 172800000, (b + 48 - 0x3f) * 1800000);
     }
     if b < 0x82 {
-        return Read::Refused(7);
+        return Err(Refusal::BadCode);
     }
     if b < 0x86 {
         return by_seconds(&s[1..], b);
@@ -57,15 +50,13 @@ fn read_sum(s: &[u8]) -> Read
     if b == 0xfd {
         return by_milliseconds(&s[1..]);
     }
-    Read::Refused(7)
+    Err(Refusal::BadCode)
 }
 
 // The offset at the front of `s`, in milliseconds.
-pub fn read_offset(s: &[u8]) -> Number
+pub fn read_offset(s: &[u8]) -> Coded<i64>
     ensures { result ≡ read_old_offset s.now }
 {
-    match read_sum(s) {
-        Read::Value(sum, n) => Number::Value(signed::milliseconds(sum), n),
-        Read::Refused(k) => Number::Refused(k),
-    }
+    let (sum, n) = read_sum(s)?;
+    Ok((signed::milliseconds(sum), n))
 }

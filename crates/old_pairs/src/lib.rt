@@ -5,22 +5,19 @@ ghost use Rattle.std.specs.Prelude.{◌≡◌, ◌≤◌, length, drop};
 ghost use Rattle.old_dictionaries.specs.Pairs.{key_among};
 ghost use Rattle.old_dictionaries.specs.View.{PairAt};
 
-use old_dictionaries::Pair;
-use texts::Text;
-
-// The pair at a place of s.
-pub fn pair_at(s: &[u8], at: usize) -> Pair
+// Where the pair at a place of s lies: its key from one place to another, its value from a third to its end.
+pub fn pair_at(s: &[u8], at: usize) -> Option<(usize, usize, usize, usize)>
     requires { at ≤ length s.now }
     ensures { PairAt s.now at result }
 {
     match old_texts::read_text(&s[at..]) {
-        Text::Refused(_) => Pair::NoPair,
-        Text::Part(a, m) => {
+        Err(_) => None,
+        Ok((a, m)) => {
             let b = at + a;
             let c = b + m;
             match old_texts::read_text(&s[c..]) {
-                Text::Refused(_) => Pair::NoPair,
-                Text::Part(v, n) => Pair::At(b, c, c + v, c + v + n),
+                Err(_) => None,
+                Ok((v, n)) => Some((b, c, c + v, c + v + n)),
             }
         }
     }
@@ -35,10 +32,10 @@ pub fn has_key(s: &[u8], from: usize, n: u64, x: &[u8]) -> bool
     let mut left = n;
     while 0 < left {
         match pair_at(s, at) {
-            Pair::NoPair => {
+            None => {
                 return false;
             }
-            Pair::At(b, c, _, e) => {
+            Some((b, c, _, e)) => {
                 if strings::same(&s[b..c], x) {
                     return true;
                 }

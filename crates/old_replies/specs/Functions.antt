@@ -1,26 +1,24 @@
 -- What the C functions say of an older dictionary. To be believed: what programs in C are told.
-use Rattle.std.specs.Prelude.{ℕ, List, [], ◌∷◌, ◌≡◌, pos}
+use Rattle.base.specs.declared.Refusal.{Refusal}
+use Rattle.base.specs.Coded.{Coded}
+use Rattle.std.specs.Prelude.{ℕ, List, [], ◌∷◌, ◌≡◌, Err, Ok, Result}
 use Rattle.base.specs.Writing.{Form, wrote, placed}
-use Rattle.base.specs.declared.Wrote.{Wrote}
-use Rattle.base.specs.declared.Wrote.TheVariants.{Length, Refused as Unwritten}
-use Rattle.old_dictionaries.specs.declared.Found.{Found}
-use Rattle.old_dictionaries.specs.declared.Found.TheVariants.{Entries, Refused}
-use Rattle.replies.specs.Reply.{Reply, numbers, refused, refusal}
+use Rattle.replies.specs.Reply.{Reply, refusal}
+use Rattle.replies.specs.Functions.{read_reply}
 
 -- how many entries, and the length of the code
-abbrev pub dictionary_reply : Found → Reply
-dictionary_reply (Entries n e) = numbers (pos n ∷ pos e ∷ [])
-dictionary_reply (Refused k) = refused k 0
+abbrev pub dictionary_reply : Coded ℕ → Reply
+dictionary_reply f = read_reply f
 
 -- a dictionary may be longer than a length that a result has room for beside its number, so its length has an output of its own
-abbrev pub number_of : Wrote → ℕ
-number_of (Length n) = 0
-number_of (Unwritten k) = refusal k 0
+abbrev pub number_of : Result ℕ Refusal → ℕ
+number_of (Ok n) = 0
+number_of (Err k) = refusal k 0
 
 -- "Every refusal keeps all lent output as found": d is what was found
-abbrev pub length_left : Wrote → List ℕ → List ℕ
-length_left (Length n) d = n ∷ []
-length_left (Unwritten k) d = d
+abbrev pub length_left : Result ℕ Refusal → List ℕ → List ℕ
+length_left (Ok n) d = n ∷ []
+length_left (Err k) d = d
 
 -- the result r, the output e and the length m at the return, where they were d and l and x is to be written
 pub record PutsLong (x : Form) (d l : List ℕ) (r : ℕ) (e m : List ℕ) : Type 0 where

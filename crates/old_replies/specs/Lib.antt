@@ -1,2 +1,1 @@
 pub mod Functions
-pub mod Small

@@ -1,4 +1,8 @@
 -- The older string: where one that reads lies, that reading and writing undo one another, and what the writer leaves. Assumes nothing.
+use Rattle.base.specs.declared.Refusal.{Refusal}
+use Rattle.std.specs.Prelude.{Err, Ok, Result}
+use Rattle.base.specs.Coded.{Coded}
+use Rattle.base.specs.declared.Refusal.TheVariants.{BadText, TooLarge}
 use mathlib.Core.Path.{◌≡◌, refl, sym, ◌∙◌, ap, ap₂}
 use mathlib.Core.List.{List, ◌++◌, append_assoc}
 use mathlib.Core.Bool.{Bool, true, false}
@@ -9,16 +13,10 @@ use lib.Seq.{drop-append_seam}
 use borrow.Author.Tests.{lt-ltb, le-ltb, le-leb}
 use Rattle.base.specs.Parsed.{got}
 use Rattle.base.specs.Writing.{bytes, placed, Writes}
-use Rattle.base.specs.declared.Read.{Read}
-use Rattle.base.specs.declared.Read.TheVariants.{Refused as Unread}
-use Rattle.base.specs.declared.Wrote.{Wrote}
-use Rattle.base.specs.declared.Wrote.TheVariants.{Refused as WriteRefused}
 use Rattle.base.proofs.ParseLaws.{bad-got, got-value, got-rest}
 use Rattle.base.proofs.Parts.{Bytes}
 use Rattle.base.proofs.WriteLaws.{not_carried}
 use Rattle.utf8.specs.Utf8.{utf8}
-use Rattle.texts.specs.declared.Text.{Text}
-use Rattle.texts.specs.declared.Text.TheVariants.{Part, Refused}
 use Rattle.texts.specs.Text.{text_sized, behind_text}
 use Rattle.texts.specs.Facts.{Fit}
 use Rattle.texts.proofs.SizedLaws.{sized-held, sized-back, sized-written, sized-length, sized-form}
@@ -28,14 +26,14 @@ use Rattle.old_texts.specs.OldText.{read_old_text, parse_old_text, write_old_tex
 pub use Rattle.old_texts.specs.Facts.{Held, Written}
 
 -- what the reader says of a length
-pub text-is : (s : List ℕ) (g x : Read) → g ≡ read_old_count s → g ≡ x → text_sized s x ≡ read_old_text s
+pub text-is : (s : List ℕ) (g x : Coded ℕ) → g ≡ read_old_count s → g ≡ x → text_sized s x ≡ read_old_text s
 text-is s g x h e = ap (text_sized s) (sym e ∙ h)
 
-pub text-unread : (s : List ℕ) (g : Read) (k : ℕ) → g ≡ read_old_count s → g ≡ Unread k → Refused k ≡ read_old_text s
+pub text-unread : (s : List ℕ) (g : Coded ℕ) (k : Refusal) → g ≡ read_old_count s → g ≡ Err k → Err k ≡ read_old_text s
 unfolding text_sized
-text-unread s g k h e = text-is s g (Unread k) h e
+text-unread s g k h e = text-is s g (Err k) h e
 
-pub held : (s : List ℕ) (a n : ℕ) → read_old_text s ≡ Part a n → Held s a n
+pub held : (s : List ℕ) (a n : ℕ) → read_old_text s ≡ Ok (a, n) → Held s a n
 held s a n e =
     let h = sized-held s (read_old_count s) a n e in
     let c = count-sized s (sym h.code) in
@@ -49,7 +47,7 @@ held s a n e =
     }
 
 -- a string that was written is read back, whatever follows
-pub text-written : (t rest : List ℕ) → Fit t → read_old_text (write_old_text t ++ rest) ≡ Part (length (write_old_count (length t))) (length t)
+pub text-written : (t rest : List ℕ) → Fit t → read_old_text (write_old_text t ++ rest) ≡ Ok (length (write_old_count (length t)), length t)
 text-written t rest f =
     let w : List ℕ = write_old_count (length t) in
     ap (text_sized (write_old_text t ++ rest)) (ap read_old_count (append_assoc w t rest) ∙ count-written (length t) (t ++ rest) (omega (arith, f.small)))
@@ -65,9 +63,9 @@ parse-written t rest f =
 pub parse-form : (s t r : List ℕ) → Bytes s → parse_old_text s ≡ got t r → Written s t r
 parse-form s t r b e = go (read_old_text s) refl e
   where
-    go : (x : Text) → read_old_text s ≡ x → behind_text s x ≡ got t r → Written s t r
-    go (Refused k) h p = bad-got p
-    go (Part a n) h p =
+    go : (x : Result (ℕ × ℕ) Refusal) → read_old_text s ≡ x → behind_text s x ≡ got t r → Written s t r
+    go (Err k) h p = bad-got p
+    go (Ok (a, n)) h p =
         let q = held s a n h in
         let w = count-form s b (sym q.count) in
         let l : length (take n (drop a s)) ≡ n = sized-length s a n q.inside in
@@ -82,12 +80,12 @@ pub length-written : (n : ℕ) (d out : List ℕ) → n ≤ 1024 → out ≡ pla
 length-written n d out l q = q ∙ rw (le-leb n 2147483647 (omega arith))
 
 -- the tests of the writer
-pub form-long : (t d : List ℕ) → 1024 < length t → Writes (old_text_form t) d (WriteRefused 4) d
-form-long t d h = rw (lt-ltb 1024 (length t) h) (not_carried 4 d)
+pub form-long : (t d : List ℕ) → 1024 < length t → Writes (old_text_form t) d (Err TooLarge) d
+form-long t d h = rw (lt-ltb 1024 (length t) h) (not_carried TooLarge d)
 
 module _ (t d : List ℕ) (l : length t ≤ 1024) (b : Bool) (q : b ≡ utf8 t) where
-  pub form-invalid : b ≡ false → Writes (old_text_form t) d (WriteRefused 8) d
-  form-invalid e = rw (le-ltb 1024 (length t) l, sym q ∙ e) (not_carried 8 d)
+  pub form-invalid : b ≡ false → Writes (old_text_form t) d (Err BadText) d
+  form-invalid e = rw (le-ltb 1024 (length t) l, sym q ∙ e) (not_carried BadText d)
 
-  pub form-valid : b ≡ true → (r : Wrote) (o : List ℕ) → Writes (bytes (write_old_text t)) d r o → Writes (old_text_form t) d r o
+  pub form-valid : b ≡ true → (r : Result ℕ Refusal) (o : List ℕ) → Writes (bytes (write_old_text t)) d r o → Writes (old_text_form t) d r o
   form-valid e r o h = rw (le-ltb 1024 (length t) l, sym q ∙ e) h

@@ -24,11 +24,9 @@ fn filled(uses: &[u32], keys: &mut [u64]) -> usize
     requires uses_len_bound { length uses.now ≤ 8192 }
     ensures { Filled uses.now keys.old result keys.new }
 {
-    let mut i = 0;
     let mut n = 0;
-    while i < uses.len() {
-        n = put(keys, n, uses[i], i);
-        i += 1;
+    for (i, &count) in uses.iter().enumerate() {
+        n = put(keys, n, count, i);
     }
     n
 }
@@ -37,10 +35,8 @@ fn filled(uses: &[u32], keys: &mut [u64]) -> usize
 fn numbered(keys: &mut [u64])
     ensures { keys.new ≡ numbers_of keys.old }
 {
-    let mut i = 0;
-    while i < keys.len() {
-        keys[i] = keys[i] % 8192;
-        i += 1;
+    for key in keys.iter_mut() {
+        *key %= 8192;
     }
 }
 
@@ -71,9 +67,7 @@ pub fn number(order: &[u64], numbers: &mut [u32])
     requires { length order.now ≤ 8192 }
     ensures { numbers.new ≡ numbered_from 0 order.now numbers.old }
 {
-    let mut i: usize = 0;
-    while i < order.len() {
-        store(numbers, order[i] as usize, i as u32);
-        i += 1;
+    for (i, &k) in order.iter().enumerate() {
+        store(numbers, k as usize, i as u32);
     }
 }

@@ -1,4 +1,6 @@
 -- PADDINGS ARE NO CONTENT: files that differ in them have one preferred file; and every well-formed file is laid out with some. Assumes nothing.
+use Rattle.base.specs.Coded.{Coded}
+use Rattle.std.specs.Prelude.{Ok}
 use mathlib.Core.Path.{◌≡◌, refl, sym, ap, ap₂, ◌∙◌, subst}
 use mathlib.Core.List.{List, [], ◌∷◌, ◌++◌, append_assoc}
 use Prim.Native.Nat.{ℕ, suc, ◌+◌, ◌^◌, ◌<◌}
@@ -7,9 +9,9 @@ use lib.ListN.{length, take, drop, get_or, length-drop, drop_of_length-le, take-
 use lib.Seq.{take-append_seam, drop_at, drop-drop, drop-cons}
 use Rattle.base.specs.Bytes.{Bytes}
 use Rattle.base.specs.All.{All, all_none, all-also}
-use Rattle.base.specs.declared.Read.TheVariants.{Value}
 use Rattle.base.proofs.AllLaws.{all_head, all_tail}
 use Rattle.base.proofs.ByteLaws.{drop-bytes}
+use Rattle.base.proofs.PairLaws.{ok_parts}
 use Rattle.counts.specs.Groups.{padded_groups}
 use Rattle.counts.proofs.AnyGroupLaws.{any-group, padded-length}
 use Rattle.frames.specs.Frame.{read_size, Field}
@@ -63,14 +65,14 @@ module _ (f : List ℕ) (g : Field) (o : FieldOf f g) (x : Laid) (t : Fits x) (m
   unfolding lay_field
   same_id = sym o.id-byte ∙ ap (λ (xs : List ℕ). get_or xs 0 0) (sym split ∙ e)
 
-  size_is : Value (length g.body) o.used ≡ Value (length x.body) (suc x.more)
+  size_is : ◌≡◌ {A = Coded ℕ} (Ok (length g.body, o.used)) (Ok (length x.body, suc x.more))
   size_is = sym o.size ∙ ap read_size behind-id ∙ size-padded x.more (length x.body) (x.body ++ more) t.most t.small t.enough
 
   same_length : length g.body ≡ length x.body
-  same_length = let z = size_is in cc
+  same_length = (ok_parts size_is).0
 
   same-used : o.used ≡ suc x.more
-  same-used = let z = size_is in cc
+  same-used = (ok_parts size_is).1
 
   behind-size : drop g.start f ≡ x.body ++ more
   behind-size =

@@ -4,32 +4,32 @@
 ghost use Rattle.std.specs.Prelude.{◌≡◌};
 ghost use Rattle.lines.specs.Question.{parse_line, ticks, digits, behind_digits, marked, ticks_of};
 
-use lines::{Kind, Line};
+use lines::Kind;
 
 // The longest question line, without its line feed.
 const LONGEST: usize = 2048;
 
-// A question line without its line feed.
-pub fn parse_line(line: &[u8]) -> Line
+// A question line without its line feed: the length of the ID, which stands at the line's front, the ticks and the mark; or it is not understood.
+pub fn parse_line(line: &[u8]) -> Option<(usize, i64, Kind)>
     ensures { result ≡ parse_line line.now }
 {
     if LONGEST < line.len() {
-        return Line::Unclear;
+        return None;
     }
     let n = byte_search::find(line, 0, line.len(), b' ');
     if n < line.len() {
         let a = n + 1;
         return parse_ticks(&line[a..], n);
     }
-    Line::Unclear
+    None
 }
 
 // What follows an ID of n bytes and a space: an optional minus.
-fn parse_ticks(s: &[u8], n: usize) -> Line
+fn parse_ticks(s: &[u8], n: usize) -> Option<(usize, i64, Kind)>
     ensures { result ≡ ticks n s.now }
 {
     if s.len() == 0 {
-        return Line::Unclear;
+        return None;
     }
     if s[0] == b'-' {
         return parse_digits(&s[1..], n, true);
@@ -38,7 +38,7 @@ fn parse_ticks(s: &[u8], n: usize) -> Line
 }
 
 // What follows the minus: at most 19 digits, and the mark.
-fn parse_digits(s: &[u8], n: usize, minus: bool) -> Line
+fn parse_digits(s: &[u8], n: usize, minus: bool) -> Option<(usize, i64, Kind)>
     ensures { result ≡ digits n minus 0 0 s.now }
 {
     let mut v: u64 = 0;
@@ -61,29 +61,29 @@ fn parse_digits(s: &[u8], n: usize, minus: bool) -> Line
 }
 
 // What follows i digits that make v.
-fn behind_digits(s: &[u8], n: usize, minus: bool, i: usize, v: u64) -> Line
+fn behind_digits(s: &[u8], n: usize, minus: bool, i: usize, v: u64) -> Option<(usize, i64, Kind)>
     ensures { result ≡ behind_digits n minus i v s.now }
 {
     if i == 0 {
-        return Line::Unclear;
+        return None;
     }
     parse_mark(s, n, signed_ticks(minus, v))
 }
 
 // What follows an ID of n bytes and the ticks t.
-fn parse_mark(s: &[u8], n: usize, t: i64) -> Line
+fn parse_mark(s: &[u8], n: usize, t: i64) -> Option<(usize, i64, Kind)>
     ensures { result ≡ marked n t s.now }
 {
     if s.len() == 0 {
-        return Line::Ask(n, t, Kind::Plain);
+        return Some((n, t, Kind::Plain));
     }
     if s == b" part".as_slice() {
-        return Line::Ask(n, t, Kind::Part);
+        return Some((n, t, Kind::Part));
     }
     if s == b" all".as_slice() {
-        return Line::Ask(n, t, Kind::All);
+        return Some((n, t, Kind::All));
     }
-    Line::Unclear
+    None
 }
 
 // The number v behind a minus or not; the largest one where it is past 64 bits.

@@ -59,10 +59,8 @@ fn with_digit(v: u64, b: u8) -> u64 {
 // The number that the digits of s spell.
 pub fn natural(s: &[u8]) -> u64 {
     let mut v: u64 = 0;
-    let mut i: usize = 0;
-    while i < s.len() {
-        v = with_digit(v, s[i]);
-        i += 1;
+    for &b in s {
+        v = with_digit(v, b);
     }
     v
 }

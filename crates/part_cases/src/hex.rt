@@ -8,14 +8,12 @@ pub fn find(s: &[u8], from: usize, b: u8) -> usize
     requires { from ≤ length s.now }
     ensures { (from ≤ result) × (result ≤ length s.now) }
 {
-    let mut i = from;
-    while i < s.len() {
+    for i in from..s.len() {
         if s[i] == b {
             return i;
         }
-        i += 1;
     }
-    i
+    s.len()
 }
 
 // The place behind at, or s's end.
@@ -55,10 +53,8 @@ fn decode(text: &[u8], out: &mut [u8]) -> usize
     ensures taken { result ≡ length (take result out.new) }
 {
     let n = least(text.len() / 2, out.len());
-    let mut i: usize = 0;
-    while i < n {
+    for i in 0..n {
         out[i] = digit(text[2 * i]) * 16 + digit(text[2 * i + 1]);
-        i += 1;
     }
     n
 }
@@ -66,11 +62,8 @@ fn decode(text: &[u8], out: &mut [u8]) -> usize
 // The k-th word of line, from 0, as a part of it; none where it is not there.
 pub fn text<'a>(line: &'a [u8], k: usize) -> &'a [u8] {
     let mut at: usize = 0;
-    let mut i: usize = 0;
-    while i < k {
-        let e = find(line, at, 32);
-        at = past(line, e);
-        i += 1;
+    for _ in 0..k {
+        at = past(line, find(line, at, 32));
     }
     let e = find(line, at, 32);
     &line[at..e]
@@ -93,10 +86,8 @@ pub fn word(line: &[u8], k: usize, out: &mut [u8]) -> usize
 
 // Writes two digits for each byte of s.
 pub fn print<W: Write>(to: &mut W, s: &[u8]) {
-    let mut i: usize = 0;
-    while i < s.len() {
-        let _ = write!(to, "{:02x}", s[i]);
-        i += 1;
+    for &b in s {
+        let _ = write!(to, "{b:02x}");
     }
 }
 
@@ -118,10 +109,8 @@ pub fn repeat(buf: &mut [u8], from: usize, unit: &[u8], times: usize) -> usize
     ensures { result ≤ length buf.new }
 {
     let mut at = from;
-    let mut i: usize = 0;
-    while i < times {
+    for _ in 0..times {
         at = append(buf, at, unit);
-        i += 1;
     }
     at
 }

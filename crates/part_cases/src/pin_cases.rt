@@ -47,11 +47,9 @@ fn digest(first: u64, last: u64) -> u64
     requires { last ≤ 648000 }
 {
     let mut d: u64 = 0;
-    let mut n = first;
-    while n <= last {
+    for n in first..=last {
         let p = pin_patterns(seconds(false, n), seconds(true, n));
         d = digested(digested(d, p.latitude), p.longitude);
-        n += 1;
     }
     d
 }

@@ -8,7 +8,6 @@ ghost use Rattle.pool.specs.Pool.{strings_of};
 ghost use Rattle.pool.specs.Index.{Ready};
 
 use crate::{cases, hex};
-use pool::Checked;
 use std::io::Write;
 use strings::Holder;
 
@@ -44,11 +43,8 @@ fn show_strings<'a, W: Write>(
 )
     requires { Ready d.now starts.now × (n ≡ length (strings_of d.now)) }
 {
-    let m = hex::least(n, 4);
-    let mut k: usize = 0;
-    while k < m {
+    for k in 0..hex::least(n, 4) {
         show_string(to, d, field, starts, k, id);
-        k += 1;
     }
     if 4 < n {
         show_string(to, d, field, starts, n - 1, id);
@@ -89,12 +85,12 @@ fn run_pool<'a, W: Write>(to: &mut W, d: &'a [u8], field: &'a [u8], id: &[u8]) {
     let mut starts = [4294967295u32; 8192];
     let c = pool::check_pool(d, &mut starts);
     match c {
-        Checked::Refused(m) => {
+        Err(m) => {
             cases::say(to, b"refused ");
-            cases::say_number(to, m as u64);
+            cases::say_number(to, m.number() as u64);
             show_index(to, &starts);
         }
-        Checked::Strings(n) => {
+        Ok(n) => {
             cases::say(to, b"strings ");
             cases::say_number(to, n as u64);
             show_strings(to, d, field, &starts, n, id);

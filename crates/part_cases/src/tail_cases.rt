@@ -7,6 +7,7 @@ ghost use Rattle.base.specs.Moment.{Finite};
 ghost use Rattle.rules.specs.Fields.{FieldsOk};
 
 use crate::{cases, hex};
+use base::Refusal;
 use recurrence::{Interval, Tail};
 use std::io::Write;
 
@@ -27,12 +28,6 @@ struct Question {
     daylight: Fields,
     start: u64,
     instant: u64,
-}
-
-#[derive(Clone, Copy)]
-enum Reply {
-    In(Interval),
-    Refused(u64),
 }
 
 fn number(line: &[u8], k: usize) -> u64 {
@@ -87,29 +82,29 @@ fn is_finite(t: u64) -> bool
 }
 
 // The tail of a question, asked at its instant.
-fn answer(q: Question) -> Reply {
+fn answer(q: Question) -> Result<Interval, Refusal> {
     let s = q.standard;
     let d = q.daylight;
     if 172799999 < q.offset {
-        return Reply::Refused(7);
+        return Err(Refusal::BadCode);
     }
     if 172799999 < q.savings {
-        return Reply::Refused(7);
+        return Err(Refusal::BadCode);
     }
     if !rule_ok(s) {
-        return Reply::Refused(11);
+        return Err(Refusal::BadRecurrence);
     }
     if !rule_ok(d) {
-        return Reply::Refused(11);
+        return Err(Refusal::BadRecurrence);
     }
     if !rules::sum_ok(q.offset, q.savings) {
-        return Reply::Refused(11);
+        return Err(Refusal::BadRecurrence);
     }
     if !is_finite(q.start) {
-        return Reply::Refused(10);
+        return Err(Refusal::BadInterval);
     }
     if !is_finite(q.instant) {
-        return Reply::Refused(14);
+        return Err(Refusal::OutOfRange);
     }
     let tail = Tail {
         start: q.start,
@@ -118,12 +113,12 @@ fn answer(q: Question) -> Reply {
         standard: rules::rule_of(s.byte, s.month, s.day, s.time),
         daylight: rules::rule_of(d.byte, d.month, d.day, d.time),
     };
-    Reply::In(recurrence::look_up(tail, q.instant))
+    Ok(recurrence::look_up(tail, q.instant))
 }
 
-fn show<W: Write>(to: &mut W, r: Reply) {
+fn show<W: Write>(to: &mut W, r: Result<Interval, Refusal>) {
     match r {
-        Reply::In(x) => {
+        Ok(x) => {
             cases::say_number(to, x.start);
             cases::say(to, b" ");
             cases::say_number(to, x.end);
@@ -137,8 +132,8 @@ fn show<W: Write>(to: &mut W, r: Reply) {
                 cases::say(to, b" S\n");
             }
         }
-        Reply::Refused(n) => {
-            cases::say_number(to, n);
+        Err(k) => {
+            cases::say_number(to, k.number() as u64);
             cases::say(to, b"\n");
         }
     }

@@ -2,9 +2,7 @@
 // `u BYTES` whether they are UTF-8, `r BYTES` reading a text, `w TEXT OUTPUT` writing one over an output.
 // The stored output comes from tests/make/text_cases.py.
 use crate::{cases, hex};
-use base::Wrote;
 use std::io::Write;
-use texts::Text;
 
 fn run_utf8<W: Write>(to: &mut W, s: &[u8]) {
     if utf8::is_utf8(s) {
@@ -18,15 +16,15 @@ fn run_utf8<W: Write>(to: &mut W, s: &[u8]) {
 fn run_read<W: Write>(to: &mut W, s: &[u8]) {
     let t = texts::read_text(s);
     match t {
-        Text::Part(a, n) => {
+        Ok((a, n)) => {
             cases::say(to, b"part ");
             cases::say_number(to, a as u64);
             cases::say(to, b" ");
             cases::say_number(to, n as u64);
         }
-        Text::Refused(k) => {
+        Err(k) => {
             cases::say(to, b"refused ");
-            cases::say_number(to, k as u64);
+            cases::say_number(to, k.number() as u64);
         }
     }
     cases::say(to, b" ");
@@ -37,13 +35,13 @@ fn run_read<W: Write>(to: &mut W, s: &[u8]) {
 fn run_write<W: Write>(to: &mut W, t: &[u8], out: &mut [u8]) {
     let w = texts::write_text(t, out);
     match w {
-        Wrote::Length(n) => {
+        Ok(n) => {
             cases::say(to, b"length ");
             cases::say_number(to, n as u64);
         }
-        Wrote::Refused(k) => {
+        Err(k) => {
             cases::say(to, b"refused ");
-            cases::say_number(to, k as u64);
+            cases::say_number(to, k.number() as u64);
         }
     }
     cases::say(to, b" ");

@@ -5,9 +5,9 @@
 // standard offset, the name's pool number, start and end.
 // The stored output comes from tests/make/zone_cases.py.
 use crate::{cases, hex};
-use base::{END, FIRST};
+use base::{END, FIRST, Refusal};
 use std::io::Write;
-use zones::{Answer, Edition, Found, ZoneVerdict};
+use zones::{Edition, Found};
 
 // An offset, in milliseconds.
 fn offset<W: Write>(to: &mut W, sum: u64) {
@@ -15,22 +15,22 @@ fn offset<W: Write>(to: &mut W, sum: u64) {
     cases::say_difference(to, sum, 86400000);
 }
 
-fn show_verdict<W: Write>(to: &mut W, v: ZoneVerdict) {
+fn show_verdict<W: Write>(to: &mut W, v: Result<u64, Refusal>) {
     match v {
-        ZoneVerdict::Good(id) => {
+        Ok(id) => {
             cases::say(to, b"0 ");
             cases::say_number(to, id);
         }
-        ZoneVerdict::Refused(k) => cases::say_number(to, k as u64),
+        Err(k) => cases::say_number(to, k.number() as u64),
     }
 }
 
-fn show_answer<W: Write>(to: &mut W, a: Answer) {
+fn show_answer<W: Write>(to: &mut W, a: Result<Found, Refusal>) {
     match a {
-        Answer::In(x) => show_found(to, x),
-        Answer::Refused(k) => {
+        Ok(x) => show_found(to, x),
+        Err(k) => {
             cases::say(to, b" ");
-            cases::say_number(to, k as u64);
+            cases::say_number(to, k.number() as u64);
         }
     }
 }

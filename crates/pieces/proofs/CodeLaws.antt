@@ -1,4 +1,7 @@
 -- Whether a code, and all codes of a zone, are in the writer's form. Assumes nothing.
+use Rattle.base.specs.declared.Refusal.{Refusal}
+use Rattle.std.specs.Prelude.{Err, Ok}
+use Rattle.base.specs.Coded.{Coded}
 use mathlib.Core.Path.{◌≡◌, refl, sym, ap, ◌∙◌, subst}
 use mathlib.Core.Bool.{Bool, true, false}
 use mathlib.Core.List.{List, [], ◌∷◌, ◌++◌}
@@ -12,8 +15,6 @@ use borrow.Author.Tests.{eq-eqb, ne_eqb, eqb-true, eqb-false}
 use Rattle.base.specs.Pick.{pick, both}
 use Rattle.base.specs.Parsed.{got, bad, bind, behind_code, parse, parse_byte, prepend}
 use Rattle.base.specs.Moment.{end_of_time}
-use Rattle.base.specs.declared.Read.{Read}
-use Rattle.base.specs.declared.Read.TheVariants.{Value, Refused}
 use Rattle.base.proofs.Parts.{Bytes}
 use Rattle.base.proofs.ByteLaws.{no-bytes, tail-bytes, drop-bytes}
 use Rattle.base.proofs.ParseLaws.{bad-got, bind-good}
@@ -29,7 +30,7 @@ use Rattle.pieces.proofs.SizeLaws.{pieces-between}
 -- a code that was read, by its length
 pub record Code (prev : ℕ) (s : List ℕ) (m : ℕ) (r : List ℕ) : Type 0 where
   pub size : ℕ
-  pub is : Value m size ≡ read_moment prev s
+  pub is : Ok (m, size) ≡ read_moment prev s
   pub rest : drop size s ≡ r
   pub within : size ≤ length s
   pub told : code_preferred prev s ≡ eqb (length (write_moment prev m)) size
@@ -38,13 +39,13 @@ pub code_read : (prev : ℕ) (s : List ℕ) (m : ℕ) (r : List ℕ) → parse (
 unfolding code_preferred
 code_read prev s m r e = go (read_moment prev s) refl e
   where
-    go : (x : Read) → x ≡ read_moment prev s → behind_code s x ≡ got m r → Code prev s m r
-    go (Value w n) h k =
+    go : (x : Coded ℕ) → x ≡ read_moment prev s → behind_code s x ≡ got m r → Code prev s m r
+    go (Ok (w, n)) h k =
         let i : w ≡ m = cc in
         let j : drop n s ≡ r = cc in
-        let v : Value m n ≡ read_moment prev s = subst (λ (y : ℕ). Value y n ≡ read_moment prev s) i h in
+        let v : Ok (m, n) ≡ read_moment prev s = subst (λ (y : ℕ). Ok (y, n) ≡ read_moment prev s) i h in
         record { size = n; is = v; rest = j; within = (moment-read prev s h).within; told = ap (code_in prev) (sym v) }
-    go (Refused n) h k = bad-got k
+    go (Err n) h k = bad-got k
 
 -- a code of at most three bytes is preferred
 pub code-few : (prev : ℕ) (s : List ℕ) (m : ℕ) (r : List ℕ) (c : Code prev s m r) → Bytes s → c.size ≤ 3 → length (write_moment prev m) ≡ c.size
@@ -79,13 +80,13 @@ module _ (prev : ℕ) (s : List ℕ) (place m a : ℕ) (l : place ≤ length s) 
   short-preferred b h = code.told ∙ eq-eqb _ _ (code-short b h ∙ sym size_is.0)
 
 -- a code that can't be read
-pub code-none : (prev : ℕ) (s : List ℕ) (place k : ℕ) → Stands s (parse (read_moment prev) (drop place s)) (no k) → false ≡ code_preferred prev (drop place s)
+pub code-none : (prev : ℕ) (s : List ℕ) (place : ℕ) (k : Refusal) → Stands s (parse (read_moment prev) (drop place s)) (no k) → false ≡ code_preferred prev (drop place s)
 unfolding code_preferred
 code-none prev s place k h = go (read_moment prev (drop place s)) refl h.means
   where
-    go : (x : Read) → read_moment prev (drop place s) ≡ x → behind_code (drop place s) x ≡ bad k → false ≡ code_in prev (read_moment prev (drop place s))
-    go (Value w n) i j = bad-got (sym j)
-    go (Refused n) i j = rw i
+    go : (x : Coded ℕ) → read_moment prev (drop place s) ≡ x → behind_code (drop place s) x ≡ bad k → false ≡ code_in prev (read_moment prev (drop place s))
+    go (Ok (w, n)) i j = bad-got (sym j)
+    go (Err n) i j = rw i
 
 pub both-in : (a b c : Bool) → both a (both b c) ≡ both (both a b) c
 both-in true b c = refl
@@ -100,9 +101,9 @@ pub last-form : (prev : ℕ) (s : List ℕ) → code_preferred prev s ≡ pieces
 unfolding pieces_preferred code_preferred parse_piece after_moment piece_end
 last-form prev s = go (read_moment prev s) refl
   where
-    go : (x : Read) → read_moment prev s ≡ x → code_preferred prev s ≡ pieces_preferred 1 prev s
-    go (Value m n) i = rw i (both_true (eqb (length (write_moment prev m)) n))
-    go (Refused k) i = rw i
+    go : (x : Coded ℕ) → read_moment prev s ≡ x → code_preferred prev s ≡ pieces_preferred 1 prev s
+    go (Ok (m, n)) i = rw i (both_true (eqb (length (write_moment prev m)) n))
+    go (Err k) i = rw i
 
 -- two parts that are no longer than others are as long as these where each is
 both_long : (w k p r c : ℕ) → w ≤ k → p ≤ r → both (eqb w k) (eqb p r) ≡ eqb (w + c + p) (k + c + r)

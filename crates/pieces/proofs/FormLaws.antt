@@ -1,4 +1,6 @@
 -- A code written where there is room for it. Assumes nothing.
+use Rattle.base.specs.declared.Refusal.{Refusal}
+use Rattle.std.specs.Prelude.{Err, Ok, Result}
 use mathlib.Core.Path.{◌≡◌, sym, ◌∙◌}
 use mathlib.Core.Bool.{true}
 use mathlib.Core.List.{List}
@@ -9,27 +11,25 @@ use lib.ListN.{length}
 use borrow.Author.Tests.{le-leb, ne_eqb}
 use Rattle.base.specs.Moment.{end_of_time}
 use Rattle.base.specs.Writing.{Form, bytes, wrote, placed, Writes}
-use Rattle.base.specs.declared.Wrote.{Wrote}
-use Rattle.base.specs.declared.Wrote.TheVariants.{Length, Refused}
 use Rattle.base.proofs.MomentLaws.{Moment, finite-yes}
 use Rattle.counts.specs.Count.{write_count, count_form}
 use Rattle.transitions.specs.Transition.{write_moment, is_moment, moment_form}
 use Rattle.pieces.specs.View.{Put}
 use Rattle.base.proofs.Tests.{clash}
 
-module _ (x : Form) (xs d e : List ℕ) (r : Wrote) (i : x ≡ bytes xs) (l : length xs ≤ length d) (w : Writes x d r e) where
-  given : r ≡ Length (length xs)
+module _ (x : Form) (xs d e : List ℕ) (r : Result ℕ Refusal) (i : x ≡ bytes xs) (l : length xs ≤ length d) (w : Writes x d r e) where
+  given : r ≡ Ok (length xs)
   unfolding wrote
   given = w.0 ∙ rw (i, le-leb (length xs) (length d) l)
 
-  pub form-put : (n : ℕ) → r ≡ Length n → Put xs d n e
+  pub form-put : (n : ℕ) → r ≡ Ok n → Put xs d n e
   unfolding placed
   form-put n k =
-      let z : Length n ≡ Length (length xs) = sym k ∙ given in
+      let z : Ok n ≡ Ok (length xs) = sym k ∙ given in
       record { size = cc; left = w.1 ∙ rw (i, le-leb (length xs) (length d) l) }
 
-  pub form-refused : (n : ℕ) → r ≡ Refused n → ⊥
-  form-refused n k = let z : Refused n ≡ Length (length xs) = sym k ∙ given in clash cc
+  pub form-refused : (n : Refusal) → r ≡ Err n → ⊥
+  form-refused n k = let z : Err n ≡ Ok (length xs) = sym k ∙ given in clash cc
 
 is-moment : (m : ℕ) → Moment m → is_moment m ≡ true
 is-moment m (inl e) = rw e

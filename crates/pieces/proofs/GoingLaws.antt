@@ -1,4 +1,5 @@
 -- The loops over the transitions of a zone: where they stand, and how they go on. Assumes nothing.
+use Rattle.base.specs.declared.Refusal.{Refusal}
 use mathlib.Core.Path.{◌≡◌, refl, sym, ap, ◌∙◌}
 use mathlib.Core.List.{List, [], ◌∷◌, ◌++◌, append-nil, append_assoc}
 use Prim.Native.Nat.{ℕ, zero, suc, ◌+◌, ◌-◌, ◌≤◌, ◌<◌}
@@ -42,7 +43,7 @@ module _ (s : List ℕ) where
   going-sum left place prev whole done g = rw (g.all, length-append) (omega arith)
 
   -- every transition can be read, and what follows it
-  pub going-bad : (left place prev : ℕ) (whole done : List ℕ) (k : ℕ) → Going s left place prev whole done → 0 < left
+  pub going-bad : (left place prev : ℕ) (whole done : List ℕ) (k : Refusal) → Going s left place prev whole done → 0 < left
       → Stands s (parse (read_moment prev) (drop place s)) (no k) → ⊥
   unfolding parse_pieces parse_piece
   going-bad zero place prev whole done k g l e = absurd (omega arith)

@@ -1,5 +1,6 @@
 -- The data of a zone in two parts: what stands before the first transition, and the transitions with what follows them.
 -- Assumes nothing.
+use Rattle.base.specs.declared.Refusal.{Refusal}
 use mathlib.Core.Path.{◌≡◌, sym, ap, ◌∙◌, subst}
 use mathlib.Core.List.{List, [], ◌++◌, append-nil}
 use Prim.Native.Nat.{ℕ, suc, ◌+◌, ◌*◌, ◌-◌, ◌≤◌}
@@ -30,7 +31,7 @@ module _ (d : List ℕ) (h : HasContent d) where
   unfolding content_of
   content-is = rw h.is
 
-  pub head-good : (k : ℕ) → Stands d (parse_head d) (no k) → ⊥
+  pub head-good : (k : Refusal) → Stands d (parse_head d) (no k) → ⊥
   unfolding parse_content
   head-good k s = let e : parse_content d ≡ bad k = rw s.means in bad-got (sym e ∙ h.is)
 

@@ -1,4 +1,7 @@
 -- A transition and what follows it, at a place of the data. Assumes nothing.
+use Rattle.std.specs.Prelude.{Err, Ok}
+use Rattle.base.specs.declared.Refusal.{Refusal}
+use Rattle.base.specs.Coded.{Coded}
 use mathlib.Core.Path.{◌≡◌, refl, sym, ap, ◌∙◌}
 use mathlib.Core.List.{List, [], ◌++◌}
 use Prim.Native.Nat.{ℕ, zero, suc, ◌+◌, ◌*◌, ◌-◌, ◌≤◌}
@@ -7,8 +10,6 @@ use lib.ListN.{length, take, drop, get_or, length-append, length-drop, drop_of_l
 use lib.Seq.{take-append_seam}
 use borrow.Author.Tests.{ne_eqb, eq-eqb}
 use Rattle.base.specs.Parsed.{got, behind_code, parse}
-use Rattle.base.specs.declared.Read.{Read}
-use Rattle.base.specs.declared.Read.TheVariants.{Value, Refused}
 use Rattle.base.proofs.Parts.{Bytes}
 use Rattle.base.proofs.ByteLaws.{no-bytes, drop-bytes}
 use Rattle.base.proofs.ParseLaws.{bad-got, bind-good}
@@ -37,14 +38,14 @@ pub record Rest (s r : List ℕ) : Type 0 where
   pub shorter : length r ≤ length s
   pub bytes : Bytes s → Bytes r
 
-pub parse-rest : (read : List ℕ → Read) (s : List ℕ) (v : ℕ) (r : List ℕ) → parse read s ≡ got v r → Rest s r
+pub parse-rest : (read : List ℕ → Coded ℕ) (s : List ℕ) (v : ℕ) (r : List ℕ) → parse read s ≡ got v r → Rest s r
 parse-rest read s v r e = go (read s) e
   where
-    go : (x : Read) → behind_code s x ≡ got v r → Rest s r
-    go (Value w n) k =
+    go : (x : Coded ℕ) → behind_code s x ≡ got v r → Rest s r
+    go (Ok (w, n)) k =
         let y : drop n s ≡ r = cc in
         rw (← y) (record { shorter = rw length-drop (omega arith); bytes = λ b. drop-bytes n s b })
-    go (Refused j) k = bad-got k
+    go (Err j) k = bad-got k
 
 pub end_rest : (n : ℕ) (s : List ℕ) (v : ℕ) (r : List ℕ) → piece_end n s ≡ got v r → Rest s r
 unfolding piece_end parse_wall
@@ -62,7 +63,7 @@ pub end-at : (s : List ℕ) (n place v e : ℕ) → Stands s (piece_end n (drop 
 end-at s n place v e h =
     record { within = h.within; means = λ w q k. let z : got v (drop e s) ≡ got w q = sym h.means ∙ k in cc }
 
-pub end-no : (s : List ℕ) (n place k : ℕ) → Stands s (piece_end n (drop place s)) (no k) → EndAt s n place (length s)
+pub end-no : (s : List ℕ) (n place : ℕ) (k : Refusal) → Stands s (piece_end n (drop place s)) (no k) → EndAt s n place (length s)
 end-no s n place k h = record { within = omega arith; means = λ w q j. bad-got (sym h.means ∙ j) }
 
 -- what stands before the last part
@@ -104,7 +105,7 @@ module _ (s : List ℕ) (place flag : ℕ) where
   unfolding after_flag
   flag-other h = rw (ne_eqb flag 2 h) (record { means = ap (got 0) (sym (drop_of_length-le s {i = length s} (omega arith))); within = omega arith })
 
-  pub flag-cut : (k : ℕ) → flag ≡ 2 → Stands s (parse read_count (drop place s)) (no k) → Stands s (after_flag flag (drop place s)) (no k)
+  pub flag-cut : (k : Refusal) → flag ≡ 2 → Stands s (parse read_count (drop place s)) (no k) → Stands s (after_flag flag (drop place s)) (no k)
   unfolding after_flag
   flag-cut k h j = rw (eq-eqb flag 2 h) (off j after_count k refl)
 

@@ -1,5 +1,7 @@
 -- How long the preferred form of pieces is: never longer than they are, and at most seven bytes shorter for each transition.
 -- Assumes nothing.
+use Rattle.std.specs.Prelude.{Err, Ok}
+use Rattle.base.specs.Coded.{Coded}
 use mathlib.Core.Path.{◌≡◌, refl, ap, ◌∙◌, subst, subst⁻¹}
 use mathlib.Core.Bool.{Bool, true, false}
 use mathlib.Core.List.{List, [], ◌∷◌, ◌++◌}
@@ -12,8 +14,6 @@ use borrow.Author.Tests.{eqb-false}
 use Rattle.base.specs.Pick.{pick}
 use Rattle.base.specs.Moment.{Finite}
 use Rattle.base.specs.Parsed.{got, bind, behind_code, parse, prepend}
-use Rattle.base.specs.declared.Read.{Read}
-use Rattle.base.specs.declared.Read.TheVariants.{Value, Refused}
 use Rattle.base.proofs.Parts.{Bytes}
 use Rattle.base.proofs.ParseLaws.{bad-got, bind-good}
 use Rattle.counts.specs.Count.{write_count}
@@ -48,9 +48,9 @@ module _ (p t : ℕ) (h : Finite t) where
       go true e = omega (arith, length-fixed 8 (raw_of t))
       go false e = write-least 1 4 (count_to p t) (omega arith) (count-many (eqb-false (count_to p t) 0 e))
 
-abbrev Saves : ℕ → Read → Type 0
-Saves p (Value m n) = n ≤ length (write_moment p m) + 7
-Saves p (Refused k) = Unit
+abbrev Saves : ℕ → Coded ℕ → Type 0
+Saves p (Ok (m, n)) = n ≤ length (write_moment p m) + 7
+Saves p (Err k) = Unit
 
 -- only ticks, which name an instant, have more than five bytes
 saves : (p : ℕ) (s : List ℕ) → Saves p (read_moment p s)
@@ -67,8 +67,8 @@ saves p s = moment-holds p s (Saves p) (record {
 pub code-between : (prev : ℕ) (s : List ℕ) (m : ℕ) (r : List ℕ) → Bytes s → parse (read_moment prev) s ≡ got m r → Between 7 s (write_moment prev m ++ r)
 code-between prev s m r b e = go (read_moment prev s) refl e
   where
-    go : (x : Read) → x ≡ read_moment prev s → behind_code s x ≡ got m r → Between 7 s (write_moment prev m ++ r)
-    go (Value w n) h k =
+    go : (x : Coded ℕ) → x ≡ read_moment prev s → behind_code s x ≡ got m r → Between 7 s (write_moment prev m ++ r)
+    go (Ok (w, n)) h k =
         let i : w ≡ m = cc in
         let j : drop n s ≡ r = cc in
         let t = moment-read prev s h in
@@ -79,7 +79,7 @@ code-between prev s m r b e = go (read_moment prev s) refl e
           shorter = rw (length-append, length-drop) (omega (arith, t.within));
           least = rw (length-append, length-drop) (omega (arith, t.within));
         })
-    go (Refused n) h k = bad-got k
+    go (Err n) h k = bad-got k
 
 -- what a piece is made of
 record Made (n prev : ℕ) (s : List ℕ) (p : Piece) (r : List ℕ) : Type 0 where

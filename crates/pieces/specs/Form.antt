@@ -1,19 +1,18 @@
 -- Whether the data of a zone are in their preferred form, code by code, and what an array of flags says of that. The code's way, tied to `print`
 -- by `data-preferred` (proofs/CodeLaws.antt).
-use Rattle.std.specs.Prelude.{ℕ, zero, suc, ◌≡◌, Bool, true, false, List, length, get_or, eqb}
+use Rattle.base.specs.Coded.{Coded}
+use Rattle.std.specs.Prelude.{ℕ, zero, suc, ◌≡◌, Bool, true, false, List, length, get_or, eqb, Err, Ok}
 use Rattle.base.specs.Pick.{both}
 use Rattle.base.specs.Parsed.{Parsed, got, bad, parse}
 use Rattle.base.specs.Moment.{end_of_time}
-use Rattle.base.specs.declared.Read.{Read}
-use Rattle.base.specs.declared.Read.TheVariants.{Value, Refused}
 use Rattle.counts.specs.Count.{read_count}
 use Rattle.transitions.specs.Transition.{read_moment, write_moment}
 use Rattle.pieces.specs.Content.{Piece, parse_piece, parse_head}
 
 -- a transition after prev that was read in n bytes is in the writer's form where that is as long
-abbrev pub code_in : ℕ → Read → Bool
-code_in prev (Value m n) = eqb (length (write_moment prev m)) n
-code_in prev (Refused k) = false
+abbrev pub code_in : ℕ → Coded ℕ → Bool
+code_in prev (Ok (m, n)) = eqb (length (write_moment prev m)) n
+code_in prev (Err k) = false
 
 -- the transition that s starts with
 unfoldable pub code_preferred : ℕ → List ℕ → Bool

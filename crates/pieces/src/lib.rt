@@ -9,18 +9,18 @@ ghost use Rattle.pieces.specs.Content.{piece_end, after_flag, parse_head};
 ghost use Rattle.pieces.specs.Form.{code_preferred};
 ghost use Rattle.pieces.specs.View.{EndAt};
 
-use base::Read;
+use base::Coded;
 
 // The place behind an interval's name, wall offset and savings.
-fn behind_details(s: &[u8], at: usize) -> Read
+fn behind_details(s: &[u8], at: usize) -> Coded<u64>
     requires { at ≤ length s.now }
     ensures { Stands s.now (piece_end 1 (drop at s.now)) (of_read result) }
 {
     match places::count_at(s, at) {
-        Read::Refused(k) => Read::Refused(k),
-        Read::Value(_, a) => match places::sum_at(s, a) {
-            Read::Refused(k) => Read::Refused(k),
-            Read::Value(_, b) => places::sum_at(s, b),
+        Err(k) => Err(k),
+        Ok((_, a)) => match places::sum_at(s, a) {
+            Err(k) => Err(k),
+            Ok((_, b)) => places::sum_at(s, b),
         },
     }
 }
@@ -39,8 +39,8 @@ pub fn piece_end(s: &[u8], at: usize, n: u64) -> usize
         }
     }
     match behind_details(s, at) {
-        Read::Refused(_) => s.len(),
-        Read::Value(_, e) => e,
+        Err(_) => s.len(),
+        Ok((_, e)) => e,
     }
 }
 
@@ -62,10 +62,10 @@ pub fn code_preferred(s: &[u8], at: usize, prev: u64, before: bool) -> bool
 {
     if before {
         match places::moment_at(s, at, prev) {
-            Read::Refused(_) => {
+            Err(_) => {
                 return false;
             }
-            Read::Value(m, a) => {
+            Ok((m, a)) => {
                 let k = a - at;
                 return code_size(prev, m, k) == k;
             }
@@ -75,28 +75,28 @@ pub fn code_preferred(s: &[u8], at: usize, prev: u64, before: bool) -> bool
 }
 
 // How many transitions a zone with a flag has, and the place of the first.
-fn behind_flag(s: &[u8], at: usize, flag: u64) -> Read
+fn behind_flag(s: &[u8], at: usize, flag: u64) -> Coded<u64>
     requires { at ≤ length s.now }
     ensures { Stands s.now (after_flag flag (drop at s.now)) (of_read result) }
 {
     if flag != 2 {
-        return Read::Value(0, s.len());
+        return Ok((0, s.len()));
     }
     match places::count_at(s, at) {
-        Read::Refused(k) => Read::Refused(k),
-        Read::Value(n, e) => Read::Value(n + 1, e),
+        Err(k) => Err(k),
+        Ok((n, e)) => Ok((n + 1, e)),
     }
 }
 
 // The same from the front of the zone's data on.
-pub fn read_head(s: &[u8]) -> Read
+pub fn read_head(s: &[u8]) -> Coded<u64>
     ensures { Stands s.now (parse_head s.now) (of_read result) }
 {
     match places::count_at(s, 0) {
-        Read::Refused(k) => Read::Refused(k),
-        Read::Value(_, a) => match places::byte_at(s, a) {
-            Read::Refused(k) => Read::Refused(k),
-            Read::Value(flag, e) => behind_flag(s, e, flag),
+        Err(k) => Err(k),
+        Ok((_, a)) => match places::byte_at(s, a) {
+            Err(k) => Err(k),
+            Ok((flag, e)) => behind_flag(s, e, flag),
         },
     }
 }

@@ -1,4 +1,8 @@
 -- The short ways: codes of one and two bytes at a place, and an interval of them. Assumes nothing.
+use Rattle.base.specs.declared.Refusal.{Refusal}
+use Rattle.std.specs.Prelude.{Err, Ok}
+use Rattle.base.specs.Coded.{Coded}
+use Rattle.base.specs.declared.Refusal.TheVariants.{BadCode, BadData}
 use mathlib.Core.Path.{◌≡◌, refl, sym, ◌∙◌}
 use mathlib.Core.Bool.{Bool, true, false}
 use mathlib.Core.List.{List}
@@ -13,8 +17,6 @@ use borrow.Author.Tests.{lt-ltb, le-ltb, le-leb, lt-leb, ne_eqb, ltb-true, leb-t
 use Rattle.base.specs.Pick.{pick, both}
 use Rattle.base.specs.Moment.{Finite, finite, first_instant, last_instant}
 use Rattle.base.specs.Parsed.{parse}
-use Rattle.base.specs.declared.Read.{Read}
-use Rattle.base.specs.declared.Read.TheVariants.{Value, Refused}
 use Rattle.base.proofs.Parts.{part-from}
 use Rattle.base.proofs.Tests.{both_left, both_right, pick-holds}
 use Rattle.base.proofs.MomentLaws.{finite-true, finite-yes, finite-low, finite-high}
@@ -30,34 +32,34 @@ use Rattle.places.specs.Placed.{at, no, Stands}
 use Rattle.places.specs.Short.{two_bytes, hours_in, half_hours, short_details, instant_after, short_at, ShortDetails, Short}
 
 -- what reads at a place stands there
-pub reads : (read : List ℕ → Read) (s : List ℕ) (place v n : ℕ) → read (drop place s) ≡ Value v n → place + n ≤ length s
+pub reads : (read : List ℕ → Coded ℕ) (s : List ℕ) (place v n : ℕ) → read (drop place s) ≡ Ok (v, n) → place + n ≤ length s
     → Stands s (parse read (drop place s)) (at v (place + n))
 reads read s place v n e h = record { means = rw (e, drop-drop); within = h }
 
-pub refuses : (read : List ℕ → Read) (s : List ℕ) (place k : ℕ) → read (drop place s) ≡ Refused k → Stands s (parse read (drop place s)) (no k)
+pub refuses : (read : List ℕ → Coded ℕ) (s : List ℕ) (place : ℕ) (k : Refusal) → read (drop place s) ≡ Err k → Stands s (parse read (drop place s)) (no k)
 refuses read s place k e = record { means = rw e; within = tt }
 
 module _ (s : List ℕ) (place : ℕ) where
-  pub no-count : length s ≤ place → read_count (drop place s) ≡ Refused 9
+  pub no-count : length s ≤ place → read_count (drop place s) ≡ Err BadData
   unfolding read_groups
   no-count h = rw (drop_of_length-le s h)
 
-  pub no-sum : length s ≤ place → read_sum (drop place s) ≡ Refused 9
+  pub no-sum : length s ≤ place → read_sum (drop place s) ≡ Err BadData
   unfolding read_sum
   no-sum h = rw (drop_of_length-le s h)
 
   module _ (h : place < length s) where
-    pub zero-sum : get_or s place 0 ≡ 0 → read_sum (drop place s) ≡ Refused 7
+    pub zero-sum : get_or s place 0 ≡ 0 → read_sum (drop place s) ≡ Err BadCode
     unfolding read_sum
     zero-sum e = rw (drop-cons s place 0 h, e) refl
 
-    pub half-hours : (get_or s place 0 ≡ 0 → ⊥) → get_or s place 0 < 96 → read_sum (drop place s) ≡ Value (get_or s place 0 * 1800000) 1
+    pub half-hours : (get_or s place 0 ≡ 0 → ⊥) → get_or s place 0 < 96 → read_sum (drop place s) ≡ Ok (get_or s place 0 * 1800000, 1)
     unfolding read_sum
     half-hours n l =
         rw (drop-cons s place 0 h, lt-ltb (get_or s place 0) 128 (omega arith))
         (fine_of 1 172800000 (get_or s place 0 * 1800000) (record { least = omega arith; most = omega arith; fine = λ e. omega (arith, sym (mod-eq_of_lt {n = get_or s place 0 * 1800000} {m = 172800000} (omega arith)) ∙ e) }))
 
-  two-bytes : place + 2 ≤ length s → 128 ≤ two_bytes s place → read_count (drop place s) ≡ Value (two_bytes s place) 2
+  two-bytes : place + 2 ≤ length s → 128 ≤ two_bytes s place → read_count (drop place s) ≡ Ok (two_bytes s place, 2)
   unfolding two_bytes read_groups
   two-bytes h = go (both (leb 128 b) (ltb d 128)) refl
     where
@@ -68,7 +70,7 @@ module _ (s : List ℕ) (place : ℕ) where
       d = get_or s (place + 1) 0
 
       go : (t : Bool) → both (leb 128 b) (ltb d 128) ≡ t → 128 ≤ pick t (b % 128 + 128 * d) 0
-          → read_count (drop place s) ≡ Value (pick t (b % 128 + 128 * d) 0) 2
+          → read_count (drop place s) ≡ Ok (pick t (b % 128 + 128 * d) 0, 2)
       go true e k =
           let n : get_or s (suc place) 0 < 128 = rw (add-one place) at (ltb-true d 128 (both_right (leb 128 b) _ e)) in
           let o : get_or s (suc place) 0 ≡ 0 → ⊥ = λ z. omega (arith, rw (add-one place) at k) in
@@ -140,7 +142,7 @@ module _ (prev v : ℕ) where
       hours-are e =
           rw (two-byte-count, finite-yes prev (record { low = p; high = q }), finite-yes (prev + v * hour) (record { low = omega arith; high = e }))
 
-hours-from : (prev v t : ℕ) → HoursAfter prev v t → from_count prev v 2 ≡ Value t 2
+hours-from : (prev v t : ℕ) → HoursAfter prev v t → from_count prev v 2 ≡ Ok (t, 2)
 unfolding from_count
 hours-from prev v t h =
     rw (

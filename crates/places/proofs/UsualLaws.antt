@@ -1,4 +1,5 @@
 -- Offsets at a place: a law for each way out of their reader. Assumes nothing.
+use Rattle.std.specs.Prelude.{Ok}
 use mathlib.Core.Path.{◌≡◌, refl, sym, ◌∙◌}
 use mathlib.Core.List.{List}
 use Prim.Native.Nat.{ℕ, suc, ◌+◌, ◌*◌, ◌/◌, ◌%◌, ◌≤◌, ◌<◌}
@@ -10,7 +11,6 @@ use lib.ListN.{length, drop, get_or, length-drop}
 use lib.Seq.{drop-cons}
 use borrow.Author.Tests.{lt-ltb, le-ltb, le-leb}
 use Rattle.base.specs.Parsed.{parse}
-use Rattle.base.specs.declared.Read.TheVariants.{Value}
 use Rattle.base.proofs.Tests.{pick-holds}
 use Rattle.counts.specs.Fixed.{fixed_from}
 use Rattle.offsets.specs.Offset.{read_sum}
@@ -49,7 +49,7 @@ multiple : (v k q : ℕ) → v ≡ k * q → v % k ≡ 0
 multiple v k q e = rw e (mul-mod_right k q)
 
 module _ (s : List ℕ) (place : ℕ) where
-  usual-at : (v n : ℕ) → n ≡ usual_size (get_or s place 0) → read_sum (drop place s) ≡ Value v n → place + n ≤ length s → UsualAt s place v
+  usual-at : (v n : ℕ) → n ≡ usual_size (get_or s place 0) → read_sum (drop place s) ≡ Ok (v, n) → place + n ≤ length s → UsualAt s place v
   usual-at v n e r w = record { stands = λ _. rw e at (reads read_sum s place v n r w) }
 
   -- what a reader goes on with
@@ -67,7 +67,7 @@ module _ (s : List ℕ) (place : ℕ) where
   -- a number of units behind the first byte
   level-at : {n p unit coarser : ℕ} → Level n p unit coarser → place + n < length s → p ≤ get_or s place 0 → get_or s place 0 < p + 32
       → Fine coarser (fixed_from n (get_or s place 0 % 32) (drop (suc place) s) * unit)
-      → read_sum (drop place s) ≡ Value (fixed_from n (get_or s place 0 % 32) (drop (suc place) s) * unit) (n + 1)
+      → read_sum (drop place s) ≡ Ok (fixed_from n (get_or s place 0 % 32) (drop (suc place) s) * unit, n + 1)
   level-at {n} {p} {unit} {coarser} l w lo hi f =
       let k : n ≤ length (drop (suc place) s) = rw length-drop (omega arith) in
       rw (drop-cons s place 0 (omega arith), l.reads (get_or s place 0) (drop (suc place) s) lo hi, le-leb n (length (drop (suc place) s)) k)

@@ -4,6 +4,7 @@ use mathlib.Core.List.{List}
 use Prim.Native.Nat.{ℕ, ◌≤◌, ◌<◌}
 use lib.Dec.{ltb}
 use borrow.Author.Tests.{ltb-true}
+use Rattle.base.specs.declared.Refusal.TheVariants.{BadText}
 use Rattle.base.specs.Parsed.{got, parse}
 use Rattle.base.proofs.ParseLaws.{bind-good, pick_good}
 use Rattle.base.proofs.MomentLaws.{Moment}
@@ -29,7 +30,7 @@ unfolding parse_name judge_name
 name-ok pool s n q e =
     let a = bind-good (parse read_count s) (judge_name pool) n q e in
     let m : ℕ = a.first in
-    let b = pick_good (ltb m pool) (got m a.rest) 8 n q a.on in
+    let b = pick_good (ltb m pool) (got m a.rest) BadText n q a.on in
     let c : got m a.rest ≡ got n q = b.1 in
     let d : m ≡ n = cc in
     subst (λ (k : ℕ). k < pool) d (ltb-true m pool b.0)

@@ -1,14 +1,14 @@
 -- What a reader at a place of a field's data gives, against the definitions, which read from the front of a list.
 -- The code's way, places in the data, tied to the definitions over lists by `Stands` itself.
-use Rattle.std.specs.Prelude.{ℕ, ◌≤◌, ◌≡◌, List, length, drop}
+use Rattle.base.specs.declared.Refusal.{Refusal}
+use Rattle.base.specs.Coded.{Coded}
+use Rattle.std.specs.Prelude.{ℕ, ◌≤◌, ◌≡◌, List, length, drop, Err, Ok}
 use Rattle.base.specs.Parsed.{Parsed, got, bad}
-use Rattle.base.specs.declared.Read.{Read}
-use Rattle.base.specs.declared.Read.TheVariants.{Value, Refused}
 
--- a value and the place behind it, or a refusal's number
+-- a value and the place behind it, or a refusal
 pub data Placed (A : Type 0) : Type 0 where
   at : A → ℕ → Placed A
-  no : ℕ → Placed A
+  no : Refusal → Placed A
 
 abbrev pub view_placed : {A : Type 0} → List ℕ → Placed A → Parsed A
 view_placed s (at a e) = got a (drop e s)
@@ -23,6 +23,6 @@ pub record Stands {A : Type 0} (s : List ℕ) (p : Parsed A) (x : Placed A) : Ty
   pub means : p ≡ view_placed s x
   pub within : InBytes s x
 
-abbrev pub of_read : Read → Placed ℕ
-of_read (Value v e) = at v e
-of_read (Refused n) = no n
+abbrev pub of_read : Coded ℕ → Placed ℕ
+of_read (Ok (v, e)) = at v e
+of_read (Err n) = no n

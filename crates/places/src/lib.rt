@@ -1,4 +1,4 @@
-// Small codes at a place of a field's data: a value and the place behind it, or a refusal's number. The usual ones are told by few tests; long starts of
+// Small codes at a place of a field's data: a value and the place behind it, or a refusal. The usual ones are told by few tests; long starts of
 // intervals, and offsets, are read without a call.
 #![tactic(auto)]
 
@@ -15,107 +15,95 @@ ghost use Rattle.offsets.specs.Offset.{read_sum};
 ghost use Rattle.places.specs.Placed.{Stands, of_read};
 ghost use Rattle.places.specs.Name.{read_zigzag, parse_name};
 
-use base::{LAST, Read};
+use base::{Coded, LAST, Refusal};
 use transitions::{HOUR, MINUTE, YEAR_1800};
 
-pub fn byte_at(s: &[u8], at: usize) -> Read
+pub fn byte_at(s: &[u8], at: usize) -> Coded<u64>
     requires { at ≤ length s.now }
     ensures { Stands s.now (parse_byte (drop at s.now)) (of_read result) }
 {
     if s.len() <= at {
-        return Read::Refused(9);
+        return Err(Refusal::BadData);
     }
-    Read::Value(s[at] as u64, at + 1)
+    Ok((s[at] as u64, at + 1))
 }
 
 // A code at a place, as a value and the place behind it.
-fn any_count_at(s: &[u8], at: usize) -> Read
+fn any_count_at(s: &[u8], at: usize) -> Coded<u64>
     requires { at ≤ length s.now }
     ensures { Stands s.now (parse read_count (drop at s.now)) (of_read result) }
 {
-    match count_readers::read_count(&s[at..]) {
-        Read::Value(v, n) => Read::Value(v, at + n),
-        Read::Refused(k) => Read::Refused(k),
-    }
+    let (v, n) = count_readers::read_count(&s[at..])?;
+    Ok((v, at + n))
 }
 
 // The same. A count of one byte, the usual one, takes no call.
-pub fn count_at(s: &[u8], at: usize) -> Read
+pub fn count_at(s: &[u8], at: usize) -> Coded<u64>
     requires { at ≤ length s.now }
     ensures { Stands s.now (parse read_count (drop at s.now)) (of_read result) }
 {
     if s.len() <= at {
-        return Read::Refused(9);
+        return Err(Refusal::BadData);
     }
     let b = s[at] as u64;
     if b < 128 {
-        return Read::Value(b, at + 1);
+        return Ok((b, at + 1));
     }
     any_count_at(s, at)
 }
 
-pub fn zigzag_at(s: &[u8], at: usize) -> Read
+pub fn zigzag_at(s: &[u8], at: usize) -> Coded<u64>
     requires { at ≤ length s.now }
     ensures { Stands s.now (parse read_zigzag (drop at s.now)) (of_read result) }
 {
-    match count_readers::read_groups(&s[at..], 15) {
-        Read::Value(v, n) => Read::Value(v, at + n),
-        Read::Refused(k) => Read::Refused(k),
-    }
+    let (v, n) = count_readers::read_groups(&s[at..], 15)?;
+    Ok((v, at + n))
 }
 
-fn any_sum_at(s: &[u8], at: usize) -> Read
+fn any_sum_at(s: &[u8], at: usize) -> Coded<u64>
     requires { at ≤ length s.now }
     ensures { Stands s.now (parse read_sum (drop at s.now)) (of_read result) }
 {
-    match offset_readers::read_sum(&s[at..]) {
-        Read::Value(v, n) => Read::Value(v, at + n),
-        Read::Refused(k) => Read::Refused(k),
-    }
+    let (v, n) = offset_readers::read_sum(&s[at..])?;
+    Ok((v, at + n))
 }
 
 // An offset of half hours, the usual one, takes no call.
-pub fn sum_at(s: &[u8], at: usize) -> Read
+pub fn sum_at(s: &[u8], at: usize) -> Coded<u64>
     requires { at ≤ length s.now }
     ensures { Stands s.now (parse read_sum (drop at s.now)) (of_read result) }
 {
     if s.len() <= at {
-        return Read::Refused(9);
+        return Err(Refusal::BadData);
     }
     let b = s[at] as u64;
     if b == 0 {
-        return Read::Refused(7);
+        return Err(Refusal::BadCode);
     }
     if b < 96 {
-        return Read::Value(b * 1800000, at + 1);
+        return Ok((b * 1800000, at + 1));
     }
     any_sum_at(s, at)
 }
 
-pub fn moment_at(s: &[u8], at: usize, prev: u64) -> Read
+pub fn moment_at(s: &[u8], at: usize, prev: u64) -> Coded<u64>
     requires { at ≤ length s.now }
     ensures { Stands s.now (parse (read_moment prev) (drop at s.now)) (of_read result) }
 {
-    match transition_readers::read_moment(prev, &s[at..]) {
-        Read::Value(v, n) => Read::Value(v, at + n),
-        Read::Refused(k) => Read::Refused(k),
-    }
+    let (v, n) = transition_readers::read_moment(prev, &s[at..])?;
+    Ok((v, at + n))
 }
 
 // A pool number below the pool's count.
-pub fn name_at(s: &[u8], at: usize, pool: u64) -> Read
+pub fn name_at(s: &[u8], at: usize, pool: u64) -> Coded<u64>
     requires { at ≤ length s.now }
     ensures { Stands s.now (parse_name pool (drop at s.now)) (of_read result) }
 {
-    match count_at(s, at) {
-        Read::Value(n, e) => {
-            if n < pool {
-                return Read::Value(n, e);
-            }
-            Read::Refused(8)
-        }
-        Read::Refused(k) => Read::Refused(k),
+    let (n, e) = count_at(s, at)?;
+    if n < pool {
+        return Ok((n, e));
     }
+    Err(Refusal::BadText)
 }
 
 // Whether a byte is an offset of half hours.

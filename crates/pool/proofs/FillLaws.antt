@@ -1,4 +1,7 @@
 -- The loop over a pool's strings: i of k are passed, up to a place. Assumes nothing.
+use Rattle.base.specs.declared.Refusal.{Refusal}
+use Rattle.std.specs.Prelude.{Err, Ok, Result}
+use Rattle.base.specs.declared.Refusal.TheVariants.{BadData}
 use mathlib.Core.Path.{◌≡◌, refl, sym, ◌∙◌, ap}
 use mathlib.Core.List.{List, [], ◌∷◌}
 use mathlib.Core.Bool.{Bool, true, false}
@@ -12,17 +15,12 @@ use borrow.Author.Tests.{lt-ltb, le-ltb, ltb-true}
 use Rattle.base.specs.Pick.{pick, both}
 use Rattle.base.proofs.Tests.{by_order, both_left, both_right, never}
 use Rattle.base.proofs.Parts.{part-from}
-use Rattle.base.specs.declared.Read.TheVariants.{Value}
 use Rattle.counts.specs.Count.{read_count}
 use Rattle.counts.proofs.CountLaws.{byte-count}
 use Rattle.texts.specs.Text.{read_text, behind_text}
-use Rattle.texts.specs.declared.Text.{Text}
-use Rattle.texts.specs.declared.Text.TheVariants.{Part, Refused as Untext}
 use Rattle.utf8.specs.Ascii.{ascii, ascii_front}
 use Rattle.texts.proofs.TextLaws.{text-tested, Held, held}
 use Rattle.utf8.proofs.AsciiLaws.{plain-utf8, ascii-at, front-ascii}
-use Rattle.pool.specs.declared.Checked.{Checked}
-use Rattle.pool.specs.declared.Checked.TheVariants.{Strings, Refused}
 use Rattle.base.specs.Parsed.{got, bad, bind, ended, many, prepend}
 use Rattle.pool.specs.Pool.{Pool, read_strings, all_strings, checked}
 use Rattle.pool.specs.Index.{start, read_starts, short_length, Plain}
@@ -39,17 +37,17 @@ plain-front d at n h e =
     (omega (arith, x.0, length-drop at d), rw z x.1)
 
 -- i strings more
-abbrev raise : ℕ → Checked → Checked
-raise i (Strings n) = Strings (i + n)
-raise i (Refused m) = Refused m
+abbrev raise : ℕ → Result ℕ Refusal → Result ℕ Refusal
+raise i (Ok n) = Ok (i + n)
+raise i (Err m) = Err m
 
-raise_zero : (x : Checked) → raise 0 x ≡ x
-raise_zero (Strings n) = ap Strings (omega arith)
-raise_zero (Refused m) = refl
+raise_zero : (x : Result ℕ Refusal) → raise 0 x ≡ x
+raise_zero (Ok n) = ap Ok (omega arith)
+raise_zero (Err m) = refl
 
 raise-cons : (i : ℕ) (t : List ℕ) (p : Pool) → raise i (checked (bind (bind p (prepend t)) ended)) ≡ raise (i + 1) (checked (bind p ended))
 unfolding ended
-raise-cons i t (got ts []) = ap Strings (omega arith)
+raise-cons i t (got ts []) = ap Ok (omega arith)
 raise-cons i t (got ts (b ∷ r)) = refl
 raise-cons i t (bad m) = refl
 
@@ -63,7 +61,7 @@ pub record Filling (d : List ℕ) (from k : ℕ) (ix₀ ix : List ℕ) (at i : �
   pub kept : sets ix i (read_starts (k - i) at (drop at d)) ≡ sets ix₀ 0 (read_starts k from (drop from d))
 
 -- the result r and the index ix of reading k strings from a place on
-abbrev pub Filled : List ℕ → ℕ → ℕ → List ℕ → Checked → List ℕ → Type 0
+abbrev pub Filled : List ℕ → ℕ → ℕ → List ℕ → Result ℕ Refusal → List ℕ → Type 0
 Filled d from k ix₀ r ix = (r ≡ checked (all_strings k (drop from d))) × (ix ≡ sets ix₀ 0 (read_starts k from (drop from d)))
 
 pub filling-start : (d : List ℕ) (from k : ℕ) (ix : List ℕ) → from ≤ length d → from ≤ 5 → Filling d from k ix ix from 0
@@ -108,7 +106,7 @@ module _ (d : List ℕ) (at plain : ℕ) where
       short-is p = rw (lt-ltb at (length d) h, lt-ltb (get_or d at 0) 128 (omega arith), lt-ltb (at + get_or d at 0) plain p)
 
 pub plain_here : (d : List ℕ) (at plain n : ℕ) → plain ≤ length d → ascii (take (plain - at) (drop at d)) ≡ true
-    → n ≡ short_length d at plain → n < 128 → Part 1 n ≡ read_text (take (length d - at) (drop at d))
+    → n ≡ short_length d at plain → n < 128 → Ok (1, n) ≡ read_text (take (length d - at) (drop at d))
 plain_here d at plain n l e f h =
     let m = short-means d at plain n f h in
     let p : at < length d = m.0 in
@@ -116,7 +114,7 @@ plain_here d at plain n l e f h =
     let r : at + n < plain = m.2 in
     let s : List ℕ = drop at d in
     let w : length s ≡ length d - at = length-drop at d in
-    let c : read_count s ≡ Value n 1 = rw q (byte-count d at p (omega arith)) in
+    let c : read_count s ≡ Ok (n, 1) = rw q (byte-count d at p (omega arith)) in
     rw (part-from at d)
     (text-tested s (read_count s) refl n 1 c (omega arith) true (omega arith) (plain-utf8 (plain - at) 1 n s e (omega arith)))
 
@@ -137,33 +135,33 @@ module _ (d : List ℕ) (at plain : ℕ) (p : Plain d at plain) (l : at + 128 �
       let z : plain - at ≡ suc (plain - at - 1) = omega arith in
       ascii-first (get_or d at 0) (plain - at - 1) (drop (suc at) d) (rw (z, drop-cons d at 0 h) at p.1)
 
-  plain-text : Part 1 (get_or d at 0) ≡ read_text (take (length d - at) (drop at d))
+  plain-text : Ok (1, get_or d at 0) ≡ read_text (take (length d - at) (drop at d))
   plain-text =
       let b : get_or d at 0 < 128 = plain_byte in
       plain_here d at plain (get_or d at 0) p.0 p.1 (short-is d at plain (omega (arith, p.0)) (omega arith) (omega arith)) b
 
 module _ (d : List ℕ) (from k : ℕ) (ix₀ ix : List ℕ) (at i : ℕ) (f : Filling d from k ix₀ ix at i) where
-  module _ (less : i < k) (t : Text) (ht : t ≡ read_text (take (length d - at) (drop at d))) where
-    text-here : (x : Text) → t ≡ x → read_text (drop at d) ≡ x
+  module _ (less : i < k) (t : Result (ℕ × ℕ) Refusal) (ht : t ≡ read_text (take (length d - at) (drop at d))) where
+    text-here : (x : Result (ℕ × ℕ) Refusal) → t ≡ x → read_text (drop at d) ≡ x
     text-here x e = ap read_text (sym (part-from at d)) ∙ sym ht ∙ e
 
     one_more : k - i ≡ suc (k - (i + 1))
     one_more = omega arith
 
-    strings-here : (x : Text) → t ≡ x → all_strings (k - i) (drop at d) ≡ bind (bind (behind_text (drop at d) x) (λ u r. bind (read_strings (k - (i + 1)) r) (prepend u))) ended
+    strings-here : (x : Result (ℕ × ℕ) Refusal) → t ≡ x → all_strings (k - i) (drop at d) ≡ bind (bind (behind_text (drop at d) x) (λ u r. bind (read_strings (k - (i + 1)) r) (prepend u))) ended
     unfolding all_strings many
     strings-here x e = rw (one_more, text-here x e)
 
-    starts-here : (x : Text) → t ≡ x → read_starts (k - i) at (drop at d) ≡ start x at (drop at d) (λ a r. read_starts (k - (i + 1)) a r)
+    starts-here : (x : Result (ℕ × ℕ) Refusal) → t ≡ x → read_starts (k - i) at (drop at d) ≡ start x at (drop at d) (λ a r. read_starts (k - (i + 1)) a r)
     unfolding read_starts
     starts-here x e = rw (one_more, text-here x e)
 
-    pub filling-refused : (m : ℕ) → t ≡ Untext m → Filled d from k ix₀ (Refused m) ix
-    filling-refused m e = (rw (strings-here (Untext m) e) at f.said, rw (starts-here (Untext m) e) at f.kept)
+    pub filling-refused : (m : Refusal) → t ≡ Err m → Filled d from k ix₀ (Err m) ix
+    filling-refused m e = (rw (strings-here (Err m) e) at f.said, rw (starts-here (Err m) e) at f.kept)
 
-    module _ (a n : ℕ) (e : t ≡ Part a n) where
+    module _ (a n : ℕ) (e : t ≡ Ok (a, n)) where
       pub here : Held (drop at d) a n
-      here = held (drop at d) a n (text-here (Part a n) e)
+      here = held (drop at d) a n (text-here (Ok (a, n)) e)
 
       pub here-inside : at + (a + n) ≤ length d
       here-inside = omega (arith, here.inside, length-drop at d)
@@ -172,7 +170,7 @@ module _ (d : List ℕ) (from k : ℕ) (ix₀ ix : List ℕ) (at i : ℕ) (f : F
       unfolding all_strings
       said-next =
           sym (raise-cons i (take n (drop a (drop at d))) (read_strings (k - (i + 1)) (drop (at + (a + n)) d)))
-          ∙ rw (strings-here (Part a n) e, drop-drop (a + n) at d) at f.said
+          ∙ rw (strings-here (Ok (a, n)) e, drop-drop (a + n) at d) at f.said
 
       pub filling-next : Filling d from k ix₀ (set ix i at) (at + (a + n)) (i + 1)
       filling-next =
@@ -182,7 +180,7 @@ module _ (d : List ℕ) (from k : ℕ) (ix₀ ix : List ℕ) (at i : ℕ) (f : F
             most = omega arith;
             size = length-set ix i at ∙ f.size;
             said = said-next;
-            kept = rw (add-one i) (rw (starts-here (Part a n) e, drop-drop (a + n) at d, add-one i) at f.kept);
+            kept = rw (add-one i) (rw (starts-here (Ok (a, n)) e, drop-drop (a + n) at d, add-one i) at f.kept);
           }
 
   -- no string is left to read
@@ -194,13 +192,13 @@ module _ (d : List ℕ) (from k : ℕ) (ix₀ ix : List ℕ) (at i : ℕ) (f : F
   unfolding read_starts
   starts-read h = let z : k - i ≡ 0 = omega arith in rw z at f.kept
 
-  pub filling-end : k ≤ i → at ≡ length d → Filled d from k ix₀ (Strings k) ix
+  pub filling-end : k ≤ i → at ≡ length d → Filled d from k ix₀ (Ok k) ix
   unfolding ended
   filling-end h e =
       let x : i + 0 ≡ k = omega (arith, f.most) in
       (rw (drop_of_length-le d {i = at} (omega arith), x) at (all_read h), starts-read h)
 
-  pub filling-left : k ≤ i → (at ≡ length d → ⊥) → Filled d from k ix₀ (Refused 9) ix
+  pub filling-left : k ≤ i → (at ≡ length d → ⊥) → Filled d from k ix₀ (Err BadData) ix
   unfolding ended
   filling-left h e =
       let l : at < length d = below (omega (arith, f.inside)) e in
@@ -213,7 +211,7 @@ module _ (d : List ℕ) (from k : ℕ) (ix₀ ix : List ℕ) (at i : ℕ) (f : F
 module _ (d : List ℕ) (at plain : ℕ) (p : Plain d at plain) (l : at + 128 ≤ plain) (r : ℕ) (h : r ≡ at + (1 + get_or d at 0)) where
   pub passed-filling : (from k : ℕ) (ix₀ ix ix' : List ℕ) (i : ℕ) → Filling d from k ix₀ ix at i → i < k → ix' ≡ set ix i at → Filling d from k ix₀ ix' r (i + 1)
   passed-filling from k ix₀ ix ix' i f less q =
-      rw (h, q) (filling-next d from k ix₀ ix at i f less (Part 1 (get_or d at 0)) (plain-text d at plain p l) 1 (get_or d at 0) refl)
+      rw (h, q) (filling-next d from k ix₀ ix at i f less (Ok (1, get_or d at 0)) (plain-text d at plain p l) 1 (get_or d at 0) refl)
 
   pub passed-plain : Plain d r plain
   passed-plain = rw h (plain-later d at plain (1 + get_or d at 0) p)

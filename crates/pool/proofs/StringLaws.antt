@@ -1,4 +1,8 @@
 -- Where a pool's strings are found. Assumes nothing.
+use Rattle.base.specs.declared.Refusal.TheVariants.{TooLarge}
+use Rattle.base.specs.declared.Refusal.{Refusal}
+use Rattle.std.specs.Prelude.{Err, Ok, Result}
+use Rattle.base.specs.Coded.{Coded}
 use mathlib.Core.Path.{◌≡◌, refl, sym, ◌∙◌, ap, ap₂}
 use mathlib.Core.List.{List, [], ◌∷◌}
 use Prim.Native.Nat.{ℕ, zero, suc, ◌+◌, ◌-◌, ◌≤◌, ◌<◌}
@@ -8,14 +12,10 @@ use lib.ListN.{length, take, drop, get_or, length-take, length-drop}
 use lib.Seq.{drop-drop, get_or-take}
 use lib.Dec.{ltb}
 use borrow.Author.Tests.{ltb-false}
-use Rattle.base.specs.declared.Read.{Read}
-use Rattle.base.specs.declared.Read.TheVariants.{Value, Refused as Unread}
 use Rattle.base.proofs.Parts.{part-from}
 use Rattle.counts.specs.Count.{read_count}
 use Rattle.counts.proofs.CountLaws.{counted as count-counted}
 use Rattle.texts.specs.Text.{read_text, behind_text}
-use Rattle.texts.specs.declared.Text.{Text}
-use Rattle.texts.specs.declared.Text.TheVariants.{Part, Refused as Untext}
 use Rattle.texts.proofs.TextLaws.{Held, held}
 use Rattle.base.specs.Parsed.{got, bad, bind, behind_code, ended, many, prepend}
 use Rattle.base.proofs.ParseLaws.{bad-got, bind-good, pick-bad, ended-good}
@@ -28,7 +28,7 @@ record Head (k : ℕ) (s : List ℕ) (ts : List (List ℕ)) (q : List ℕ) : Typ
   a : ℕ
   n : ℕ
   others : List (List ℕ)
-  said : read_text s ≡ Part a n
+  said : read_text s ≡ Ok (a, n)
   is : ts ≡ take n (drop a s) ∷ others
   after : read_strings k (drop (a + n) s) ≡ got others q
 
@@ -36,16 +36,16 @@ head : (k : ℕ) (s : List ℕ) (ts : List (List ℕ)) (q : List ℕ) → read_s
 unfolding many
 head k s ts q e = go (read_text s) refl e
   where
-    more : (a n : ℕ) → read_text s ≡ Part a n → bind (read_strings k (drop (a + n) s)) (prepend (take n (drop a s))) ≡ got ts q → Head k s ts q
+    more : (a n : ℕ) → read_text s ≡ Ok (a, n) → bind (read_strings k (drop (a + n) s)) (prepend (take n (drop a s))) ≡ got ts q → Head k s ts q
     more a n h r =
         let g = bind-good (read_strings k (drop (a + n) s)) (prepend (take n (drop a s))) ts q r in
         let z = g.on in
         let y : g.rest ≡ q = cc in
         record { a = a; n = n; others = g.first; said = h; is = cc; after = g.is ∙ ap (got g.first) y }
 
-    go : (x : Text) → read_text s ≡ x → bind (behind_text s x) (λ u r. bind (read_strings k r) (prepend u)) ≡ got ts q → Head k s ts q
-    go (Untext m) h r = bad-got r
-    go (Part a n) h r = more a n h r
+    go : (x : Result (ℕ × ℕ) Refusal) → read_text s ≡ x → bind (behind_text s x) (λ u r. bind (read_strings k r) (prepend u)) ≡ got ts q → Head k s ts q
+    go (Err m) h r = bad-got r
+    go (Ok (a, n)) h r = more a n h r
 
 none : (s : List ℕ) (ts : List (List ℕ)) (q : List ℕ) → read_strings zero s ≡ got ts q → ts ≡ []
 unfolding many
@@ -59,7 +59,7 @@ pub record Found (d : List ℕ) (p : ℕ) (t : List ℕ) : Type 0 where
   pub here : Held (drop p d) a n
   pub is : t ≡ take n (drop a (drop p d))
 
-starts-here : (k at : ℕ) (d : List ℕ) (a n : ℕ) → read_text (drop at d) ≡ Part a n → read_starts (suc k) at (drop at d) ≡ at ∷ read_starts k (at + (a + n)) (drop (at + (a + n)) d)
+starts-here : (k at : ℕ) (d : List ℕ) (a n : ℕ) → read_text (drop at d) ≡ Ok (a, n) → read_starts (suc k) at (drop at d) ≡ at ∷ read_starts k (at + (a + n)) (drop (at + (a + n)) d)
 unfolding read_starts
 starts-here k at d a n e = rw (e, drop-drop (a + n) at d)
 
@@ -100,7 +100,7 @@ pub record Opened (d : List ℕ) (ts : List (List ℕ)) (q : List ℕ) : Type 0 
   pub k : ℕ
   pub a : ℕ
   pub front : a ≤ length d
-  pub count : read_count d ≡ Value k a
+  pub count : read_count d ≡ Ok (k, a)
   pub few : k ≤ 8192
   pub all : read_strings k (drop a d) ≡ got ts []
   pub end : q ≡ []
@@ -110,10 +110,10 @@ pub opened : (d : List ℕ) (ts : List (List ℕ)) (q : List ℕ) → parse_pool
 unfolding counted all_strings starts_in
 opened d ts q e = go (read_count d) refl e
   where
-    go : (g : Read) → read_count d ≡ g → bind (behind_code d g) counted ≡ got ts q → Opened d ts q
-    go (Unread m) r h = bad-got h
-    go (Value k a) r h =
-        let p = pick-bad (ltb 8192 k) (bind (read_strings k (drop a d)) ended) 4 ts q h in
+    go : (g : Coded ℕ) → read_count d ≡ g → bind (behind_code d g) counted ≡ got ts q → Opened d ts q
+    go (Err m) r h = bad-got h
+    go (Ok (k, a)) r h =
+        let p = pick-bad (ltb 8192 k) (bind (read_strings k (drop a d)) ended) TooLarge ts q h in
         let b = bind-good (read_strings k (drop a d)) ended ts q p.1 in
         let z = ended-good b.first ts b.rest q b.on in
         record {
@@ -175,16 +175,16 @@ module _ (d ix : List ℕ) (j : ℕ) (r : Ready d ix) (l : j < length (strings_o
   pub index-inside : get_or ix j 0 ≤ length d
   index-inside = rw (start_is d j l ix r) (string-found d j l).inside
 
-  module _ (g x : Read) (h : g ≡ read_count (take (length d - get_or ix j 0) (drop (get_or ix j 0) d))) (e : g ≡ x) where
+  module _ (g x : Coded ℕ) (h : g ≡ read_count (take (length d - get_or ix j 0) (drop (get_or ix j 0) d))) (e : g ≡ x) where
     pub count-here : x ≡ read_count (drop (get_or ix j 0) d)
     count-here = sym e ∙ h ∙ ap read_count (part-from (get_or ix j 0) d)
 
     pub index-span : span_in (get_or ix j 0) x ≡ span_of d j
     index-span = ap (span_in (get_or ix j 0)) count-here ∙ ap (span_at d) (start_is d j l ix r)
 
-  pub count-inside : (g : Read) (n a : ℕ) → g ≡ read_count (take (length d - get_or ix j 0) (drop (get_or ix j 0) d)) → g ≡ Value n a → get_or ix j 0 + a ≤ length d
+  pub count-inside : (g : Coded ℕ) (n a : ℕ) → g ≡ read_count (take (length d - get_or ix j 0) (drop (get_or ix j 0) d)) → g ≡ Ok (n, a) → get_or ix j 0 + a ≤ length d
   count-inside g n a h e =
-      let c = count-counted (drop (get_or ix j 0) d) (count-here g (Value n a) h e) in
+      let c = count-counted (drop (get_or ix j 0) d) (count-here g (Ok (n, a)) h e) in
       omega (arith, index-inside, c.within, length-drop (get_or ix j 0) d)
 
 -- a span that is the j-th string's, as the code takes it

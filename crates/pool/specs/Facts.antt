@@ -1,4 +1,5 @@
 -- What the laws say of a pool that is taken or refused. To be believed.
+use Rattle.base.specs.declared.Refusal.{Refusal}
 use Rattle.std.specs.Prelude.{◌≡◌, List, [], ℕ, ◌≤◌, length}
 use Rattle.texts.specs.Facts.{Faulty}
 use Rattle.base.specs.Parsed.{got, bad}
@@ -11,7 +12,7 @@ pub record Taken (d : List ℕ) (n : ℕ) : Type 0 where
   pub most : n ≤ 8192
 
 -- a pool that the check refuses
-pub record Failed (d : List ℕ) (m : ℕ) : Type 0 where
+pub record Failed (d : List ℕ) (m : Refusal) : Type 0 where
   pub fault : parse_pool d ≡ bad m
   pub none : strings_of d ≡ []
   pub number : Faulty m

@@ -1,37 +1,35 @@
 -- The index of a pool: the places at which its strings start, so that a string is found by its number at once.
 -- The code's way, tied to the pool's strings by `ready` (proofs/PoolLaws.antt) and `span-string` (proofs/StringLaws.antt).
-use Rattle.std.specs.Prelude.{ℕ, zero, suc, ◌+◌, ◌-◌, ◌≤◌, ◌≡◌, List, [], ◌∷◌, true, length, take, drop, get_or, ltb}
+use Rattle.base.specs.declared.Refusal.{Refusal}
+use Rattle.base.specs.Coded.{Coded}
+use Rattle.std.specs.Prelude.{ℕ, zero, suc, ◌+◌, ◌-◌, ◌≤◌, ◌≡◌, List, [], ◌∷◌, true, length, take, drop, get_or, ltb, Err, Ok, Result}
 use Rattle.base.specs.Pick.{pick, both}
-use Rattle.base.specs.declared.Read.{Read}
-use Rattle.base.specs.declared.Read.TheVariants.{Value, Refused as Unread}
 use Rattle.utf8.specs.Ascii.{ascii}
 use Rattle.counts.specs.Count.{read_count}
 use Rattle.texts.specs.Text.{read_text}
-use Rattle.texts.specs.declared.Text.{Text}
-use Rattle.texts.specs.declared.Text.TheVariants.{Part, Refused as Untext}
 use Rattle.pool.specs.declared.Span.{Span}
 
 -- a string that starts at the place at, before those that f gives of what follows it
-abbrev pub start : Text → ℕ → List ℕ → (ℕ → List ℕ → List ℕ) → List ℕ
-start (Part a n) at s f = at ∷ f (at + (a + n)) (drop (a + n) s)
-start (Untext m) at s f = []
+abbrev pub start : Result (ℕ × ℕ) Refusal → ℕ → List ℕ → (ℕ → List ℕ → List ℕ) → List ℕ
+start (Ok (a, n)) at s f = at ∷ f (at + (a + n)) (drop (a + n) s)
+start (Err m) at s f = []
 
 -- where the next k strings start, up to the first that is refused; s is what stands from the place at on
 unfoldable pub read_starts : ℕ → ℕ → List ℕ → List ℕ
 read_starts zero at s = []
 read_starts (suc k) at s = start (read_text s) at s (λ a r. read_starts k a r)
 
-unfoldable pub starts_in : List ℕ → Read → List ℕ
-starts_in d (Unread m) = []
-starts_in d (Value k a) = pick (ltb 8192 k) [] (read_starts k a (drop a d))
+unfoldable pub starts_in : List ℕ → Coded ℕ → List ℕ
+starts_in d (Err m) = []
+starts_in d (Ok (k, a)) = pick (ltb 8192 k) [] (read_starts k a (drop a d))
 
 -- the places of the length codes of d's strings
 abbrev pub starts_of : List ℕ → List ℕ
 starts_of d = starts_in d (read_count d)
 
-unfoldable pub room_in : Read → ℕ
-room_in (Unread m) = 0
-room_in (Value k a) = pick (ltb 8192 k) 0 k
+unfoldable pub room_in : Coded ℕ → ℕ
+room_in (Err m) = 0
+room_in (Ok (k, a)) = pick (ltb 8192 k) 0 k
 
 -- how many places the index of d needs: the count of its strings; none where the count is refused or above 8,192
 abbrev pub room_of : List ℕ → ℕ
@@ -51,9 +49,9 @@ pub record Ready (d ix : List ℕ) : Type 0 where
   pub begins : take (length (starts_of d)) ix ≡ starts_of d
 
 -- the bytes behind a length code at the place p
-abbrev pub span_in : ℕ → Read → Span
-span_in p (Unread m) = record { at = 0; len = 0 }
-span_in p (Value n a) = record { at = p + a; len = n }
+abbrev pub span_in : ℕ → Coded ℕ → Span
+span_in p (Err m) = record { at = 0; len = 0 }
+span_in p (Ok (n, a)) = record { at = p + a; len = n }
 
 abbrev pub span_at : List ℕ → ℕ → Span
 span_at d p = span_in p (read_count (drop p d))

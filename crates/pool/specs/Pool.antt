@@ -1,13 +1,13 @@
 -- "Field 0 is a count and that many length-and-bytes strings." To be believed.
-use Rattle.std.specs.Prelude.{ℕ, List, [], length, ltb}
+use Rattle.base.specs.declared.Refusal.TheVariants.{TooLarge}
+use Rattle.base.specs.declared.Refusal.{Refusal}
+use Rattle.std.specs.Prelude.{ℕ, List, [], length, ltb, Err, Ok, Result}
 use Rattle.base.specs.Pick.{pick}
 use Rattle.base.specs.Parsed.{Parsed, got, bad, bind, parse, ended, many}
 use Rattle.counts.specs.Count.{read_count}
 use Rattle.texts.specs.Text.{parse_text}
-use Rattle.pool.specs.declared.Checked.{Checked}
-use Rattle.pool.specs.declared.Checked.TheVariants.{Strings, Refused}
 
--- the content of field 0: its strings, or the number of its first fault
+-- the content of field 0: its strings, or its first fault
 abbrev pub Pool : Type 0
 Pool = Parsed (List (List ℕ))
 
@@ -27,15 +27,15 @@ all_strings k s = bind (read_strings k s) ended
 
 -- "8,192 pool strings": 4 for a count above, before any string is read
 unfoldable pub counted : ℕ → List ℕ → Pool
-counted k s = pick (ltb 8192 k) (bad 4) (all_strings k s)
+counted k s = pick (ltb 8192 k) (bad TooLarge) (all_strings k s)
 
 abbrev pub parse_pool : List ℕ → Pool
 parse_pool d = bind (parse read_count d) counted
 
 -- what the check says of a content
-abbrev pub checked : Pool → Checked
-checked (got ts r) = Strings (length ts)
-checked (bad m) = Refused m
+abbrev pub checked : Pool → Result ℕ Refusal
+checked (got ts r) = Ok (length ts)
+checked (bad m) = Err m
 
 abbrev pub strings_in : Pool → List (List ℕ)
 strings_in (got ts r) = ts

@@ -6,17 +6,7 @@ ghost use Rattle.std.proofs.lemmas.List.Edits.{sets};
 ghost use Rattle.pool.specs.Pool.{all_strings, parse_pool, checked};
 ghost use Rattle.pool.specs.Index.{read_starts, starts_of, room_of, short_length, Plain};
 
-use base::Read;
-use texts::Text;
-
-// What checking a pool gives.
-#[derive(Clone, Copy)]
-pub enum Checked {
-    // How many strings it holds.
-    Strings(usize),
-    // The number of a refusal.
-    Refused(u8),
-}
+use base::Refusal;
 
 // How many of the first n elements stand from the place at on.
 fn behind(n: usize, at: usize) -> usize
@@ -97,7 +87,7 @@ fn pass_short(d: &[u8], at: usize, j: usize, i: usize, starts: &mut [u32]) -> us
 
 // The strings of d from a place on, k of them and nothing behind. starts gets the place of each. The bytes up to the place `front` are ASCII.
 // Short ones are taken by four, which leaves no test between the length of one and the length of the next.
-fn fill(d: &[u8], from: usize, k: usize, front: usize, starts: &mut [u32]) -> Checked
+fn fill(d: &[u8], from: usize, k: usize, front: usize, starts: &mut [u32]) -> Result<usize, Refusal>
     requires { (from ≤ length d.now) × (from ≤ 5) × (k ≤ 8192) × (k ≤ length starts.old) × Plain d.now from front }
     ensures { (result ≡ checked (all_strings k (drop from d.now))) × (starts.new ≡ sets starts.old 0 (read_starts k from (drop from d.now))) }
 {
@@ -123,10 +113,10 @@ fn fill(d: &[u8], from: usize, k: usize, front: usize, starts: &mut [u32]) -> Ch
                 let known = behind(plain, at);
                 let t = texts::read_text_in(&d[at..], known);
                 match t {
-                    Text::Refused(m) => {
-                        return Checked::Refused(m);
+                    Err(m) => {
+                        return Err(m);
                     }
-                    Text::Part(a, m) => {
+                    Ok((a, m)) => {
                         starts[i] = at as u32;
                         at = at + (a + m);
                         i += 1;
@@ -137,9 +127,9 @@ fn fill(d: &[u8], from: usize, k: usize, front: usize, starts: &mut [u32]) -> Ch
         }
     }
     if at == d.len() {
-        return Checked::Strings(k);
+        return Ok(k);
     }
-    Checked::Refused(9)
+    Err(Refusal::BadData)
 }
 
 // How many places the index of the pool in d needs.
@@ -148,8 +138,8 @@ pub fn room(d: &[u8]) -> usize
 {
     let g = count_readers::read_count(d);
     match g {
-        Read::Refused(_) => 0,
-        Read::Value(v, _) => {
+        Err(_) => 0,
+        Ok((v, _)) => {
             let k = v as usize;
             if k <= 8192 {
                 return k;
@@ -159,23 +149,19 @@ pub fn room(d: &[u8]) -> usize
     }
 }
 
-// The pool in d, the data of field 0. starts gets the place of each string before the first that is refused.
-pub fn check_pool(d: &[u8], starts: &mut [u32]) -> Checked
+// How many strings the pool in d has, the data of field 0. starts gets the place of each string before the first that is refused.
+pub fn check_pool(d: &[u8], starts: &mut [u32]) -> Result<usize, Refusal>
     requires { room_of d.now ≤ length starts.old }
     ensures { (result ≡ checked (parse_pool d.now)) × (starts.new ≡ sets starts.old 0 (starts_of d.now)) }
 {
     let g = count_readers::read_count(d);
-    match g {
-        Read::Refused(m) => Checked::Refused(m),
-        Read::Value(v, a) => {
-            let k = v as usize;
-            if 8192 < k {
-                return Checked::Refused(4);
-            }
-            let plain = utf8::ascii_front(&d[a..]);
-            fill(d, a, k, a + plain, starts)
-        }
+    let (v, a) = g?;
+    let k = v as usize;
+    if 8192 < k {
+        return Err(Refusal::TooLarge);
     }
+    let plain = utf8::ascii_front(&d[a..]);
+    fill(d, a, k, a + plain, starts)
 }
 
 // Where a string's bytes lie in the pool's data: the place of the first, and how many there are.

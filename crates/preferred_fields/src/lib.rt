@@ -7,8 +7,6 @@ ghost use Rattle.pieces.specs.View.{HasContent, Put};
 ghost use Rattle.preferred_fields.specs.Field.{print_field, field_with};
 ghost use Rattle.preferred_fields.specs.View.{Told, Copied, Unchanged};
 
-use base::{Read, Wrote};
-
 // Whether a field is copied: where it is no zone, and where its flag, which stands at the number of its ID, is 0.
 fn is_copied(i: u8, d: &[u8], flags: &[u8]) -> bool
     requires { i ≡ 1 → Told flags.now d.now }
@@ -18,8 +16,8 @@ fn is_copied(i: u8, d: &[u8], flags: &[u8]) -> bool
         return true;
     }
     match places::count_at(d, 0) {
-        Read::Refused(_) => false,
-        Read::Value(id, _) => {
+        Err(_) => false,
+        Ok((id, _)) => {
             if flags.len() <= id as usize {
                 return false;
             }
@@ -65,8 +63,8 @@ fn write_head(i: u8, n: usize, out: &mut [u8]) -> usize
 {
     out[0] = i;
     match count_writers::write_count(n as u64, &mut out[1..]) {
-        Wrote::Refused(_) => 0,
-        Wrote::Length(k) => 1 + k,
+        Err(_) => 0,
+        Ok(k) => 1 + k,
     }
 }
 

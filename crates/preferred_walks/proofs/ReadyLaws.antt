@@ -1,4 +1,6 @@
 -- What the check of a file has shown, and the walk over its fields. Assumes nothing.
+use Rattle.std.specs.Prelude.{Ok, Result}
+use Rattle.base.specs.Coded.{Fault}
 use mathlib.Core.Path.{◌≡◌, refl, sym, ap, ◌∙◌, subst, subst⁻¹}
 use mathlib.Core.Bool.{Bool, true, false}
 use mathlib.Core.List.{List, [], ◌∷◌, ◌++◌, append-nil, append_assoc}
@@ -18,8 +20,6 @@ use Rattle.base.specs.All.{All, all_none, all-also}
 use Rattle.base.proofs.AllLaws.{all_head, all_tail}
 use Rattle.frames.proofs.ChainLaws.{listing-chain, chain-fields}
 use Rattle.field_checks.specs.Check.{WellFormed, file_pool, check_of}
-use Rattle.field_checks.specs.declared.Verdict.{Verdict}
-use Rattle.field_checks.specs.declared.Verdict.TheVariants.{Good}
 use Rattle.pieces.specs.Content.{content_of}
 use Rattle.pieces.proofs.HeadLaws.{print-other}
 use Rattle.pieces.proofs.PutLaws.{InTwo}
@@ -62,7 +62,7 @@ file-ready f flags w b h =
     }
 
 -- and so is a file that the check found good, with the flags that it left
-pub checked-ready : (f flags : List ℕ) (v : Verdict) → v ≡ check_of f → FlagsChecked f flags v → v ≡ Good → Bytes f → Rewritable f flags
+pub checked-ready : (f flags : List ℕ) (v : Result (Unit {0}) Fault) → v ≡ check_of f → FlagsChecked f flags v → v ≡ Ok tt → Bytes f → Rewritable f flags
 checked-ready f flags v e h g b = file-ready f flags (good-well-formed f (sym e ∙ g)) b (h.means g)
 
 -- the walk over f stands at a place: the fields before it make `done` of the preferred ones

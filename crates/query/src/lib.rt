@@ -3,7 +3,6 @@
 
 ghost use Rattle.std.specs.Prelude.{◌≤◌, length};
 
-use base::Wrote;
 use lines::Gathered;
 use std::io::{Read, Write};
 use std::rt::Files;
@@ -40,10 +39,10 @@ fn read_file<F: Files>(files: &F, path: &[u8], room: &mut [u8]) -> usize
 // Writes the reply to a question line, as far as `to` takes it. `out` has room for every reply.
 fn answer<W: Write>(s: &[u8], line: &[u8], out: &mut [u8], to: &mut W) {
     match line_replies::reply(s, line, out) {
-        Wrote::Length(n) => {
+        Ok(n) => {
             let _ = to.write_all(&out[..n]);
         }
-        Wrote::Refused(_) => {}
+        Err(_) => {}
     }
 }
 
@@ -93,7 +92,7 @@ fn answer_last<W: Write>(s: &[u8], held: &[u8], n: usize, out: &mut [u8], to: &m
     }
 }
 
-// Answers all lines that come from `from`. A proved loop has to end, so this one counts its turns down from a number that no run uses up.
+// Answers all lines that come from `from`. A proved loop has to end, so this one ends after a number of turns that no run uses up.
 fn answer_blocks<R: Read, W: Write>(
     s: &[u8],
     block: &mut [u8],
@@ -103,15 +102,13 @@ fn answer_blocks<R: Read, W: Write>(
     to: &mut W,
 ) {
     let mut n = 0;
-    let mut turns = u64::MAX;
-    while 0 < turns {
+    for _ in 0..u64::MAX {
         let m = read_block(from, block);
         if m == 0 {
             answer_last(s, held, n, out, to);
             return;
         }
         n = answer_block(s, &block[..m], held, n, out, to);
-        turns -= 1;
     }
 }
 

@@ -1,4 +1,7 @@
 -- The question, by the walk's outcome and the mark. Assumes nothing.
+use Rattle.base.specs.declared.Refusal.TheVariants.{OutOfRange}
+use Rattle.base.specs.Coded.{Fault}
+use Rattle.std.specs.Prelude.{Err, Result}
 use mathlib.Core.Path.{◌≡◌, refl, sym, ap, ◌∙◌}
 use mathlib.Core.List.{List}
 use Prim.Native.Nat.{ℕ}
@@ -13,7 +16,6 @@ use Rattle.questions.specs.View.{outcome_of}
 use Rattle.answers.specs.Answers.{answer_of}
 use Rattle.answers.specs.declared.Mark.{Mark}
 use Rattle.answers.specs.declared.Found.{Found}
-use Rattle.answers.specs.declared.Answer.TheVariants.{Refused}
 use Rattle.answers.specs.declared.Outcome.{Outcome}
 
 pub finish-is : {M : Type 0} (mark : Mark) (o : Out M Found) → answer_of mark (outcome_of o) ≡ finish mark o
@@ -23,7 +25,7 @@ finish-is mark (cut p) = refl
 finish-is mark (ended m p) = refl
 
 module _ (bs id : List ℕ) (z : ℤ) (mark : Mark) (ed : Edition) (t : ℕ) (e : t ≡ instant_of z) where
-  pub ask-outside : t ≡ 0 → Refused 14 0 ≡ ask bs id z mark ed
+  pub ask-outside : t ≡ 0 → ◌≡◌ {A = Result Found Fault} (Err (OutOfRange, 0)) (ask bs id z mark ed)
   unfolding ask
   ask-outside h = rw (eq-eqb (instant_of z) 0 (sym e ∙ h))
 

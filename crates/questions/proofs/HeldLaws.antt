@@ -1,4 +1,5 @@
 -- A question is the lookup of an instant in the asked zone, which is held with no instant. Assumes nothing.
+use Rattle.std.specs.Prelude.{Ok}
 use mathlib.Core.Path.{◌≡◌, refl, sym, ap, ◌∙◌}
 use mathlib.Core.List.{List}
 use Prim.Native.Nat.{ℕ}
@@ -15,7 +16,6 @@ use Rattle.frames.specs.Mapped.{map_out}
 use Rattle.answers.specs.Answers.{Pool, no_pool}
 use Rattle.answers.specs.declared.Mark.{Mark}
 use Rattle.answers.specs.declared.Found.{Found}
-use Rattle.answers.specs.declared.Answer.TheVariants.{In}
 use Rattle.locate.specs.Asked.{Held, holder, of_held}
 use Rattle.locate.proofs.HeldLaws.{walk-held, held-sound}
 use Rattle.questions.specs.Question.{answer_at, finish, ask}
@@ -33,20 +33,20 @@ module _ (bs id : List ℕ) (z : ℤ) (mark : Mark) (ed : Edition) (h : instant_
   ask-held = rw (ne_eqb (instant_of z) 0 h) (ap (finish mark) (walk-held (answer_at ed (instant_of z)) id bs))
 
   -- so one answer tells that a zone is held
-  pub ask-holding : (x : Found) → ask bs id z mark ed ≡ In x → Holding bs id
+  pub ask-holding : (x : Found) → ask bs id z mark ed ≡ Ok x → Holding bs id
   ask-holding x e = go (walk (holder id) no_pool bs) refl (sym ask-held ∙ e)
     where
       no : {A : Type 0} → ◌≡◌ {A = ℕ} 0 1 → A
       no e = absurd (omega arith)
 
-      go : (o : Out Pool Held) → walk (holder id) no_pool bs ≡ o → finish mark (map_out (of_held (answer_at ed (instant_of z))) o) ≡ In x → Holding bs id
+      go : (o : Out Pool Held) → walk (holder id) no_pool bs ≡ o → finish mark (map_out (of_held (answer_at ed (instant_of z))) o) ≡ Ok x → Holding bs id
       go (found v p) k f = record { zone = v; past = p; is = k }
       go (refused n p) k f = no cc
       go (cut p) k f = no cc
       go (ended m p) k f = no cc
 
   -- and every question in range then gives its lookup
-  pub holding-asks : (k : Holding bs id) → ask bs id z mark ed ≡ In (of_held (answer_at ed (instant_of z)) k.zone)
+  pub holding-asks : (k : Holding bs id) → ask bs id z mark ed ≡ Ok (of_held (answer_at ed (instant_of z)) k.zone)
   holding-asks k = ask-held ∙ rw k.is
 
 -- the content of a zone that is held is in its ranges

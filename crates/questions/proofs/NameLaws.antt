@@ -1,4 +1,7 @@
 -- The name of an answer is a part of the bytes that were asked, so more bytes do not change it. Assumes nothing.
+use Rattle.base.specs.declared.Refusal.TheVariants.{OutOfRange}
+use Rattle.base.specs.Coded.{Fault}
+use Rattle.std.specs.Prelude.{Err, Ok, Result}
 use mathlib.Core.Path.{◌≡◌, refl, sym, ap, ◌∙◌, subst}
 use mathlib.Core.Bool.{Bool, true, false}
 use mathlib.Core.List.{List, [], ◌∷◌, ◌++◌}
@@ -38,7 +41,6 @@ use Rattle.questions.specs.Question.{answer_at, question, finish, ask}
 use Rattle.signed.proofs.IntegerLaws.{instant-finite}
 use Rattle.answers.specs.declared.Mark.TheVariants.{More}
 use Rattle.answers.specs.declared.Found.{Found}
-use Rattle.answers.specs.declared.Answer.TheVariants.{In, Refused}
 use Rattle.base.proofs.Tests.{clash}
 
 -- a kept field leaves the pool as it was, or is the pool
@@ -129,11 +131,11 @@ module _ (bs id : List ℕ) (ed : Edition) (t : ℕ) (f : Finite t) where
       go (next m) e k = by_end (listing 1 bs).ending m k
 
 -- "The same answer: every value that it carries is equal, the name byte for byte."
-pub standing-name : (bs more id : List ℕ) (z : ℤ) (ed : Edition) (x : Found) → ask bs id z More ed ≡ In x → name_of (bs ++ more) x ≡ name_of bs x
+pub standing-name : (bs more id : List ℕ) (z : ℤ) (ed : Edition) (x : Found) → ask bs id z More ed ≡ Ok x → name_of (bs ++ more) x ≡ name_of bs x
 unfolding ask
 standing-name bs more id z ed x = go (eqb (instant_of z) 0) refl
   where
-    named : (instant_of z ≡ 0 → ⊥) → (o : Out Pool Found) → walk (question ed id (instant_of z)) no_pool bs ≡ o → finish More o ≡ In x → x.name + x.length ≤ length bs
+    named : (instant_of z ≡ 0 → ⊥) → (o : Out Pool Found) → walk (question ed id (instant_of z)) no_pool bs ≡ o → finish More o ≡ Ok x → x.name + x.length ≤ length bs
     named h (found v p) e k =
         let w : v ≡ x = cc in
         subst (λ (u : Found). u.name + u.length ≤ length bs) w (name-inside bs id ed (instant_of z) (instant-finite (instant_of z) z refl h) v p e)
@@ -141,7 +143,7 @@ standing-name bs more id z ed x = go (eqb (instant_of z) 0) refl
     named h (cut p) e k = clash cc
     named h (ended m p) e k = clash cc
 
-    go : (t : Bool) → eqb (instant_of z) 0 ≡ t → pick t (Refused 14 0) (finish More (walk (question ed id (instant_of z)) no_pool bs)) ≡ In x
+    go : (t : Bool) → eqb (instant_of z) 0 ≡ t → pick {A = Result Found Fault} t (Err (OutOfRange, 0)) (finish More (walk (question ed id (instant_of z)) no_pool bs)) ≡ Ok x
         → name_of (bs ++ more) x ≡ name_of bs x
     go true e k = clash cc
     go false e k =

@@ -1,4 +1,6 @@
 -- The question by what the walk to the asked zone and the lookup there gave. Assumes nothing.
+use Rattle.base.specs.declared.Refusal.{Refusal}
+use Rattle.std.specs.Prelude.{Err, Ok}
 use mathlib.Core.Path.{◌≡◌, sym, ap, ◌∙◌}
 use mathlib.Core.List.{List}
 use Prim.Native.Nat.{ℕ}
@@ -9,7 +11,6 @@ use Rattle.zones.specs.Editions.{under}
 use Rattle.zones.specs.Lookup.{in_zone, answer_of}
 use Rattle.zones.specs.declared.Edition.{Edition}
 use Rattle.zones.specs.declared.Found.{Found as Interval}
-use Rattle.zones.specs.declared.Answer.TheVariants.{In, Refused as Denied}
 use Rattle.frames.specs.Machine.{Out, refused, cut, ended, walk}
 use Rattle.answers.specs.Answers.{Pool, no_pool, answered}
 use Rattle.answers.specs.declared.Outcome.{Outcome}
@@ -25,7 +26,7 @@ use Rattle.questions.specs.View.{outcome_of, outcome_at}
 use Rattle.base.proofs.Tests.{clash}
 
 module _ (ed : Edition) (t : ℕ) (o : Out Pool Held) where
-  pub out-refused : (n p : ℕ) → o ≡ refused n p → Refused n p ≡ outcome_at ed t o
+  pub out-refused : (n : Refusal) (p : ℕ) → o ≡ refused n p → Refused n p ≡ outcome_at ed t o
   out-refused n p e = rw e
 
   pub out-cut : (p : ℕ) → o ≡ cut p → Cut p ≡ outcome_at ed t o
@@ -36,7 +37,7 @@ module _ (ed : Edition) (t : ℕ) (o : Out Pool Held) where
 
 -- by what was located, and by the lookup in that zone
 module _ (ed : Edition) (t : ℕ) (s : List ℕ) (m : Pool) (l : Located) where
-  pub at-refused : (n p : ℕ) → l ≡ LocatedRefused n p → Refused n p ≡ outcome_at ed t (located_out s m l)
+  pub at-refused : (n : Refusal) (p : ℕ) → l ≡ LocatedRefused n p → Refused n p ≡ outcome_at ed t (located_out s m l)
   at-refused n p e = rw e
 
   pub at_cut : (p : ℕ) → l ≡ LocatedCut p → Cut p ≡ outcome_at ed t (located_out s m l)
@@ -49,17 +50,17 @@ module _ (ed : Edition) (t : ℕ) (s : List ℕ) (m : Pool) (l : Located) where
     abbrev zone : Parsed Zone
     zone = parse_zone v.count (part v.start v.past s)
 
-    pub at-denied : (n : ℕ) → Denied n ≡ answer_of ed t zone → Refused n v.place ≡ outcome_at ed t (located_out s m l)
+    pub at-denied : (n : Refusal) → Err n ≡ answer_of ed t zone → Refused n v.place ≡ outcome_at ed t (located_out s m l)
     at-denied n e = go zone e ∙ ap (λ (x : Located). outcome_at ed t (located_out s m x)) (sym h)
       where
-        go : (p : Parsed Zone) → Denied n ≡ answer_of ed t p → Refused n v.place ≡ outcome_at ed t (zone_out v m p)
+        go : (p : Parsed Zone) → Err n ≡ answer_of ed t p → Refused n v.place ≡ outcome_at ed t (zone_out v m p)
         go (got z r) k = clash cc
-        go (bad i) k = let y : n ≡ i = cc in ap (λ (j : ℕ). Refused j v.place) y
+        go (bad i) k = let y : n ≡ i = cc in ap (λ (j : Refusal). Refused j v.place) y
 
-    pub at-found : (x : Interval) → In x ≡ answer_of ed t zone → Answered (answered m x) ≡ outcome_at ed t (located_out s m l)
+    pub at-found : (x : Interval) → Ok x ≡ answer_of ed t zone → Answered (answered m x) ≡ outcome_at ed t (located_out s m l)
     at-found x e = go zone e ∙ ap (λ (y : Located). outcome_at ed t (located_out s m y)) (sym h)
       where
-        go : (p : Parsed Zone) → In x ≡ answer_of ed t p → Answered (answered m x) ≡ outcome_at ed t (zone_out v m p)
+        go : (p : Parsed Zone) → Ok x ≡ answer_of ed t p → Answered (answered m x) ≡ outcome_at ed t (zone_out v m p)
         go (got z r) k = let y : x ≡ in_zone t (under ed z) = cc in ap (λ (i : Interval). Answered (answered m i)) y
         go (bad i) k = clash cc
 

@@ -13,7 +13,7 @@ ghost use Rattle.questions.specs.View.{outcome_of, outcome_at};
 
 use answers::Outcome;
 use locate::{First, Located};
-use zones::{Answer as ZoneAnswer, Edition};
+use zones::Edition;
 
 // What a walk comes to at the instant t under an edition, by what it located; the data of field 0 is s[d..e].
 pub fn answer_at(
@@ -36,8 +36,8 @@ pub fn answer_at(
             let from = v.start;
             let to = v.past;
             match zone_lookups::find(&s[from..to], v.count as u64, t, edition) {
-                ZoneAnswer::Refused(n) => Outcome::Refused(n, v.place),
-                ZoneAnswer::In(x) => Outcome::Answered(answers::answered(&s[d..e], starts, d, x)),
+                Err(n) => Outcome::Refused(n, v.place),
+                Ok(x) => Outcome::Answered(answers::answered(&s[d..e], starts, d, x)),
             }
         }
     }

@@ -9,6 +9,7 @@ use lib.ListN.{length, take, drop, length-drop, length-take, length-append}
 use lib.Seq.{drop-drop, drop-append_seam}
 use lib.Dec.{leb}
 use borrow.Author.Tests.{leb-true, le-leb}
+use Rattle.base.specs.declared.Refusal.{Refusal}
 use Rattle.base.specs.Pick.{pick}
 use Rattle.frames.specs.Fields.{refused_at, listing, unfinished}
 use Rattle.extents.specs.declared.Extent.{Extent}
@@ -181,7 +182,7 @@ module _ (d : List ℕ) (cs : List Call) (ps : List (List ℕ)) where
   grows = rw (run-append (start d) cs (in_pieces ps)) (made-longer earlier (length d) _ ps (made-run (start d) (length d) [] cs (made-start d))).grown
 
   -- "where 4 to 7 at an ID or size stops the walk, that ID byte for good"; and 0 after 3
-  pub for-good : (k q : ℕ) → (listing 255 (held_in earlier)).ending ≡ refused_at k q → later.receiver.place ≡ earlier.receiver.place
+  pub for-good : (k : Refusal) (q : ℕ) → (listing 255 (held_in earlier)).ending ≡ refused_at k q → later.receiver.place ≡ earlier.receiver.place
   for-good k q e =
       let h = receives d cs in
       let w = receives d (cs ++ in_pieces ps) in

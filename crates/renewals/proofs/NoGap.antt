@@ -1,4 +1,6 @@
 -- ASK 12: NO GAP FROM FIRST TO LAST. Assumes nothing.
+use Rattle.std.specs.Prelude.{Ok, Result}
+use Rattle.base.specs.Coded.{Fault}
 use mathlib.Core.Path.{◌≡◌, sym, ◌∙◌}
 use mathlib.Core.List.{List, []}
 use Prim.Native.Nat.{ℕ}
@@ -19,8 +21,6 @@ use Rattle.field_checks.specs.Check.{WellFormed, file_pool}
 use Rattle.answers.specs.declared.Mark.{Mark}
 use Rattle.answers.specs.declared.Mark.TheVariants.{All}
 use Rattle.answers.specs.declared.Found.{Found}
-use Rattle.answers.specs.declared.Answer.{Answer}
-use Rattle.answers.specs.declared.Answer.TheVariants.{In}
 use Rattle.questions.specs.Question.{ask}
 use Rattle.questions.proofs.HeldLaws.{Holding, ask-holding, holding-asks, holding-sound}
 use Rattle.demands.specs.Zones.{ZoneIn, Asked}
@@ -37,7 +37,7 @@ module _ (ed : Edition) (f id : List ℕ) where
       let n : ℕ = length (strings_of k.zone.pool.body) in
       let w : Zone = under ed k.zone.zone in
       let ok : Sound n w = under-sound ed n k.zone.zone (holding-sound f id k) in
-      let whole : ℤ → Answer = λ z. ask f id z All ed in
+      let whole : ℤ → (Result Found Fault) = λ z. ask f id z All ed in
       let g : (xs : List Found) × NoGap whole xs =
       held-no-gap n w ok k.zone.pool whole (λ z r. holding-asks f id z All ed r k) end_of_time (omega arith) in
       record {
@@ -48,7 +48,7 @@ module _ (ed : Edition) (f id : List ℕ) where
       }
 
   -- OF ANY BYTES: where a question is answered at one instant in range, there is no gap
-  pub answered-gapless : (z : ℤ) (mark : Mark) (x : Found) → InRange z → ask f id z mark ed ≡ In x → GaplessAt ed f id
+  pub answered-gapless : (z : ℤ) (mark : Mark) (x : Found) → InRange z → ask f id z mark ed ≡ Ok x → GaplessAt ed f id
   answered-gapless z mark x r e = holding-gapless (ask-holding f id z mark ed r x e)
 
   -- of the asked zone, where the file has one

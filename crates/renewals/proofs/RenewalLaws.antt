@@ -1,5 +1,7 @@
 -- Of a zone that is held: asking again at each interval's end meets every instant once, and a screen so renewed shows what is answered. It
 -- is the zone's partition (zones/proofs/PartitionLaws.antt, EndLaws.antt), step by step. Assumes nothing.
+use Rattle.std.specs.Prelude.{Ok, Result}
+use Rattle.base.specs.Coded.{Fault}
 use mathlib.Core.Path.{◌≡◌, refl, sym, ap, ◌∙◌, subst}
 use mathlib.Core.List.{List, [], ◌∷◌, map}
 use Prim.Native.Nat.{ℕ, zero, suc, ◌+◌, ◌≤◌, ◌<◌}
@@ -23,8 +25,6 @@ use Rattle.zones.proofs.PartitionLaws.{lookup-holds}
 use Rattle.zones.proofs.EndLaws.{zone-end, holds, same_at, end-finite, next-start}
 use Rattle.answers.specs.Answers.{Pool, answered}
 use Rattle.answers.specs.declared.Found.{Found}
-use Rattle.answers.specs.declared.Answer.{Answer}
-use Rattle.answers.specs.declared.Answer.TheVariants.{In}
 use Rattle.wall_times.specs.WallTime.{Ascending}
 use Rattle.renewals.specs.Renewal.{end_of, Renewed, last, again, Meets, Once, here, there, Joined, alone, before, SameBetween, NoGap, shown, Screen}
 use Rattle.renewals.proofs.OrderLaws.{to_le, of_le, to-lt, of_lt}
@@ -33,15 +33,15 @@ pub in-ticks : (t : ℕ) → Finite t → InRange (ticks_of t)
 in-ticks t g e = omega (arith, g.low, instant-ticks t g)
 
 -- a question that at every instant in range looks it up in the zone w, whose names are in the pool p
-module _ (n : ℕ) (w : Zone) (ok : Sound n w) (p : Pool) (q : ℤ → Answer) (asks : (z : ℤ) → InRange z → q z ≡ In (answered p (in_zone (instant_of z) w))) where
+module _ (n : ℕ) (w : Zone) (ok : Sound n w) (p : Pool) (q : ℤ → Result Found Fault) (asks : (z : ℤ) → InRange z → q z ≡ Ok (answered p (in_zone (instant_of z) w))) where
   abbrev at : ℕ → Interval
   at t = in_zone t w
 
   abbrev given : ℕ → Found
   given t = answered p (at t)
 
-  asks_at : (t : ℕ) → Finite t → q (ticks_of t) ≡ In (given t)
-  asks_at t g = asks (ticks_of t) (in-ticks t g) ∙ ap (λ (u : ℕ). In (given u)) (instant-ticks t g)
+  asks_at : (t : ℕ) → Finite t → q (ticks_of t) ≡ Ok (given t)
+  asks_at t g = asks (ticks_of t) (in-ticks t g) ∙ ap (λ (u : ℕ). Ok (given u)) (instant-ticks t g)
 
   module _ (z : ℤ) (r : InRange z) where
     finite : Finite (instant_of z)
@@ -62,8 +62,8 @@ module _ (n : ℕ) (w : Zone) (ok : Sound n w) (p : Pool) (q : ℤ → Answer) (
         record { from = of_le (at t).start (instant_of z) finite k.from; to = of_lt (at t).end (instant_of z) finite k.to }
 
     -- whatever interval holds the instant, its answer is given there
-    holds-answer : (t : ℕ) → Finite t → Holds (at t) (instant_of z) → q z ≡ In (given t)
-    holds-answer t g h = asks z r ∙ ap (λ (x : Interval). In (answered p x)) (same_at n w ok t g (instant_of z) finite h)
+    holds-answer : (t : ℕ) → Finite t → Holds (at t) (instant_of z) → q z ≡ Ok (given t)
+    holds-answer t g h = asks z r ∙ ap (λ (x : Interval). Ok (answered p x)) (same_at n w ok t g (instant_of z) finite h)
 
   -- the answers from the instant t on
   record From (t : ℕ) : Type 0 where
@@ -74,7 +74,7 @@ module _ (n : ℕ) (w : Zone) (ok : Sound n w) (p : Pool) (q : ℤ → Answer) (
     early : (z : ℤ) → InRange z → instant_of z < (at t).start → All (λ x. Meets x z → ⊥) (given t ∷ rest)
     met-once : (z : ℤ) → InRange z → (at t).start ≤ instant_of z → Once (λ x. Meets x z) (given t ∷ rest)
     same : All (SameBetween q) (given t ∷ rest)
-    shows : (z : ℤ) → InRange z → (at t).start ≤ instant_of z → q z ≡ In (shown (given t) rest z)
+    shows : (z : ℤ) → InRange z → (at t).start ≤ instant_of z → q z ≡ Ok (shown (given t) rest z)
 
   same-between : (t : ℕ) → Finite t → SameBetween q (given t)
   same-between t g z r m = holds-answer z r t g (met z r t m)
@@ -120,7 +120,7 @@ module _ (n : ℕ) (w : Zone) (ok : Sound n w) (p : Pool) (q : ℤ → Answer) (
             (λ (b : instant_of z < (at t).end). here (meets z r t (record { from = h; to = b })) (v.early z r (omega (arith, s))))
             (λ (b : (at t).end ≤ instant_of z). there (λ m. omega (arith, (met z r t m).to)) (v.met-once z r (omega (arith, s))));
         same = all-also (same-between t g) v.same;
-        shows = λ z r h. pick-holds (λ (x : Found). q z ≡ In x) (lt_z z (ticks_of (at t).end))
+        shows = λ z r h. pick-holds (λ (x : Found). q z ≡ Ok x) (lt_z z (ticks_of (at t).end))
             (λ e. holds-answer z r t g (record { from = h; to = ltb-true (instant_of z) (at t).end (sym (until t z r) ∙ e) }))
             (λ e. v.shows z r (omega (arith, s, ltb-false (instant_of z) (at t).end (sym (until t z r) ∙ e))));
       }

@@ -1,4 +1,6 @@
 -- What is shown of a question holds of one that gives the same at every instant in range. And the answers are the only ones. Assumes nothing.
+use Rattle.std.specs.Prelude.{Result}
+use Rattle.base.specs.Coded.{Fault}
 use mathlib.Core.Path.{◌≡◌, sym, ap, ◌∙◌, subst}
 use mathlib.Core.List.{List, [], ◌∷◌}
 use native.Mathlib.Omega.{arith}
@@ -6,14 +8,13 @@ use lib.IntN.{ℤ}
 use Rattle.base.proofs.AllLaws.{all_map}
 use Rattle.signed.specs.Instant.{biased_of, InRange, instant_of}
 use Rattle.answers.specs.declared.Found.{Found}
-use Rattle.answers.specs.declared.Answer.{Answer}
 use Rattle.renewals.specs.Renewal.{first_tick, no_end, end_of, renewal, Renewed, last, again, NoGap, Screen}
 
 pub first-in-range : InRange first_tick
 unfolding biased_of
 first-in-range e = omega arith
 
-module _ (q r : ℤ → Answer) (e : (z : ℤ) → InRange z → r z ≡ q z) where
+module _ (q r : ℤ → Result Found Fault) (e : (z : ℤ) → InRange z → r z ≡ q z) where
   renewed-same : (z : ℤ) → InRange z → (xs : List Found) → Renewed q z xs → Renewed r z xs
   renewed-same z i _ (last a b) = last (e z i ∙ a) b
   renewed-same z i _ (again {x = x} {xs = xs} a k v) = again (e z i ∙ a) k (renewed-same (renewal x) k xs v)
@@ -43,7 +44,7 @@ end-out z e = ap instant_of e
 not-again : (x : Found) {G : Type 0} → end_of x ≡ no_end → InRange (renewal x) → G
 not-again x e r = absurd (r (end-out (renewal x) e))
 
-pub renewed-one : (q : ℤ → Answer) (z : ℤ) (xs ys : List Found) → Renewed q z xs → Renewed q z ys → xs ≡ ys
+pub renewed-one : (q : ℤ → Result Found Fault) (z : ℤ) (xs ys : List Found) → Renewed q z xs → Renewed q z ys → xs ≡ ys
 renewed-one q z _ _ (last {x = x} a e) (last {x = y} b g) = let p : x ≡ y = cc in ap (λ (u : Found). u ∷ []) p
 renewed-one q z _ _ (last {x = x} a e) (again {x = y} b r w) =
     let p : x ≡ y = cc in not-again y (subst (λ (u : Found). end_of u ≡ no_end) p e) r

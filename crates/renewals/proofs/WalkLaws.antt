@@ -1,4 +1,6 @@
 -- The computed walk gives the answers of Ask 12, and no others. Assumes nothing.
+use Rattle.base.specs.Coded.{Fault}
+use Rattle.std.specs.Prelude.{Err, Ok, Result}
 use mathlib.Core.Path.{◌≡◌, refl, ap, ◌∙◌}
 use mathlib.Core.Bool.{Bool, true, false}
 use mathlib.Core.List.{List, [], ◌∷◌}
@@ -11,13 +13,11 @@ use borrow.Author.Tests.{eq-eqb, ne_eqb, eqb-false}
 use Rattle.base.specs.Pick.{pick}
 use Rattle.signed.specs.Instant.{InRange, instant_of}
 use Rattle.answers.specs.declared.Found.{Found}
-use Rattle.answers.specs.declared.Answer.{Answer}
-use Rattle.answers.specs.declared.Answer.TheVariants.{In, Refused}
 use Rattle.renewals.specs.Renewal.{no_end, Renewed, last, again}
 use Rattle.renewals.specs.Walk.{onward, answers_from, last_end}
 use Rattle.renewals.proofs.SameLaws.{end-out}
 
-module _ (q : ℤ → Answer) where
+module _ (q : ℤ → Result Found Fault) where
   -- as many questions as there are answers are enough
   pub renewed-answers : (n : ℕ) (z : ℤ) (xs : List Found) → Renewed q z xs → length xs ≤ n → answers_from n q z ≡ xs
   unfolding answers_from
@@ -36,9 +36,9 @@ module _ (q : ℤ → Answer) where
   answers-renewed zero z r e = out z e r
   answers-renewed (suc n) z r e = go (λ y i g. answers-renewed n y i g) (q z) refl e
     where
-      go : ((y : ℤ) → InRange y → last_end y (answers_from n q y) ≡ no_end → Renewed q y (answers_from n q y)) → (a : Answer) → q z ≡ a → last_end z (onward (answers_from n q) a) ≡ no_end → Renewed q z (onward (answers_from n q) a)
-      go rest (Refused k p) f e = out z e r
-      go rest (In x) f e = by (eqb (instant_of x.end) 0) refl e
+      go : ((y : ℤ) → InRange y → last_end y (answers_from n q y) ≡ no_end → Renewed q y (answers_from n q y)) → (a : Result Found Fault) → q z ≡ a → last_end z (onward (answers_from n q) a) ≡ no_end → Renewed q z (onward (answers_from n q) a)
+      go rest (Err (k, p)) f e = out z e r
+      go rest (Ok x) f e = by (eqb (instant_of x.end) 0) refl e
         where
           by : (b : Bool) → eqb (instant_of x.end) 0 ≡ b → last_end x.end (pick b [] (answers_from n q x.end)) ≡ no_end
               → Renewed q z (x ∷ pick b [] (answers_from n q x.end))

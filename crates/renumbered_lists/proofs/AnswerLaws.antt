@@ -1,4 +1,8 @@
 -- A location's answer says the same where the pool numbers are renumbered. Assumes nothing.
+use Rattle.base.specs.declared.Refusal.{Refusal}
+use Rattle.std.specs.declared.option.Option.{Option}
+use Rattle.std.specs.declared.option.Option.TheVariants.{None, Some}
+use Rattle.std.specs.Prelude.{Err, Ok, Result}
 use mathlib.Core.Path.{◌≡◌, refl, sym, ap, ◌∙◌}
 use mathlib.Core.List.{List, [], ◌∷◌, map}
 use Prim.Native.Nat.{ℕ, zero, suc, ◌≤◌}
@@ -15,13 +19,9 @@ use Rattle.locations.specs.Find.{numbered, sought_of}
 use Rattle.locations.specs.declared.Country.{Country}
 use Rattle.locations.specs.declared.LocationField.{LocationField}
 use Rattle.locations.specs.declared.Spot.{Spot}
-use Rattle.locations.specs.declared.Sought.{Sought}
-use Rattle.locations.specs.declared.Sought.TheVariants.{Here as There, Beyond, Refused as Unread}
 use Rattle.countries.specs.Step.{item, given}
-use Rattle.countries.specs.declared.Item.TheVariants.{NoMore as NoItem}
 use Rattle.countries.proofs.OrderLaws.{many-length, StepsInOrder, in_order}
 use Rattle.field_search.specs.Search.{field_place}
-use Rattle.field_search.specs.declared.FieldPlace.TheVariants.{At}
 use Rattle.location_lookup.specs.Location.{lent_part, text_in, located_at, answer_in, in_field}
 use Rattle.mentions.specs.Content.{numbers_of, renumbered}
 use Rattle.mentions.specs.Renumbers.{Renumbers}
@@ -50,22 +50,22 @@ module _ (ρ : ℕ → ℕ) (ts us : List (List ℕ)) (d e : List ℕ) where
     pub zone-in : InBoth ρ ts us x.zone
     pub comment-in : InBoth ρ ts us x.comment
     pub countries : List Country
-    pub old : (k : ℕ) → given d x.at x.left k ≡ get_or (map item countries) k NoItem
-    pub new : (k : ℕ) → given e y.at y.left k ≡ get_or (map item (map (renamed_country ρ) countries)) k NoItem
+    pub old : (k : ℕ) → given d x.at x.left k ≡ get_or (map item countries) k None
+    pub new : (k : ℕ) → given e y.at y.left k ≡ get_or (map item (map (renamed_country ρ) countries)) k None
     pub countries-in : All (CountryNamed ρ ts us) countries
 
-  abbrev pub FoundTo : Sought → Sought → Type 0
-  FoundTo (There x) (There y) = SameSpot x y
-  FoundTo (There x) Beyond = ⊥
-  FoundTo (There x) (Unread k) = ⊥
-  FoundTo Beyond (There y) = ⊥
-  FoundTo Beyond Beyond = Unit {0}
-  FoundTo Beyond (Unread k) = ⊥
-  FoundTo (Unread k) (There y) = ⊥
-  FoundTo (Unread k) Beyond = ⊥
-  FoundTo (Unread k) (Unread j) = j ≡ k
+  abbrev pub FoundTo : Result (Option Spot) Refusal → Result (Option Spot) Refusal → Type 0
+  FoundTo (Ok (Some x)) (Ok (Some y)) = SameSpot x y
+  FoundTo (Ok (Some x)) (Ok None) = ⊥
+  FoundTo (Ok (Some x)) (Err k) = ⊥
+  FoundTo (Ok None) (Ok (Some y)) = ⊥
+  FoundTo (Ok None) (Ok None) = Unit {0}
+  FoundTo (Ok None) (Err k) = ⊥
+  FoundTo (Err k) (Ok (Some y)) = ⊥
+  FoundTo (Err k) (Ok None) = ⊥
+  FoundTo (Err k) (Err j) = j ≡ k
 
-  pub record SameFound (a b : Sought) : Type 0 where
+  pub record SameFound (a b : Result (Option Spot) Refusal) : Type 0 where
     pub means : FoundTo a b
 
   numbered-same : (field : LocationField) (number : ℕ) (ls : List Location) → All (LocationNamed ρ ts us) ls → All (StepsInOrder d) ls
@@ -104,13 +104,13 @@ sought-renumbered ρ ts us field number d e ls h few a q =
 
 -- THE SAME ANSWER: the pool of f goes from b to c and the field from a to e, those of g from b' to c' and from a' to e'
 module _ (f g : List ℕ) (ρ : ℕ → ℕ) (ts us : List (List ℕ)) (z b c z' b' c' : ℕ)
-    (pool : field_place 0 f ≡ At z b c) (pool' : field_place 0 g ≡ At z' b' c')
+    (pool : field_place 0 f ≡ Some (z, b, c)) (pool' : field_place 0 g ≡ Some (z', b', c'))
     (strings : parse_pool (lent_part f b c) ≡ got ts []) (strings' : parse_pool (lent_part g b' c') ≡ got us []) where
   text_same : (k : ℕ) → InBoth ρ ts us k → bytes_at g (text_in g b' c' (ρ k)) ≡ bytes_at f (text_in f b c k)
   text_same k h = text-bytes g b' c' us (ρ k) strings' h.new.inside ∙ h.new.same ∙ sym (text-bytes f b c ts k strings h.old)
 
   items-same : (cs : List Country) (k : ℕ) → All (CountryNamed ρ ts us) cs
-      → item_texts g z' b' c' pool' (get_or (map item (map (renamed_country ρ) cs)) k NoItem) ≡ item_texts f z b c pool (get_or (map item cs) k NoItem)
+      → item_texts g z' b' c' pool' (get_or (map item (map (renamed_country ρ) cs)) k None) ≡ item_texts f z b c pool (get_or (map item cs) k None)
   items-same [] k a = refl
   items-same (c ∷ cs) zero a = rw (text_same c.name (all_head a).name, text_same c.code (all_head a).code)
   items-same (c ∷ cs) (suc k) a = items-same cs k (all_tail a)
@@ -131,17 +131,17 @@ module _ (f g : List ℕ) (ρ : ℕ → ℕ) (ts us : List (List ℕ)) (z b c z'
             ∙ sym (shown-given f z b c pool a e x.at x.left k ∙ ap (item_texts f z b c pool) (s.old k));
       }
 
-  answer-same : (p a e p' a' e' : ℕ) (x y : Sought) → SameFound ρ ts us (lent_part f a e) (lent_part g a' e') x y
+  answer-same : (p a e p' a' e' : ℕ) (x y : Result (Option Spot) Refusal) → SameFound ρ ts us (lent_part f a e) (lent_part g a' e') x y
       → SameAnswer f g (answer_in f b c p a e x) (answer_in g b' c' p' a' e' y)
-  answer-same p a e p' a' e' (There x) (There y) h = record { means = located-same a e a' e' x y h.means }
-  answer-same p a e p' a' e' (There x) Beyond h = absurd h.means
-  answer-same p a e p' a' e' (There x) (Unread k) h = absurd h.means
-  answer-same p a e p' a' e' Beyond (There y) h = absurd h.means
-  answer-same p a e p' a' e' Beyond Beyond h = record { means = refl }
-  answer-same p a e p' a' e' Beyond (Unread k) h = absurd h.means
-  answer-same p a e p' a' e' (Unread k) (There y) h = absurd h.means
-  answer-same p a e p' a' e' (Unread k) Beyond h = absurd h.means
-  answer-same p a e p' a' e' (Unread k) (Unread j) h = record { means = h.means }
+  answer-same p a e p' a' e' (Ok (Some x)) (Ok (Some y)) h = record { means = located-same a e a' e' x y h.means }
+  answer-same p a e p' a' e' (Ok (Some x)) (Ok None) h = absurd h.means
+  answer-same p a e p' a' e' (Ok (Some x)) (Err k) h = absurd h.means
+  answer-same p a e p' a' e' (Ok None) (Ok (Some y)) h = absurd h.means
+  answer-same p a e p' a' e' (Ok None) (Ok None) h = record { means = refl }
+  answer-same p a e p' a' e' (Ok None) (Err k) h = absurd h.means
+  answer-same p a e p' a' e' (Err k) (Ok (Some y)) h = absurd h.means
+  answer-same p a e p' a' e' (Err k) (Ok None) h = absurd h.means
+  answer-same p a e p' a' e' (Err k) (Err j) h = record { means = h.means }
 
   pub field-same : (field : LocationField) (number : ℕ) (ls : List Location) (p a e p' a' e' : ℕ)
       → parse_locations field (length ts) (lent_part f a e) ≡ got ls []

@@ -1,4 +1,5 @@
 -- Locations say the same where their numbers are renumbered. Assumes nothing.
+use Rattle.base.specs.declared.Refusal.TheVariants.{BadLocation}
 use mathlib.Core.Path.{◌≡◌, refl, sym, ap, ◌∙◌, subst}
 use mathlib.Core.Bool.{Bool, true, false}
 use mathlib.Core.List.{List, [], ◌∷◌, ◌++◌, append-nil, map}
@@ -45,12 +46,12 @@ seconds most s v r e =
     let x = bind-good (parse read_zigzag s) (judge_seconds most) v r e in
     let w : ℕ = x.first in
     let q : List ℕ = x.rest in
-    let t = pick_good (within most (unzigzag_of w)) (got w q) 20 v r x.on in
+    let t = pick_good (within most (unzigzag_of w)) (got w q) BadLocation v r x.on in
     by-got (Seconds most s) t.1
     (record {
       front =
           both-front (parse read_zigzag) (judge_seconds most) s w q w q (zigzag-front s w q x.is)
-          (test-front (within most (unzigzag_of w)) 20 (λ y. got w y) q w q t.0 (got-front w q));
+          (test-front (within most (unzigzag_of w)) BadLocation (λ y. got w y) q w q t.0 (got-front w q));
       over = x.is;
     })
 
@@ -68,7 +69,7 @@ positive v n s r e = go (eqb (v % 2) 0) refl
         let u = unzigzag-even v (eqb-true (v % 2) 0 q) in
         let f : got (v / 2) s ≡ got n r = rw u at e in
         (u ∙ ap pos (got-value f), got-value f, got-rest f)
-    go false q = let f : bad 20 ≡ got n r = rw (unzigzag-odd v (eqb-false (v % 2) 0 q)) at e in bad-got f
+    go false q = let f : bad BadLocation ≡ got n r = rw (unzigzag-odd v (eqb-false (v % 2) 0 q)) at e in bad-got f
 
 number : (field : LocationField) (s : List ℕ) (n : ℕ) (r : List ℕ) → parse_number field s ≡ got n r → Number field s n r
 unfolding parse_number judge_number not_negative numbered_names

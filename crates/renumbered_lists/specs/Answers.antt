@@ -1,14 +1,14 @@
 -- When two answers to a question for a location, of two files, say the same: "every question answers as before, places aside". Texts are
 -- compared by their bytes. To be believed.
-use Rattle.std.specs.Prelude.{ℕ, zero, suc, ◌≡◌, List, take, drop}
+use Rattle.location_lookup.specs.declared.Pair.{Pair}
+use Rattle.std.specs.declared.option.Option.{Option as Maybe}
+use Rattle.std.specs.declared.option.Option.TheVariants.{None, Some}
+use Rattle.base.specs.Coded.{Fault}
+use Rattle.std.specs.Prelude.{ℕ, zero, suc, ◌≡◌, List, take, drop, Err, Ok, Result}
 use Rattle.std.proofs.Math.Option.{Option, none, some}
 use Rattle.pool.specs.declared.Span.{Span}
 use Rattle.location_lookup.specs.Country.{next_of}
 use Rattle.location_lookup.specs.declared.Located.{Located}
-use Rattle.location_lookup.specs.declared.LocationAnswer.{LocationAnswer}
-use Rattle.location_lookup.specs.declared.LocationAnswer.TheVariants.{Here, Refused}
-use Rattle.location_lookup.specs.declared.NextPair.{NextPair}
-use Rattle.location_lookup.specs.declared.NextPair.TheVariants.{Given, NoMore}
 
 -- the bytes of a text of the file f
 abbrev pub bytes_at : List ℕ → Span → List ℕ
@@ -19,14 +19,14 @@ pub record CountryTexts : Type 0 where
   pub name : List ℕ
   pub code : List ℕ
 
-abbrev pub texts_in : List ℕ → NextPair → Option CountryTexts
-texts_in f (Given p) = some (record { name = bytes_at f p.name; code = bytes_at f p.code })
-texts_in f NoMore = none
+abbrev pub texts_in : List ℕ → Maybe Pair → Option CountryTexts
+texts_in f (Some p) = some (record { name = bytes_at f p.name; code = bytes_at f p.code })
+texts_in f None = none
 
 -- a step leads to the next country; "then no more" stays
-abbrev pub behind_step : NextPair → (ℕ → ℕ → Option CountryTexts) → Option CountryTexts
-behind_step (Given p) go = go p.at p.left
-behind_step NoMore go = none
+abbrev pub behind_step : Maybe Pair → (ℕ → ℕ → Option CountryTexts) → Option CountryTexts
+behind_step (Some p) go = go p.at p.left
+behind_step None go = none
 
 -- what the k-th step of a view of f gives, from 0: "the picker can step through its countries, each name and code once in file order, then no more"
 unfoldable pub shown : List ℕ → ℕ → ℕ → ℕ → ℕ → ℕ → Option CountryTexts
@@ -41,13 +41,13 @@ pub record SameLocated (f g : List ℕ) (x y : Located) : Type 0 where
   pub left : y.left ≡ x.left
   pub countries : (k : ℕ) → shown g y.start y.end y.at y.left k ≡ shown f x.start x.end x.at x.left k
 
--- a refusal by its number, its place aside
-abbrev pub SameTo : List ℕ → List ℕ → LocationAnswer → LocationAnswer → Type 0
-SameTo f g (Here x) (Here y) = SameLocated f g x y
-SameTo f g (Here x) (Refused m q) = ⊥
-SameTo f g (Refused n p) (Here y) = ⊥
-SameTo f g (Refused n p) (Refused m q) = m ≡ n
+-- a refusal, its place aside
+abbrev pub SameTo : List ℕ → List ℕ → Result Located Fault → Result Located Fault → Type 0
+SameTo f g (Ok x) (Ok y) = SameLocated f g x y
+SameTo f g (Ok x) (Err (m, q)) = ⊥
+SameTo f g (Err (n, p)) (Ok y) = ⊥
+SameTo f g (Err (n, p)) (Err (m, q)) = m ≡ n
 
 -- the answer a of f and the answer b of g
-pub record SameAnswer (f g : List ℕ) (a b : LocationAnswer) : Type 0 where
+pub record SameAnswer (f g : List ℕ) (a b : Result Located Fault) : Type 0 where
   pub means : SameTo f g a b

@@ -1,4 +1,5 @@
 -- The listed intervals of a zone read the same with other pool numbers, and the walk over mentions meets their names. Assumes nothing.
+use Rattle.base.specs.declared.Refusal.TheVariants.{BadInterval}
 use mathlib.Core.Path.{◌≡◌, refl, ap, ◌∙◌, subst}
 use mathlib.Core.Bool.{true}
 use mathlib.Core.List.{List, [], ◌∷◌}
@@ -35,7 +36,7 @@ module _ (ρ : ℕ → ℕ) (pool pool' : ℕ) (few : pool' ≤ 8192) where
     parts-read e₁ j₁ e₂ e₃ e₄ j₂ f =
         then-reads ρ (after_start pool' prev)
         (code_reads ρ (behind_start prev (suc n)) (parse (read_moment prev)) to-name s m r refl (moment-front s m r prev e₁) (rw at_name (omega arith)))
-        (test-reads ρ (rises prev m) 10 j₁
+        (test-reads ρ (rises prev m) BadInterval j₁
         (then-reads ρ (after_name m) (name-reads ρ (to-name m) r (Inside m n) k t at_name pool pool' few e₂ f)
         (then-reads ρ (after_wall m (ρ k))
         (code_reads ρ (ahead_of (Inside m n)) (parse read_sum) to-savings t w u refl (sum-front t w u e₃)
@@ -59,7 +60,7 @@ module _ (ρ : ℕ → ℕ) (pool pool' : ℕ) (few : pool' ≤ 8192) where
   interval-reads n prev s i q e =
       let a = bind-good (parse (read_moment prev) s) (after_start pool prev) i q e in
       let m : ℕ = a.first in
-      let b = pick_good (rises prev m) (parse_details pool m a.rest) 10 i q a.on in
+      let b = pick_good (rises prev m) (parse_details pool m a.rest) BadInterval i q a.on in
       let c = bind-good (parse_name pool a.rest) (after_name m) i q b.1 in
       let k : ℕ = c.first in
       let d = bind-good (parse read_sum c.rest) (after_wall m k) i q c.on in
@@ -67,7 +68,7 @@ module _ (ρ : ℕ → ℕ) (pool pool' : ℕ) (few : pool' ≤ 8192) where
       let f = bind-good (parse read_sum d.rest) (judge_standard m k w) i q d.on in
       let v : ℕ = f.first in
       let x : Interval = record { start = m; name = k; wall = w; savings = v } in
-      let g = pick_good (in_day (standard_sum w v)) (got x f.rest) 10 i q f.on in
+      let g = pick_good (in_day (standard_sum w v)) (got x f.rest) BadInterval i q f.on in
       subst
       (λ (y : Interval). ρ y.name < pool'
       → Reads ρ (behind_start prev (suc n)) s (parse_interval pool' prev) (renamed_interval ρ y) (y.name ∷ []) (behind_start y.start n) q)

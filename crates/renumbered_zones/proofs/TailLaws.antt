@@ -1,4 +1,5 @@
 -- The tail of a zone reads the same with other pool numbers, and the walk over mentions meets its two names. Assumes nothing.
+use Rattle.base.specs.declared.Refusal.TheVariants.{BadRecurrence}
 use mathlib.Core.Path.{◌≡◌, refl, sym, ap, ◌∙◌, subst}
 use mathlib.Core.Bool.{true}
 use mathlib.Core.List.{List, [], ◌∷◌}
@@ -46,13 +47,13 @@ rule-row s x q e =
     subst (λ (o : Rule). RuleRow s o q) p.made (record {
       front =
           both-front parse_byte after_byte s b r₁ y q (byte-front s b r₁ p.byte-is)
-          (test-front (byte_ok b) 11 (parse_month b) r₁ y q p.judged.byte-ok
+          (test-front (byte_ok b) BadRecurrence (parse_month b) r₁ y q p.judged.byte-ok
           (both-front (parse read_count) (after_month b) r₁ m r₂ y q (count-front r₁ m r₂ p.month-is)
-          (test-front (month_ok m) 11 (parse_day b m) r₂ y q p.judged.month-ok
+          (test-front (month_ok m) BadRecurrence (parse_day b m) r₂ y q p.judged.month-ok
           (both-front (parse read_zigzag) (after_day b m) r₂ z r₃ y q (zigzag-front r₂ z r₃ p.day-is)
-          (test-front (day_ok m z) 11 (parse_time b m z) r₃ y q p.judged.day-ok
+          (test-front (day_ok m z) BadRecurrence (parse_time b m z) r₃ y q p.judged.day-ok
           (both-front (parse read_sum) (after_time b m z) r₃ t q y q (sum-front r₃ t q p.time-is)
-          (test-front (time_ok t) 11 (λ o. got y o) q y q p.judged.time-ok (got-front y q))))))));
+          (test-front (time_ok t) BadRecurrence (λ o. got y o) q y q p.judged.time-ok (got-front y q))))))));
       over = over-rule s b r₁ m r₂ z r₃ t q p.byte-is p.month-is p.day-is p.time-is;
     })
 
@@ -108,7 +109,7 @@ module _ (ρ : ℕ → ℕ) (pool pool' : ℕ) (few : pool' ≤ 8192) (start : �
       let k : ℕ = b.first in
       let c = bind-good (parse_rule b.rest) (parse_savings x k) n [] b.on in
       let d = bind-good (parse read_sum c.rest) (after_savings x k c.first) n [] c.on in
-      let t = pick_good (sum_ok x.offset d.first) (got (tail_of x k c.first d.first) d.rest) 11 n [] d.on in
+      let t = pick_good (sum_ok x.offset d.first) (got (tail_of x k c.first d.first) d.rest) BadRecurrence n [] d.on in
       subst
       (λ (y : NamedTail). ρ y.standard < pool' → ρ y.daylight < pool'
       → Reads ρ to_standard s (parse_tail pool' start) (renamed_tail ρ y) (y.standard ∷ y.daylight ∷ []) (ahead_of Rest) [])

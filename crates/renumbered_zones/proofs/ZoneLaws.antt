@@ -1,5 +1,6 @@
 -- THE LAWS OF A RENUMBERED ZONE: the walk over mentions meets its pool numbers, and its renumbered data are those of the zone with these numbers
 -- renumbered. Assumes nothing.
+use Rattle.base.specs.declared.Refusal.TheVariants.{BadData, BadInterval, TooLarge}
 use mathlib.Core.Path.{◌≡◌, refl, sym, ap, ◌∙◌, subst, subst⁻¹}
 use mathlib.Core.Bool.{Bool, true, false}
 use mathlib.Core.List.{List, [], ◌∷◌, ◌++◌}
@@ -136,13 +137,13 @@ module _ (ρ : ℕ → ℕ) (pool pool' : ℕ) (few : pool' ≤ 8192) where
         → Ends (to_tail 0) s (after_tail_byte pool' (ρ id) (renamed_intervals ρ is) end 0) z
     unfolding after_tail_byte ending_names renamed_ending
     untailed-ends s z e =
-        let a = pick_good (eqb end end_of_time) (zone_of id (listed is end untailed) s) 10 z [] e in
+        let a = pick_good (eqb end end_of_time) (zone_of id (listed is end untailed) s) BadInterval z [] e in
         let o = zone-is id (listed is end untailed) s z a.1 in
         record {
           ending = untailed;
           zone = o.0;
           reads = λ f.
-              test-reads ρ (eqb end end_of_time) 10 a.0
+              test-reads ρ (eqb end end_of_time) BadInterval a.0
               (last-reads ρ (to_tail 0) s Rest (zone_of (ρ id) (listed (renamed_intervals ρ is) end untailed)) _ refl
               (ap (zone_of (ρ id) (listed (renamed_intervals ρ is) end untailed)) o.1
               ∙ zone-ends (ρ id) (listed (renamed_intervals ρ is) end untailed)));
@@ -152,7 +153,7 @@ module _ (ρ : ℕ → ℕ) (pool pool' : ℕ) (few : pool' ≤ 8192) where
         → Ends (to_tail 1) s (after_tail_byte pool' (ρ id) (renamed_intervals ρ is) end 1) z
     unfolding after_tail_byte parse_tailed after_tail ending_names renamed_ending
     tailed-ends s z e =
-        let a = pick_good (both (ltb (behind start_of end_of_time is) end) (ltb end end_of_time)) (parse_tailed pool id is end s) 10 z [] e in
+        let a = pick_good (both (ltb (behind start_of end_of_time is) end) (ltb end end_of_time)) (parse_tailed pool id is end s) BadInterval z [] e in
         let b = bind-good (parse_tail pool end s) (after_tail id is end) z [] a.1 in
         let n : NamedTail = b.first in
         let o = zone-is id (listed is end (tailed n)) b.rest z b.on in
@@ -162,7 +163,7 @@ module _ (ρ : ℕ → ℕ) (pool pool' : ℕ) (few : pool' ≤ 8192) where
           ending = tailed n;
           zone = o.0;
           reads = λ f.
-              test-reads ρ _ 10 t
+              test-reads ρ _ BadInterval t
               (then-reads ρ (after_tail (ρ id) (renamed_intervals ρ is) end)
               (tail-reads ρ pool pool' few end s n (b.is ∙ ap (got n) o.1) (all_head f) (all_head (all_tail f)))
               (last-reads ρ (ahead_of Rest) [] Rest (after_tail (ρ id) (renamed_intervals ρ is) end _) _ (at_rest []) (zone-ends (ρ id) _)));
@@ -174,8 +175,8 @@ module _ (ρ : ℕ → ℕ) (pool pool' : ℕ) (few : pool' ≤ 8192) where
     byte-ends b s z e = go (eqb b 0) (eqb b 1) refl refl e
       where
         go : (t u : Bool) → eqb b 0 ≡ t → eqb b 1 ≡ u
-            → pick t (pick (eqb end end_of_time) (zone_of id (listed is end untailed) s) (bad 10))
-            (pick u (pick (both (ltb (behind start_of end_of_time is) end) (ltb end end_of_time)) (parse_tailed pool id is end s) (bad 10)) (bad 9))
+            → pick t (pick (eqb end end_of_time) (zone_of id (listed is end untailed) s) (bad BadInterval))
+            (pick u (pick (both (ltb (behind start_of end_of_time is) end) (ltb end end_of_time)) (parse_tailed pool id is end s) (bad BadInterval)) (bad BadData))
             ≡ got z []
             → Ends (to_tail b) s (after_tail_byte pool' (ρ id) (renamed_intervals ρ is) end b) z
         go true u i j k =
@@ -207,8 +208,8 @@ module _ (ρ : ℕ → ℕ) (pool pool' : ℕ) (few : pool' ≤ 8192) where
     listed-reads s z e =
         let a = bind-good (parse read_count s) (after_count pool id) z [] e in
         let n : ℕ = a.first in
-        let b = pick-bad (eqb n 0) _ 10 z [] a.on in
-        let c = pick-bad (ltb 4096 n) _ 4 z [] b.1 in
+        let b = pick-bad (eqb n 0) _ BadInterval z [] a.on in
+        let c = pick-bad (ltb 4096 n) _ TooLarge z [] b.1 in
         let d = bind-good (many (parse_interval pool) start_of n end_of_time a.rest) (after_intervals pool id) z [] c.1 in
         let is : List Interval = d.first in
         let last : ℕ = behind start_of end_of_time is in
@@ -251,7 +252,7 @@ module _ (ρ : ℕ → ℕ) (pool pool' : ℕ) (few : pool' ≤ 8192) where
     unfolding after_flag
     flag-reads flag s z e = go (eqb flag 1) (eqb flag 2) refl refl e
       where
-        go : (t u : Bool) → eqb flag 1 ≡ t → eqb flag 2 ≡ u → pick t (parse_fixed pool id s) (pick u (parse_listed pool id s) (bad 9)) ≡ got z []
+        go : (t u : Bool) → eqb flag 1 ≡ t → eqb flag 2 ≡ u → pick t (parse_fixed pool id s) (pick u (parse_listed pool id s) (bad BadData)) ≡ got z []
             → Rereads (to_rest flag) s (after_flag pool' (ρ id) flag) z
         go true u i j k = subst⁻¹ (λ (c : ℕ). Rereads (to_rest c) s (after_flag pool' (ρ id) c) z) (eqb-true flag 1 i) (fixed_reads id s z k)
         go false true i j k = subst⁻¹ (λ (c : ℕ). Rereads (to_rest c) s (after_flag pool' (ρ id) c) z) (eqb-true flag 2 j) (listed-reads s z k)

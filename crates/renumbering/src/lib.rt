@@ -10,8 +10,7 @@ ghost use Rattle.mentions.specs.Content.{content_at, print, numbers_of, renumber
 ghost use Rattle.renumbering.specs.Run.{Small, MeasuredRun, WrittenRun};
 ghost use Rattle.renumbering.specs.Table.{Fits};
 
-use base::{Read, Wrote};
-use mentions::{Mentioned, Stage};
+use mentions::Stage;
 
 // The new number of k.
 pub fn renumber(table: &[u32], k: usize) -> u64
@@ -53,7 +52,7 @@ fn size_intervals(s: &[u8], at: usize, start: u64, left: u64, table: &[u32]) -> 
             };
         }
         match places::count_at(s, p) {
-            Read::Refused(_) => {
+            Err(_) => {
                 return SizedRun {
                     place: place,
                     start: last,
@@ -61,7 +60,7 @@ fn size_intervals(s: &[u8], at: usize, start: u64, left: u64, table: &[u32]) -> 
                     size: size,
                 };
             }
-            Read::Value(v, e) => {
+            Ok((v, e)) => {
                 let k = renumber(table, v as usize);
                 size += (p - place) + count_writers::count_size(k);
                 place = e;
@@ -103,14 +102,14 @@ fn size_names(
     let mut size: usize = 0;
     while 0 < n {
         match places::count_at(s, place) {
-            Read::Refused(_) => {
+            Err(_) => {
                 return SizedRow {
                     place: place,
                     left: n,
                     size: size,
                 };
             }
-            Read::Value(v, e) => {
+            Ok((v, e)) => {
                 let k = renumber(table, v as usize);
                 size += count_writers::count_size(k);
                 place = e;
@@ -169,8 +168,8 @@ pub fn write_number(v: u64, out: &mut [u8]) -> usize
     ensures { Put (write_count v) out.old result out.new }
 {
     match count_writers::write_count(v, out) {
-        Wrote::Refused(_) => 0,
-        Wrote::Length(n) => n,
+        Err(_) => 0,
+        Ok(n) => n,
     }
 }
 
@@ -211,7 +210,7 @@ fn write_intervals(
             };
         }
         match places::count_at(s, p) {
-            Read::Refused(_) => {
+            Err(_) => {
                 return SizedRun {
                     place: place,
                     start: last,
@@ -219,7 +218,7 @@ fn write_intervals(
                     size: w,
                 };
             }
-            Read::Value(v, e) => {
+            Ok((v, e)) => {
                 let k = renumber(table, v as usize);
                 w += write_mention(&s[place..p], k, &mut out[w..]);
                 place = e;
@@ -254,14 +253,14 @@ fn write_names(
     let mut w: usize = 0;
     while 0 < n {
         match places::count_at(s, place) {
-            Read::Refused(_) => {
+            Err(_) => {
                 return SizedRow {
                     place: place,
                     left: n,
                     size: w,
                 };
             }
-            Read::Value(v, e) => {
+            Ok((v, e)) => {
                 let k = renumber(table, v as usize);
                 w += write_number(k, &mut out[w..]);
                 place = e;
@@ -319,10 +318,10 @@ pub fn count(i: u8, s: &[u8], uses: &mut [u32])
         let behind_run = c.stage;
         let m = mention_steps::next(s, place, behind_run);
         match m {
-            Mentioned::Nothing => {
+            None => {
                 return;
             }
-            Mentioned::Here(behind, v, _, e) => {
+            Some((behind, v, _, e)) => {
                 mention_runs::mention(uses, v as usize);
                 at = e;
                 stage = behind;
@@ -346,10 +345,10 @@ pub fn size(i: u8, s: &[u8], table: &[u32]) -> usize
         n += c.size;
         let m = mention_steps::next(s, place, behind_run);
         match m {
-            Mentioned::Nothing => {
+            None => {
                 return n + (s.len() - place);
             }
-            Mentioned::Here(behind, v, p, e) => {
+            Some((behind, v, p, e)) => {
                 let k = renumber(table, v as usize);
                 n += (p - place) + count_writers::count_size(k);
                 at = e;
@@ -374,10 +373,10 @@ pub fn write(i: u8, s: &[u8], table: &[u32], out: &mut [u8]) -> usize
         w += c.size;
         let m = mention_steps::next(s, place, behind_run);
         match m {
-            Mentioned::Nothing => {
+            None => {
                 return w + slices::copy(&s[place..], &mut out[w..]);
             }
-            Mentioned::Here(behind, v, p, e) => {
+            Some((behind, v, p, e)) => {
                 let k = renumber(table, v as usize);
                 w += write_mention(&s[place..p], k, &mut out[w..]);
                 at = e;

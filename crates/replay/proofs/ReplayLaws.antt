@@ -1,4 +1,9 @@
 -- Replaying record by record. Assumes nothing.
+use Rattle.std.specs.declared.option.Option.{Option}
+use Rattle.std.specs.declared.option.Option.TheVariants.{None, Some}
+use Rattle.base.specs.Coded.{Fault}
+use Rattle.std.specs.Prelude.{Err, Ok, Result}
+use Rattle.base.specs.declared.Refusal.TheVariants.{BadTrace}
 use mathlib.Core.Path.{◌≡◌, refl, sym, ap, ◌∙◌, subst}
 use mathlib.Core.Bool.{Bool, true, false}
 use mathlib.Core.List.{List}
@@ -22,8 +27,6 @@ use Rattle.trace_records.specs.declared.Taken.{Taken}
 use Rattle.trace_records.proofs.KeptLaws.{none-ok, still-true}
 use Rattle.replay.specs.Reports.{first_wrong, replay}
 use Rattle.replay.specs.View.{Records}
-use Rattle.replay.specs.declared.Report.{Report}
-use Rattle.replay.specs.declared.Report.TheVariants.{Record, Nothing, Refused}
 
 -- a record's name lies in the trace
 module _ (s : List ℕ) (names : ℕ) where
@@ -80,19 +83,19 @@ module _ (f : List ℕ) (d e names : ℕ) (s : List ℕ) (n at : ℕ) where
         go zero h = absurd (omega arith)
         go (suc m) h = let w : m ≡ suc m - 1 = omega arith in rw a (ap (λ (k : ℕ). first_wrong f names s k (i + 1) (place + 20)) w)
 
-    pub going-wrong : agrees f names s place ≡ false → Record i ≡ first_wrong f names s n 0 at
+    pub going-wrong : agrees f names s place ≡ false → Ok (Some i) ≡ first_wrong f names s n 0 at
     unfolding first_wrong
     going-wrong a = sym (g.same ∙ go left h)
       where
-        go : (m : ℕ) → 0 < m → first_wrong f names s m i place ≡ Record i
+        go : (m : ℕ) → 0 < m → first_wrong f names s m i place ≡ Ok (Some i)
         go zero h = absurd (omega arith)
         go (suc m) h = rw a refl
 
-  pub going_done : (left i place : ℕ) → Going left i place → left ≡ 0 → Nothing ≡ first_wrong f names s n 0 at
+  pub going_done : (left i place : ℕ) → Going left i place → left ≡ 0 → Ok None ≡ first_wrong f names s n 0 at
   unfolding first_wrong
   going_done left i place g h = sym (g.same ∙ go left h)
     where
-      go : (m : ℕ) → m ≡ 0 → first_wrong f names s m i place ≡ Nothing
+      go : (m : ℕ) → m ≡ 0 → first_wrong f names s m i place ≡ Ok None
       go zero h = refl
       go (suc m) h = absurd (omega arith)
 
@@ -142,11 +145,11 @@ module _ (f : List ℕ) (d e names : ℕ) (s : List ℕ) (n at : ℕ) where
         latest = t.kept;
       }
 
-      pub replayed-wrong : r.agrees ≡ false → Record i ≡ first_wrong f names s n 0 at
+      pub replayed-wrong : r.agrees ≡ false → Ok (Some i) ≡ first_wrong f names s n 0 at
       replayed-wrong a = going-wrong left i place g.going h (sym t.agreed ∙ a)
 
 module _ (f s : List ℕ) where
-  pub replay-bad : false ≡ trace_ok s → Refused 21 0 ≡ replay f s
+  pub replay-bad : false ≡ trace_ok s → ◌≡◌ {A = Result (Option ℕ) Fault} (Err (BadTrace, 0)) (replay f s)
   unfolding replay
   replay-bad e = rw (sym e) refl
 
@@ -155,7 +158,7 @@ module _ (f s : List ℕ) where
   replay-good e = rw (sym e) refl
 
   -- by the numbers of the header
-  pub replay-read : (n at names : ℕ) (r : Report) → r ≡ first_wrong f names s n 0 at → n ≡ record_count s → at ≡ records_at s → names ≡ names_at s
+  pub replay-read : (n at names : ℕ) (r : Result (Option ℕ) Fault) → r ≡ first_wrong f names s n 0 at → n ≡ record_count s → at ≡ records_at s → names ≡ names_at s
       → true ≡ trace_ok s → r ≡ replay f s
   replay-read n at names r e a b c h =
       e ∙ ap (λ (u : ℕ). first_wrong f u s n 0 at) c ∙ ap (λ (u : ℕ). first_wrong f (names_at s) s u 0 at) a

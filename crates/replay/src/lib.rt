@@ -10,18 +10,10 @@ ghost use Rattle.traces.specs.Trace.{name_start, name_length, name_at};
 ghost use Rattle.replay.specs.Reports.{first_wrong, replay as replay_of};
 ghost use Rattle.replay.specs.View.{reached_zone, PoolRead, Records};
 
+use base::{Fault, Refusal};
 use found_zones::FoundZone;
 use locate::First;
-use pool::Checked;
 use trace_records::{Kept, PassedZones, ReachedZone};
-
-// The number of the first such record, from 0, or none; or the number and the place of a refusal.
-#[derive(Clone, Copy)]
-pub enum Report {
-    Record(u64),
-    Nothing,
-    Refused(u8, usize),
-}
 
 // A number of the record's name, by which its zone is kept; never 0.
 fn key(s: &[u8], names: usize, at: usize) -> u32
@@ -112,7 +104,7 @@ fn in_zones(
     names: usize,
     n: u64,
     at: usize,
-) -> Report
+) -> Result<Option<u64>, Fault>
     requires { Records s.now names n at × PoolRead f.now d e × Ready (part d e f.now) starts.now × (count ≡ length (strings_of (part d e f.now))) }
     ensures { result ≡ first_wrong f.now names s.now n 0 at }
 {
@@ -149,14 +141,14 @@ fn in_zones(
                     i += 1;
                     place += 20;
                 } else {
-                    return Report::Record(i);
+                    return Ok(Some(i));
                 }
             } else {
                 let r = reach_name(
                     f, starts, d, e, count, s, names, place, &mut order, &mut froms, &mut tos, p,
                 );
                 if r.end == 0 {
-                    return Report::Record(i);
+                    return Ok(Some(i));
                 }
                 p = r.passed;
                 let v = reached_zone(d, e, r.start, r.end);
@@ -169,12 +161,12 @@ fn in_zones(
                     i += 1;
                     place += 20;
                 } else {
-                    return Report::Record(i);
+                    return Ok(Some(i));
                 }
             }
         }
     }
-    Report::Nothing
+    Ok(None)
 }
 
 // The same of a file whose field 0 has the data f[d..e]; starts gets the index of its strings.
@@ -187,18 +179,26 @@ fn in_pool(
     n: u64,
     at: usize,
     starts: &mut [u32],
-) -> Report
+) -> Result<Option<u64>, Fault>
     requires { (0 < n) × Records s.now names n at × PoolAt f.now d e × (room_of (part d e f.now) ≤ length starts.old) }
     ensures { result ≡ first_wrong f.now names s.now n 0 at }
 {
     match pool::check_pool(&f[d..e], starts) {
-        Checked::Refused(_) => Report::Record(0),
-        Checked::Strings(k) => in_zones(f, &*starts, d, e, k, s, names, n, at),
+        Err(_) => Ok(Some(0)),
+        Ok(k) => in_zones(f, &*starts, d, e, k, s, names, n, at),
     }
 }
 
 // The same with an index of its own.
-fn indexed(f: &[u8], d: usize, e: usize, s: &[u8], names: usize, n: u64, at: usize) -> Report
+fn indexed(
+    f: &[u8],
+    d: usize,
+    e: usize,
+    s: &[u8],
+    names: usize,
+    n: u64,
+    at: usize,
+) -> Result<Option<u64>, Fault>
     requires { (0 < n) × Records s.now names n at × PoolAt f.now d e }
     ensures { result ≡ first_wrong f.now names s.now n 0 at }
 {
@@ -207,23 +207,23 @@ fn indexed(f: &[u8], d: usize, e: usize, s: &[u8], names: usize, n: u64, at: usi
 }
 
 // The same of any file. Where field 0 can't be read, every question is refused.
-fn first_wrong(f: &[u8], s: &[u8], names: usize, n: u64, at: usize) -> Report
+fn first_wrong(f: &[u8], s: &[u8], names: usize, n: u64, at: usize) -> Result<Option<u64>, Fault>
     requires { Records s.now names n at }
     ensures { result ≡ first_wrong f.now names s.now n 0 at }
 {
     if n == 0 {
-        return Report::Nothing;
+        return Ok(None);
     }
     match first_fields::read_first(f) {
-        First::Refused(_, _) => Report::Record(0),
-        First::Cut(_) => Report::Record(0),
-        First::End(_) => Report::Record(0),
+        First::Refused(_, _) => Ok(Some(0)),
+        First::Cut(_) => Ok(Some(0)),
+        First::End(_) => Ok(Some(0)),
         First::Pool(d, e) => indexed(f, d, e, s, names, n, at),
     }
 }
 
-// The first record of the trace s whose shown offset isn't the file's, or whose question the file refuses.
-pub fn replay(f: &[u8], s: &[u8]) -> Report
+// The number, from 0, of the first record of the trace s whose shown offset isn't the file's, or whose question the file refuses; or none.
+pub fn replay(f: &[u8], s: &[u8]) -> Result<Option<u64>, Fault>
     ensures { result ≡ replay_of f.now s.now }
 {
     if traces::trace_ok(s) {
@@ -232,5 +232,5 @@ pub fn replay(f: &[u8], s: &[u8]) -> Report
         let names = count_readers::four_at(s, 12) as usize;
         return first_wrong(f, s, names, n, at);
     }
-    Report::Refused(21, 0)
+    Err((Refusal::BadTrace, 0))
 }

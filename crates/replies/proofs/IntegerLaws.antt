@@ -1,4 +1,6 @@
 -- The count of a signed number. Assumes nothing.
+use Rattle.std.specs.Prelude.{Err}
+use Rattle.base.specs.declared.Refusal.TheVariants.{BadCode}
 use mathlib.Core.Path.{◌≡◌, refl}
 use mathlib.Core.Bool.{true, false}
 use mathlib.Core.List.{List}
@@ -10,12 +12,11 @@ use borrow.Author.Tests.{ltb-true}
 use mir.Syntax.{w64}
 use mir.Val.{SFits}
 use Rattle.base.specs.Writing.{wrote, placed, Writes}
-use Rattle.base.specs.declared.Wrote.TheVariants.{Refused}
 use Rattle.base.proofs.Tests.{never}
 use Rattle.replies.specs.Functions.{integer_form}
 
 -- below 0
-pub negative : (v : ℤ) (d : List ℕ) → lt_z v (pos 0) ≡ true → Writes (integer_form v) d (Refused 7) d
+pub negative : (v : ℤ) (d : List ℕ) → lt_z v (pos 0) ≡ true → Writes (integer_form v) d (Err BadCode) d
 unfolding wrote placed
 negative (pos n) d e = absurd (omega (arith, ltb-true n 0 e))
 negative (negsuc n) d e = (refl, refl)

@@ -1,39 +1,54 @@
 -- What the inner functions ask: that each number fits where it goes. The C functions ask nothing. To be believed by none:
 -- each is proved where it is asked.
-use Rattle.std.specs.Prelude.{◌≤◌, ◌<◌, ◌^◌}
-use Rattle.base.specs.declared.Read.{Read}
-use Rattle.base.specs.declared.Read.TheVariants.{Value, Refused as Unread}
-use Rattle.base.specs.declared.Wrote.{Wrote}
-use Rattle.base.specs.declared.Wrote.TheVariants.{Length, Refused as Unwritten}
-use Rattle.signed.specs.declared.Number.{Number}
-use Rattle.signed.specs.declared.Number.TheVariants.{Value as Signed, Refused as NoNumber}
-use Rattle.texts.specs.declared.Text.{Text}
-use Rattle.texts.specs.declared.Text.TheVariants.{Part, Refused as Untext}
+use Rattle.base.specs.declared.Refusal.{Refusal}
+use Rattle.base.specs.Coded.{Coded, Fault}
+use Rattle.std.specs.Prelude.{◌≤◌, ◌<◌, ◌^◌, Err, Ok, Result, ℕ, ℤ}
 
-abbrev pub ReadTo : Read → Type 0
-ReadTo (Value v n) = (v < 2 ^ 63) × (n < 2 ^ 63)
-ReadTo (Unread k) = Unit {0}
+abbrev pub ReadTo : Coded ℕ → Type 0
+ReadTo (Ok (v, n)) = (v < 2 ^ 63) × (n < 2 ^ 63)
+ReadTo (Err k) = Unit {0}
 
-pub record SmallRead (c : Read) : Type 0 where
+pub record SmallRead (c : Coded ℕ) : Type 0 where
   pub to : ReadTo c
 
-abbrev pub NumberTo : Number → Type 0
-NumberTo (Signed z n) = n < 2 ^ 63
-NumberTo (NoNumber k) = Unit {0}
+abbrev pub NumberTo : Coded ℤ → Type 0
+NumberTo (Ok (z, n)) = n < 2 ^ 63
+NumberTo (Err k) = Unit {0}
 
-pub record SmallNumber (c : Number) : Type 0 where
+pub record SmallNumber (c : Coded ℤ) : Type 0 where
   pub to : NumberTo c
 
-abbrev pub TextTo : Text → Type 0
-TextTo (Part a n) = (a < 2 ^ 63) × (n < 2 ^ 63)
-TextTo (Untext k) = Unit {0}
+abbrev pub TextTo : Result (ℕ × ℕ) Refusal → Type 0
+TextTo (Ok (a, n)) = (a < 2 ^ 63) × (n < 2 ^ 63)
+TextTo (Err k) = Unit {0}
 
-pub record SmallText (t : Text) : Type 0 where
+pub record SmallText (t : Result (ℕ × ℕ) Refusal) : Type 0 where
   pub to : TextTo t
 
-abbrev pub WroteTo : Wrote → Type 0
-WroteTo (Length n) = n ≤ 4194304
-WroteTo (Unwritten k) = Unit {0}
+abbrev pub WroteTo : Result ℕ Refusal → Type 0
+WroteTo (Ok n) = n ≤ 4194304
+WroteTo (Err k) = Unit {0}
 
-pub record SmallWrote (w : Wrote) : Type 0 where
+pub record SmallWrote (w : Result ℕ Refusal) : Type 0 where
   pub to : WroteTo w
+
+abbrev pub LengthTo : Result ℕ Fault → Type 0
+LengthTo (Ok n) = n ≤ 4194304
+LengthTo (Err (k, p)) = p ≤ 4194304
+
+pub record SmallLength (x : Result ℕ Fault) : Type 0 where
+  pub to : LengthTo x
+
+abbrev pub CountTo : Result ℕ Fault → Type 0
+CountTo (Ok n) = n < 2 ^ 63
+CountTo (Err (k, p)) = p ≤ 4194304
+
+pub record SmallCount (x : Result ℕ Fault) : Type 0 where
+  pub to : CountTo x
+
+abbrev pub PairTo : Result (ℕ × ℕ) Fault → Type 0
+PairTo (Ok (a, n)) = (a < 2 ^ 63) × (n < 2 ^ 63)
+PairTo (Err (k, p)) = p ≤ 4194304
+
+pub record SmallPair (x : Result (ℕ × ℕ) Fault) : Type 0 where
+  pub to : PairTo x

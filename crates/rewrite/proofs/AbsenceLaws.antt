@@ -1,5 +1,8 @@
 -- A fixed zone without a name and one with a name, be it the ID's number, are never of the same content, and the preferred file has no
 -- name where its source has none. Assumes nothing.
+use Rattle.std.specs.Prelude.{Err, Ok}
+use Rattle.base.specs.Coded.{Coded}
+use Rattle.base.specs.declared.Refusal.TheVariants.{BadData, BadInterval, BadText, TooLarge}
 use mathlib.Core.Path.{◌≡◌, refl, sym, ap, ◌∙◌, subst}
 use mathlib.Core.Bool.{Bool, true, false}
 use mathlib.Core.List.{List, [], ◌∷◌, ◌++◌, append-nil, append_assoc}
@@ -12,8 +15,6 @@ use borrow.Author.Tests.{eqb-true}
 use Rattle.base.specs.Pick.{pick, both}
 use Rattle.base.specs.Parsed.{got, bad, behind_code, parse, parse_byte, ended, many, behind}
 use Rattle.base.specs.Moment.{end_of_time}
-use Rattle.base.specs.declared.Read.{Read}
-use Rattle.base.specs.declared.Read.TheVariants.{Value, Refused}
 use Rattle.base.proofs.Parts.{Bytes}
 use Rattle.base.proofs.ByteLaws.{cons-bytes, tail-bytes}
 use Rattle.base.proofs.ParseLaws.{got-value, bad-got, bind-good, pick_good, pick-bad, ended-good}
@@ -75,7 +76,7 @@ unfolding after_tail_byte
 ending-listed pool id is end b s z q e = go (eqb b 0) (eqb end end_of_time) (eqb b 1) (both (ltb (behind start_of end_of_time is) end) (ltb end end_of_time)) e
   where
     go : (t u v w : Bool)
-        → pick t (pick u (zone_of id (listed is end untailed) s) (bad 10)) (pick v (pick w (parse_tailed pool id is end s) (bad 10)) (bad 9)) ≡ got z q
+        → pick t (pick u (zone_of id (listed is end untailed) s) (bad BadInterval)) (pick v (pick w (parse_tailed pool id is end s) (bad BadInterval)) (bad BadData)) ≡ got z q
         → IsListed z.body
     go true true v w k = zone-listed id (listed is end untailed) s z q tt k
     go true false v w k = bad-got k
@@ -87,8 +88,8 @@ list-listed : (pool id : ℕ) (s : List ℕ) (z : Zone) (q : List ℕ) → parse
 unfolding parse_listed after_count after_intervals after_end
 list-listed pool id s z q e =
     let a = bind-good (parse read_count s) (after_count pool id) z q e in
-    let f = pick-bad (eqb a.first 0) _ 10 z q a.on in
-    let g = pick-bad (ltb 4096 a.first) _ 4 z q f.1 in
+    let f = pick-bad (eqb a.first 0) _ BadInterval z q a.on in
+    let g = pick-bad (ltb 4096 a.first) _ TooLarge z q f.1 in
     let h = bind-good (many (parse_interval pool) start_of a.first end_of_time a.rest) (after_intervals pool id) z q g.1 in
     let i = bind-good (parse (read_moment (behind start_of end_of_time h.first)) h.rest) (after_end pool id h.first) z q h.on in
     let j = bind-good (parse_byte i.rest) (after_tail_byte pool id h.first i.first) z q i.on in
@@ -99,18 +100,18 @@ name-written : (pool : ℕ) (s : List ℕ) (n : ℕ) (r : List ℕ) → parse_na
 unfolding parse_name judge_name
 name-written pool s n r e =
     let a = bind-good (parse read_count s) (judge_name pool) n r e in
-    let t = pick_good (ltb a.first pool) (got a.first a.rest) 8 n r a.on in
+    let t = pick_good (ltb a.first pool) (got a.first a.rest) BadText n r a.on in
     let i : a.first ≡ n = got-value t.1 in
     let l : ltb n pool ≡ true = subst (λ (y : ℕ). ltb y pool ≡ true) i t.0 in
     let h : n ≤ 2147483647 = subst (λ (y : ℕ). y ≤ 2147483647) i (small (read_count s) refl a.first a.rest a.is) in
     let w : parse read_count (write_count n ++ []) ≡ got n [] = rw (count-written n [] h, drop-append_seam (write_count n) []) in
     rw (ap (parse read_count) (sym (append-nil (write_count n))) ∙ w, l)
   where
-    small : (x : Read) → x ≡ read_count s → (v : ℕ) (q : List ℕ) → behind_code s x ≡ got v q → v ≤ 2147483647
-    small (Value v m) h w q k =
+    small : (x : Coded ℕ) → x ≡ read_count s → (v : ℕ) (q : List ℕ) → behind_code s x ≡ got v q → v ≤ 2147483647
+    small (Ok (v, m)) h w q k =
         let j : v ≡ w = cc in
         subst (λ (y : ℕ). y ≤ 2147483647) j (counted s h).small
-    small (Refused m) h w q k = bad-got k
+    small (Err m) h w q k = bad-got k
 
 no_name : (pool n : ℕ) → parse_name pool [] ≡ got n [] → ⊥
 unfolding parse_name read_groups
@@ -167,7 +168,7 @@ name-behind pool d id offset b e =
         absurd (two-names id offset i o m.first (sym (ended-good (fixed_zone i o (present m.first)) (fixed_zone id offset absent) m.rest [] m.on).0))
 
     go : (i : ℕ) (r : List ℕ) → NameFront pool d i r → parse_name pool (write_count i) ≡ got i [] → (flag : ℕ) (s : List ℕ) → parse_byte r ≡ got flag s → (t u : Bool) → eqb flag 1 ≡ t
-        → pick t (parse_fixed pool i s) (pick u (parse_listed pool i s) (bad 9)) ≡ got (fixed_zone id offset absent) []
+        → pick t (parse_fixed pool i s) (pick u (parse_listed pool i s) (bad BadData)) ≡ got (fixed_zone id offset absent) []
         → parse_zone pool (d ++ write_count id) ≡ got (fixed_zone id offset (present id)) []
     go i r n p flag s h true u j k =
         let c = bind-good (parse read_sum s) (after_fixed_offset pool i) (fixed_zone id offset absent) [] k in

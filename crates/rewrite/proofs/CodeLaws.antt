@@ -1,4 +1,6 @@
 -- Codes that were read from the front of some bytes: they read the same in front of any others. Assumes nothing.
+use Rattle.std.specs.Prelude.{Err, Ok}
+use Rattle.base.specs.Coded.{Coded}
 use mathlib.Core.Path.{◌≡◌, refl, ap, subst}
 use mathlib.Core.List.{List, [], ◌∷◌, ◌++◌}
 use mathlib.Core.Logic.{◌⊎◌, inl, inr}
@@ -7,8 +9,6 @@ use native.Mathlib.Omega.{arith}
 use lib.ListN.{length, drop, length-drop}
 use lib.Seq.{drop-append_seam}
 use Rattle.base.specs.Parsed.{Parsed, got, behind_code, parse, parse_byte}
-use Rattle.base.specs.declared.Read.{Read}
-use Rattle.base.specs.declared.Read.TheVariants.{Value, Refused}
 use Rattle.base.proofs.Parts.{Bytes}
 use Rattle.base.proofs.ByteLaws.{tail-bytes, drop-bytes}
 use Rattle.base.proofs.ParseLaws.{bad-got}
@@ -27,13 +27,13 @@ pub record Front {A : Type 0} (p : List ℕ → Parsed A) (s : List ℕ) (a : A)
   pub bytes : Bytes r
 
 -- a code whose form is unique
-module _ (read : List ℕ → Read) (write : ℕ → List ℕ)
-    (form : (s : List ℕ) (v n : ℕ) → Bytes s → Value v n ≡ read s → (s ≡ write v ++ drop n s) × ((x : List ℕ) → read (write v ++ x) ≡ Value v (length (write v)))) where
+module _ (read : List ℕ → Coded ℕ) (write : ℕ → List ℕ)
+    (form : (s : List ℕ) (v n : ℕ) → Bytes s → Ok (v, n) ≡ read s → (s ≡ write v ++ drop n s) × ((x : List ℕ) → read (write v ++ x) ≡ Ok (v, length (write v)))) where
   code-front : (s : List ℕ) (v : ℕ) (r : List ℕ) → Bytes s → parse read s ≡ got v r → Front (parse read) s v r
   code-front s v r b e = go (read s) refl e
     where
-      go : (x : Read) → x ≡ read s → behind_code s x ≡ got v r → Front (parse read) s v r
-      go (Value w n) h k =
+      go : (x : Coded ℕ) → x ≡ read s → behind_code s x ≡ got v r → Front (parse read) s v r
+      go (Ok (w, n)) h k =
           let f = form s w n b h in
           let i : w ≡ v = cc in
           let j : drop n s ≡ r = cc in
@@ -43,7 +43,7 @@ module _ (read : List ℕ → Read) (write : ℕ → List ℕ)
             again = λ x. subst (λ (y : ℕ). parse read (write y ++ x) ≡ got y x) i (rw (f.1 x, drop-append_seam (write w) x));
             bytes = subst Bytes j (drop-bytes n s b);
           }
-      go (Refused n) h k = bad-got k
+      go (Err n) h k = bad-got k
 
 pub count-front : (s : List ℕ) (v : ℕ) (r : List ℕ) → Bytes s → parse read_count s ≡ got v r → Front (parse read_count) s v r
 count-front =
@@ -82,8 +82,8 @@ moment-renewed prev s m r b e = go (read_moment prev s) refl e
     same w n (inl k) l e = k.form
     same w n (inr k) l e = absurd (omega (arith, k.less))
 
-    go : (x : Read) → x ≡ read_moment prev s → behind_code s x ≡ got m r → Renewed prev s m r
-    go (Value w n) h k =
+    go : (x : Coded ℕ) → x ≡ read_moment prev s → behind_code s x ≡ got m r → Renewed prev s m r
+    go (Ok (w, n)) h k =
         let i : w ≡ m = cc in
         let j : drop n s ≡ r = cc in
         let t = moment-read prev s h in
@@ -96,4 +96,4 @@ moment-renewed prev s m r b e = go (read_moment prev s) refl e
           bytes = drop-bytes n s b;
         } in
         subst (λ (y : ℕ). Renewed prev s y r) i (subst (λ (y : List ℕ). Renewed prev s w y) j z)
-    go (Refused n) h k = bad-got k
+    go (Err n) h k = bad-got k

@@ -1,4 +1,5 @@
 -- The listed intervals of a zone and its end transition, in their preferred form: they parse as the same. Assumes nothing.
+use Rattle.base.specs.declared.Refusal.TheVariants.{BadInterval, BadText}
 use mathlib.Core.Path.{◌≡◌, refl, sym, ap, ◌∙◌, subst}
 use mathlib.Core.Bool.{true}
 use mathlib.Core.List.{List, [], ◌∷◌, ◌++◌, append-nil, append_assoc}
@@ -28,7 +29,7 @@ pub name-front : (pool : ℕ) (s : List ℕ) (k : ℕ) (r : List ℕ) → Bytes 
 unfolding parse_name judge_name
 name-front pool s k r b e =
     let a = bind-good (parse read_count s) (judge_name pool) k r e in
-    let t = pick_good (ltb a.first pool) (got a.first a.rest) 8 k r a.on in
+    let t = pick_good (ltb a.first pool) (got a.first a.rest) BadText k r a.on in
     let i : a.first ≡ k = got-value t.1 in
     let j : a.rest ≡ r = got-rest t.1 in
     let l : ltb k pool ≡ true = subst (λ (y : ℕ). ltb y pool ≡ true) i t.0 in
@@ -54,7 +55,7 @@ details-front pool m s i r b e =
     let w = sum-front a.rest c.first c.rest n.code.bytes c.is in
     let d = bind-good (parse read_sum c.rest) (judge_standard m a.first c.first) i r c.on in
     let v = sum-front c.rest d.first d.rest w.bytes d.is in
-    let o = pick_good (in_day (standard_sum c.first d.first)) (got (record { start = m; name = a.first; wall = c.first; savings = d.first }) d.rest) 10 i r d.on in
+    let o = pick_good (in_day (standard_sum c.first d.first)) (got (record { start = m; name = a.first; wall = c.first; savings = d.first }) d.rest) BadInterval i r d.on in
     let h : record { start = m; name = a.first; wall = c.first; savings = d.first } ≡ i = got-value o.1 in
     let j : d.rest ≡ r = got-rest o.1 in
     let u : List ℕ = n.code.used ++ (w.used ++ v.used) in
@@ -184,7 +185,7 @@ list-kept pool (suc n) prev s is q end r b e f =
     let y : c.rest ≡ q = cc in
     let g = bind-good (parse (read_moment prev) s) (after_start pool prev) i a.rest a.is in
     let m : ℕ = g.first in
-    let h = pick_good (rises prev m) (parse_details pool m g.rest) 10 i a.rest g.on in
+    let h = pick_good (rises prev m) (parse_details pool m g.rest) BadInterval i a.rest g.on in
     let t = moment-renewed prev s m g.rest b g.is in
     let d = details-front pool m g.rest i a.rest t.bytes h.1 in
     let k = list-kept pool n m a.rest c.first q end r d.bytes

@@ -1,4 +1,5 @@
 -- The fields of the preferred file. Assumes nothing.
+use Rattle.std.specs.declared.option.Option.TheVariants.{None}
 use mathlib.Core.Path.{◌≡◌, refl, ap, sym, ◌∙◌}
 use mathlib.Core.Bool.{Bool, true, false}
 use mathlib.Core.List.{List, [], ◌∷◌, ◌++◌, append_assoc}
@@ -59,7 +60,7 @@ module _ (i : ℕ) (d more : List ℕ) where
       rw (append_assoc (write_count (length d)) d more, drop_at (i ∷ write_count (length d)) (d ++ more) (head_for (length d)) (omega arith))
       (take-append_seam d more)
 
-  pub printed-whole : (at : ℕ) (seen : Bool) (prev : ℕ) → 0 < at → order seen prev i ≡ 0 → i ≤ 255
+  pub printed-whole : (at : ℕ) (seen : Bool) (prev : ℕ) → 0 < at → order seen prev i ≡ None → i ≤ 255
       → at + (head_for (length d) + length d) ≤ largest → frame 255 at seen prev bytes_of ≡ Whole i (head_for (length d)) (length d)
   printed-whole at seen prev a o l m =
       headed-whole 255 at seen prev bytes_of i (head_for (length d)) (length d)

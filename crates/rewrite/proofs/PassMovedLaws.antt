@@ -1,4 +1,7 @@
 -- The check over the fields of the preferred file: it keeps what it keeps of the file's. Assumes nothing.
+use Rattle.base.specs.declared.Refusal.{Refusal}
+use Rattle.base.specs.declared.Refusal.TheVariants.{BadData, SecondZone}
+use Rattle.std.specs.Prelude.{Err, Ok, Result}
 use mathlib.Core.Path.{◌≡◌, refl, sym, ap, ◌∙◌, subst⁻¹}
 use mathlib.Core.Bool.{Bool, true, false}
 use mathlib.Core.List.{List, [], ◌∷◌}
@@ -11,8 +14,6 @@ use Rattle.base.specs.Parsed.{Parsed, got, bad as faulty}
 use Rattle.base.specs.Run.{next}
 use Rattle.base.proofs.Parts.{Bytes}
 use Rattle.texts.specs.Text.{read_text}
-use Rattle.texts.specs.declared.Text.{Text}
-use Rattle.texts.specs.declared.Text.TheVariants.{Part, Refused as Untext}
 use Rattle.pool.specs.Pool.{Pool, parse_pool}
 use Rattle.zones.specs.Content.{Zone}
 use Rattle.zones.specs.Parse.{parse_zone}
@@ -43,7 +44,7 @@ not-one : (field : LocationField) → id_of field ≡ 1 → ⊥
 not-one Locations e = omega arith
 not-one Locations1970 e = omega arith
 
-no-keep : {G : Type 0} {n : ℕ} {m : Memory} → ◌≡◌ {A = Content Memory ⊥} (bad n) (keep m) → G
+no-keep : {G : Type 0} {n : Refusal} {m : Memory} → ◌≡◌ {A = Content Memory ⊥} (bad n) (keep m) → G
 no-keep e = clash cc
 
 -- the preferred data of every field of a well-formed file keep all that the zone's law says
@@ -79,8 +80,8 @@ module _ (x x' y : Memory) (s : SameMemory x y) where
   unfolding new_id
   id-moved b e = rw (ap (among b) s.ids) (go (among b x.ids) e)
     where
-      go : (t : Bool) → pick {A = Content Memory ⊥} t (bad 13) (keep (with_id x b)) ≡ keep x'
-          → Beside x' (pick t (bad 13) (keep (with_id y b)))
+      go : (t : Bool) → pick {A = Content Memory ⊥} t (bad SecondZone) (keep (with_id x b)) ≡ keep x'
+          → Beside x' (pick t (bad SecondZone) (keep (with_id y b)))
       go true h = no-keep h
       go false h = let z : with_id x b ≡ x' = cc in (with_id y b, refl, rw (← z) (record { pool = s.pool; ids = ap (λ (l : List (List ℕ)). b ∷ l) s.ids }))
 
@@ -99,16 +100,16 @@ module _ (x x' y : Memory) (s : SameMemory x y) where
   unfolding text_kept
   text-moved a a' d e = go (read_text d) e
     where
-      two : (b n : ℕ) (t : Bool) → pick {A = Content Memory ⊥} t (keep (with_text x (placed (a + b) n))) (bad 9) ≡ keep x'
-          → Beside x' (pick t (keep (with_text y (placed (a' + b) n))) (bad 9))
+      two : (b n : ℕ) (t : Bool) → pick {A = Content Memory ⊥} t (keep (with_text x (placed (a + b) n))) (bad BadData) ≡ keep x'
+          → Beside x' (pick t (keep (with_text y (placed (a' + b) n))) (bad BadData))
       two b n true h =
           let z : with_text x (placed (a + b) n) ≡ x' = cc in
           (with_text y (placed (a' + b) n), refl, rw (← z) (record { pool = s.pool; ids = s.ids }))
       two b n false h = no-keep h
 
-      go : (t : Text) → text_in x a (length d) t ≡ keep x' → Beside x' (text_in y a' (length d) t)
-      go (Untext n) h = no-keep h
-      go (Part b n) h = two b n (eqb (b + n) (length d)) h
+      go : (t : Result (ℕ × ℕ) Refusal) → text_in x a (length d) t ≡ keep x' → Beside x' (text_in y a' (length d) t)
+      go (Err n) h = no-keep h
+      go (Ok (b, n)) h = two b n (eqb (b + n) (length d)) h
 
   aliases-moved : (d : List ℕ) → aliases_kept x d ≡ keep x' → Beside x' (aliases_kept y d)
   unfolding aliases_kept

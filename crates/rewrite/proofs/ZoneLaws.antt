@@ -1,4 +1,5 @@
 -- THE ZONE'S LAW: the preferred data of a zone are no longer, and have its content and its parse. Assumes nothing.
+use Rattle.base.specs.declared.Refusal.TheVariants.{BadData, BadInterval, TooLarge}
 use mathlib.Core.Path.{◌≡◌, refl, sym, ap, ◌∙◌}
 use mathlib.Core.Bool.{Bool, true, false}
 use mathlib.Core.List.{List, [], ◌++◌, append-nil, append_assoc}
@@ -99,8 +100,8 @@ module _ (pool : ℕ) (d : List ℕ) (id : ℕ) (r s : List ℕ) (n : ℕ) (t : 
   listed_kept : (z : Zone) → after_count pool id n t ≡ got z [] → ZoneKept pool d z
   unfolding after_count after_intervals print
   listed_kept z e =
-      let f = pick-bad (eqb n 0) _ 10 z [] e in
-      let g = pick-bad (ltb 4096 n) _ 4 z [] f.1 in
+      let f = pick-bad (eqb n 0) _ BadInterval z [] e in
+      let g = pick-bad (ltb 4096 n) _ TooLarge z [] f.1 in
       let h = bind-good (many (parse_interval pool) start_of n end_of_time t) (after_intervals pool id) z [] g.1 in
       let i = bind-good (parse (read_moment (behind start_of end_of_time h.first)) h.rest) (after_end pool id h.first) z [] h.on in
       let k = list-kept pool n end_of_time t h.first h.rest i.first i.rest c.bytes h.is i.is in
@@ -127,7 +128,7 @@ zone-kept pool d z q b e =
   where
     go : (id : ℕ) (r : List ℕ) → NameFront pool d id r → (flag : ℕ) (s : List ℕ) → parse_byte r ≡ got flag s → parse_zone pool d ≡ got z []
         → (t u : Bool) → eqb flag 1 ≡ t → eqb flag 2 ≡ u
-        → pick t (parse_fixed pool id s) (pick u (parse_listed pool id s) (bad 9)) ≡ got z [] → ZoneKept pool d z
+        → pick t (parse_fixed pool id s) (pick u (parse_listed pool id s) (bad BadData)) ≡ got z [] → ZoneKept pool d z
     go id r n flag s i p true u j l k =
         fixed_kept pool d z id r s (ap (parse read_count) n.code.splits ∙ n.code.again r) (i ∙ ap (λ (y : ℕ). got y s) (eqb-true flag 1 j)) p
     go id r n flag s i p false true j l k =

@@ -1,10 +1,10 @@
 -- Document 01's number, place and values of a rewrite. To be believed.
-use Rattle.std.specs.Prelude.{[], ◌∷◌, pos}
+use Rattle.base.specs.Refusals.{refusal_number}
+use Rattle.base.specs.Coded.{Fault}
+use Rattle.std.specs.Prelude.{[], ◌∷◌, pos, Err, Ok, Result, ℕ}
 use Rattle.base.specs.Numbers.{GivenBack, answering, refusing}
-use Rattle.rewrite.specs.declared.Rewritten.{Rewritten}
-use Rattle.rewrite.specs.declared.Rewritten.TheVariants.{Length, Refused}
 
 -- "A rewrite gives its length"
-abbrev pub given_by_rewritten : Rewritten → GivenBack
-given_by_rewritten (Length n) = answering (pos n ∷ [])
-given_by_rewritten (Refused n p) = refusing n p
+abbrev pub given_by_rewritten : Result ℕ Fault → GivenBack
+given_by_rewritten (Ok n) = answering (pos n ∷ [])
+given_by_rewritten (Err (n, p)) = refusing (refusal_number n) p

@@ -1,15 +1,13 @@
 -- The content of a file, and its preferred file. To be believed.
-use Rattle.std.specs.Prelude.{ℕ, List, [], ◌∷◌, ◌++◌, length, drop, leb}
+use Rattle.base.specs.declared.Refusal.TheVariants.{TooShort}
+use Rattle.base.specs.Coded.{Fault}
+use Rattle.std.specs.Prelude.{ℕ, List, [], ◌∷◌, ◌++◌, length, drop, leb, Err, Ok, Result}
 use Rattle.base.specs.Pick.{pick}
 use Rattle.frames.specs.Frame.{Field}
 use Rattle.frames.specs.Fields.{fields}
 use Rattle.pieces.specs.Content.{content_of}
 use Rattle.preferred_fields.specs.Field.{FieldContent, print_field}
 use Rattle.field_checks.specs.Check.{check_of}
-use Rattle.field_checks.specs.declared.Verdict.{Verdict}
-use Rattle.field_checks.specs.declared.Verdict.TheVariants.{Good, Refused as Ill}
-use Rattle.rewrite.specs.declared.Rewritten.{Rewritten}
-use Rattle.rewrite.specs.declared.Rewritten.TheVariants.{Length, Refused}
 
 abbrev pub content_in : Field → FieldContent
 content_in g = record { id = g.id; content = content_of g.id g.body }
@@ -36,16 +34,16 @@ abbrev pub preferred : List ℕ → List ℕ
 preferred f = print_file (content f)
 
 -- "Rewriting .. check all first; then 15": by the check's verdict, for an output d
-abbrev pub given : Verdict → List ℕ → List ℕ → Rewritten
-given (Ill n p) xs d = Refused n p
-given Good xs d = pick (leb (length xs) (length d)) (Length (length xs)) (Refused 15 0)
+abbrev pub given : Result (Unit {0}) Fault → List ℕ → List ℕ → Result ℕ Fault
+given (Err (n, p)) xs d = Err (n, p)
+given (Ok tt) xs d = pick (leb (length xs) (length d)) (Ok (length xs)) (Err (TooShort, 0))
 
-abbrev pub left : Verdict → List ℕ → List ℕ → List ℕ
-left (Ill n p) xs d = d
-left Good xs d = pick (leb (length xs) (length d)) (xs ++ drop (length xs) d) d
+abbrev pub left : Result (Unit {0}) Fault → List ℕ → List ℕ → List ℕ
+left (Err (n, p)) xs d = d
+left (Ok tt) xs d = pick (leb (length xs) (length d)) (xs ++ drop (length xs) d) d
 
 -- "A rewrite gives its length": the result
-unfoldable pub rewrite_of : List ℕ → List ℕ → Rewritten
+unfoldable pub rewrite_of : List ℕ → List ℕ → Result ℕ Fault
 rewrite_of f d = given (check_of f) (preferred f) d
 
 -- "and leaves later output bytes as found"; "Every refusal keeps all lent output as found": the output at the return

@@ -1,4 +1,5 @@
 -- Two zones in tails that are alike do not differ. Assumes nothing.
+use Rattle.base.specs.declared.Refusal.{Refusal}
 use mathlib.Core.Path.{◌≡◌, refl, sym, ap, ◌∙◌, subst}
 use mathlib.Core.Bool.{Bool, true, false, not}
 use mathlib.Core.List.{List, []}
@@ -160,7 +161,7 @@ module _ (p q : List ℕ) (e d : ZoneEnd) where
   unfolding same_from
   none_left h = rw h
 
-  pub bad-left : (k : ℕ) → e ≡ Refused k → end_of_time ≡ same_from p e q d
+  pub bad-left : (k : Refusal) → e ≡ Refused k → end_of_time ≡ same_from p e q d
   unfolding same_from
   bad-left k h = rw h
 
@@ -169,7 +170,7 @@ module _ (p q : List ℕ) (e d : ZoneEnd) where
     unfolding same_from
     none_right g = rw (h, g)
 
-    pub bad-right : (k : ℕ) → d ≡ Refused k → end_of_time ≡ same_from p e q d
+    pub bad-right : (k : Refusal) → d ≡ Refused k → end_of_time ≡ same_from p e q d
     unfolding same_from
     bad-right k g = rw (h, g)
 

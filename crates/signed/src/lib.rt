@@ -7,15 +7,6 @@ ghost use Rattle.signed.specs.Instant.{instant_of, ticks_of, moment_of, from_raw
 ghost use Rattle.signed.specs.OffsetSum.{sum_of, milliseconds_of};
 ghost use Rattle.signed.specs.Zigzag.{zigzag_of, unzigzag_of};
 
-// What reading a code with a signed value finds.
-#[derive(Clone, Copy)]
-pub enum Number {
-    // The value, and how many bytes its code takes.
-    Value(i64, usize),
-    // The number of a refusal.
-    Refused(u8),
-}
-
 // The instant of a tick since 1970, or 0 outside year 1 to 9999.
 pub fn instant(t: i64) -> u64
     ensures { result ≡ instant_of t }

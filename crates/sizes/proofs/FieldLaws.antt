@@ -1,4 +1,7 @@
 -- A field of a file that is read, and a walk over the fields. Assumes nothing.
+use Rattle.base.specs.declared.Refusal.{Refusal}
+use Rattle.std.specs.Prelude.{Err, Ok}
+use Rattle.base.specs.Coded.{Coded}
 use mathlib.Core.Path.{◌≡◌, refl, sym, ap, ◌∙◌, subst⁻¹}
 use mathlib.Core.List.{List, [], ◌∷◌, ◌++◌, append_assoc}
 use Prim.Native.Nat.{ℕ, suc, ◌+◌, ◌-◌, ◌≤◌, ◌<◌}
@@ -7,9 +10,8 @@ use native.Mathlib.Numerals.{add-one}
 use lib.ListN.{length, get_or, take, drop, take-append-drop}
 use lib.Seq.{drop-drop, drop-cons}
 use Rattle.base.specs.Bytes.{Bytes}
-use Rattle.base.specs.declared.Read.{Read}
-use Rattle.base.specs.declared.Read.TheVariants.{Value, Refused}
 use Rattle.base.proofs.ByteLaws.{drop-bytes}
+use Rattle.base.proofs.PairLaws.{ok_parts}
 use Rattle.base.proofs.Parts.{part-from}
 use Rattle.base.proofs.Tests.{clash}
 use Rattle.counts.specs.Groups.{any_groups}
@@ -22,31 +24,31 @@ use Rattle.sizes.specs.View.{IsField, part_of}
 use Rattle.sizes.specs.declared.Extent.{Extent}
 
 -- the size of the field at a place
-module _ (f : List ℕ) (at : ℕ) (r : Read) (e : r ≡ read_size (take (length f - (at + 1)) (drop (at + 1) f))) where
+module _ (f : List ℕ) (at : ℕ) (r : Coded ℕ) (e : r ≡ read_size (take (length f - (at + 1)) (drop (at + 1) f))) where
   lent : r ≡ read_size (drop (at + 1) f)
   lent = rw (part-from (at + 1) f) at e
 
-  size-of : (g : Field) (o : FieldOf f g) → g.place ≡ at → r ≡ Value (length g.body) o.used
+  size-of : (g : Field) (o : FieldOf f g) → g.place ≡ at → r ≡ Ok (length g.body, o.used)
   size-of g o p = lent ∙ ap (λ (q : ℕ). read_size (drop (q + 1) f)) (sym p) ∙ o.size
 
-  pub field-none : (k : ℕ) (x : Extent) → r ≡ Refused k → IsField f at x
+  pub field-none : (k : Refusal) (x : Extent) → r ≡ Err k → IsField f at x
   field-none k x h =
       record {
-        means = λ g o p. let z : Refused k ≡ Value (length g.body) o.used = sym h ∙ size-of g o p in clash cc;
+        means = λ g o p. let z : Err k ≡ Ok (length g.body, o.used) = sym h ∙ size-of g o p in clash cc;
       }
 
-  pub field-some : (n u : ℕ) → r ≡ Value n u → IsField f at (record { id = get_or f at 0; start = at + 1 + u; end = at + 1 + u + n })
+  pub field-some : (n u : ℕ) → r ≡ Ok (n, u) → IsField f at (record { id = get_or f at 0; start = at + 1 + u; end = at + 1 + u + n })
   field-some n u h = record { means = λ g o p. got g o p }
     where
       got : (g : Field) (o : FieldOf f g) → g.place ≡ at → (get_or f at 0 ≡ g.id) × (at + 1 + u ≡ g.start) × (at + 1 + u + n ≡ g.past)
       got g o p =
-          let z : Value n u ≡ Value (length g.body) o.used = sym h ∙ size-of g o p in
-          let a : n ≡ length g.body = cc in
-          let b : u ≡ o.used = cc in
+          let z : ◌≡◌ {A = Coded ℕ} (Ok (n, u)) (Ok (length g.body, o.used)) = sym h ∙ size-of g o p in
+          let a : n ≡ length g.body = (ok_parts z).0 in
+          let b : u ≡ o.used = (ok_parts z).1 in
           let c : get_or f at 0 ≡ g.id = ap (λ (q : ℕ). get_or f q 0) (sym p) ∙ o.id-byte in
           (c, omega (arith, o.starts), omega (arith, o.starts, o.ends))
 
-  pub field-small : (n u : ℕ) → r ≡ Value n u → (n ≤ 2147483647) × (u ≤ 5)
+  pub field-small : (n u : ℕ) → r ≡ Ok (n, u) → (n ≤ 2147483647) × (u ≤ 5)
   field-small n u h = let c = size-read (drop (at + 1) f) (sym h ∙ lent) in (c.small, c.most)
 
 -- a field of no data, by its size of one byte
@@ -54,10 +56,10 @@ pub field-empty : (f : List ℕ) (at : ℕ) → at + 2 ≤ length f → get_or f
 unfolding any_groups
 field-empty f at l z =
     let e : drop (at + 1) f ≡ get_or f (at + 1) 0 ∷ drop (suc (at + 1)) f = drop-cons f (at + 1) 0 (omega arith) in
-    let i : Value 0 1 ≡ read_size (take (length f - (at + 1)) (drop (at + 1) f)) = rw (part-from (at + 1) f, e, z) refl in
+    let i : Ok (0, 1) ≡ read_size (take (length f - (at + 1)) (drop (at + 1) f)) = rw (part-from (at + 1) f, e, z) refl in
     let a : at + 1 + 1 ≡ at + 2 = omega arith in
     let b : at + 1 + 1 + 0 ≡ at + 2 = omega arith in
-    rw (b, a) at (field-some f at (Value 0 1) i 0 1 refl)
+    rw (b, a) at (field-some f at (Ok (0, 1)) i 0 1 refl)
 
 -- the field r that was read at a place, where the fields gs stand from there on
 pub record Turned (f : List ℕ) (at : ℕ) (gs : List Field) (r : Extent) : Type 0 where

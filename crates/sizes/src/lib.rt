@@ -5,7 +5,7 @@ ghost use Rattle.std.specs.Prelude.{◌<◌, ◌+◌, length, ◌≡◌, ltb};
 ghost use Rattle.sizes.specs.View.{IsField};
 ghost use Rattle.frames.specs.Frame.{largest, read_size, sized as sized_of};
 
-use base::Read;
+use base::{Coded, Refusal};
 use frames::Frame;
 
 // The largest place just past a field.
@@ -22,13 +22,13 @@ fn beyond(at: usize, n: usize) -> bool
 }
 
 // The size at the front of `r`. One byte, the usual size, takes no call.
-pub fn read_size(r: &[u8]) -> Read
+pub fn read_size(r: &[u8]) -> Coded<u64>
     ensures { result ≡ read_size r.now }
 {
     if 0 < r.len() {
         let b = r[0] as u64;
         if b < 128 {
-            return Read::Value(b, 1);
+            return Ok((b, 1));
         }
     }
     count_readers::read_any(r, 7)
@@ -39,16 +39,12 @@ pub fn sized(r: &[u8], at: usize, i: u8) -> Frame
     ensures { result ≡ sized_of at i r.now (read_size r.now) }
 {
     match read_size(r) {
-        Read::Refused(n) => {
-            if n == 9 {
-                return Frame::Cut;
-            }
-            Frame::Refused(7)
-        }
-        Read::Value(v, u) => {
+        Err(Refusal::BadData) => Frame::Cut,
+        Err(_) => Frame::Refused(Refusal::BadCode),
+        Ok((v, u)) => {
             let n = v as usize;
             if beyond(at, 1 + u + n) {
-                return Frame::Refused(4);
+                return Frame::Refused(Refusal::TooLarge);
             }
             if u + n <= r.len() {
                 return Frame::Whole(i, 1 + u, n);
@@ -73,12 +69,12 @@ pub fn read_field(s: &[u8], at: usize) -> Extent
 {
     let a = at + 1;
     match read_size(&s[a..]) {
-        Read::Refused(_) => Extent {
+        Err(_) => Extent {
             id: 0,
             start: a,
             end: a,
         },
-        Read::Value(n, u) => {
+        Ok((n, u)) => {
             let start = a + u;
             Extent {
                 id: s[at],

@@ -1,4 +1,6 @@
 -- On a zone's own table of starts, the entry that halving leaves is the start of the interval that the question gives. Assumes nothing.
+use Rattle.base.specs.Coded.{Fault}
+use Rattle.std.specs.Prelude.{Ok, Result}
 use mathlib.Core.Path.{◌≡◌, refl, sym, ap, ◌∙◌, subst}
 use mathlib.Core.Bool.{Bool, true, false}
 use mathlib.Core.List.{List, [], ◌∷◌}
@@ -11,6 +13,7 @@ use lib.ListN.{length}
 use borrow.Author.Tests.{lt-ltb, le-leb, ltb-true, ltb-false}
 use Rattle.base.specs.Pick.{pick}
 use Rattle.base.specs.Moment.{Finite, start_of_time}
+use Rattle.base.proofs.PairLaws.{ok_parts}
 use Rattle.signed.specs.Instant.{instant_of, ticks_of, InRange}
 use Rattle.signed.proofs.IntegerLaws.{ticks-instant, instant-finite}
 use Rattle.signed.proofs.TickLaws.{ticks-le, ticks-lt}
@@ -24,13 +27,11 @@ use Rattle.zones.specs.Lookup.{until, holding, in_list, in_body}
 use Rattle.zones.specs.declared.Edition.TheVariants.{Two}
 use Rattle.answers.specs.declared.Mark.TheVariants.{All}
 use Rattle.answers.specs.declared.Found.{Found}
-use Rattle.answers.specs.declared.Answer.TheVariants.{In}
 use Rattle.locate.specs.Asked.{of_held}
 use Rattle.questions.specs.Question.{answer_at, ask}
 use Rattle.questions.proofs.HeldLaws.{Holding, ask-holding, holding-asks, holding-sound}
 use Rattle.halving.specs.Halving.{find_start}
 use Rattle.halving.specs.Facts.{entry_of, Ascending, LastNotAfter, Finds}
-use Rattle.halving.specs.declared.Search.TheVariants.{Entry}
 use Rattle.halving.proofs.HalvingLaws.{halving-finds}
 use Rattle.zone_starts.specs.Starts.{list_starts, starts_of}
 use Rattle.starts.specs.Facts.{Listed}
@@ -86,14 +87,14 @@ module _ (t : ℕ) (f : Finite t) where
       })
 
   module _ (pool : ℕ) where
-    list-entry : (end : ℕ) (is : List Interval) → ListOk pool is → (p n : ℕ) → find_start (list_starts is) (ticks_of t) ≡ Entry p n
+    list-entry : (end : ℕ) (is : List Interval) → ListOk pool is → (p n : ℕ) → find_start (list_starts is) (ticks_of t) ≡ Ok (p, n)
         → entry_of (list_starts is) p ≡ ticks_of (in_list t end is).start
     unfolding in_list list_starts
     list-entry end [] ok p n e = absurd ok
     list-entry end (i ∷ is) ok p n e =
         let w : Finds (list_starts (i ∷ is)) (ticks_of t) (find_start (list_starts (i ∷ is)) (ticks_of t)) = halving-finds (list_starts (i ∷ is)) (ticks_of t) some in
-        let k : Entry w.position w.probes ≡ Entry p n = sym w.is ∙ e in
-        let j : w.position ≡ p = cc in
+        let k : ◌≡◌ {A = Result (ℕ × ℕ) Fault} (Ok (w.position, w.probes)) (Ok (p, n)) = sym w.is ∙ e in
+        let j : w.position ≡ p = (ok_parts k).0 in
         last-holds pool end i is ok.2 p
         (subst (LastNotAfter (list_starts (i ∷ is)) (ticks_of t)) j (w.last (rising-ascends pool i is ok.2) first))
       where
@@ -104,33 +105,33 @@ module _ (t : ℕ) (f : Finite t) where
         first = record { le = told (ticks-le i.start t f ∙ le-leb i.start t (omega (arith, ok.0))) }
 
     -- on a zone's own table
-    zone-entry : (id : ℕ) (b : Body) → BodyOk pool b → Listed t b → (p n : ℕ) → find_start (starts_of b) (ticks_of t) ≡ Entry p n
+    zone-entry : (id : ℕ) (b : Body) → BodyOk pool b → Listed t b → (p n : ℕ) → find_start (starts_of b) (ticks_of t) ≡ Ok (p, n)
         → entry_of (starts_of b) p ≡ ticks_of (in_body t id b).start
     unfolding starts_of in_body
     zone-entry id (fixed offset m) ok l p n e =
         let xs : List ℤ = ticks_of start_of_time ∷ [] in
         let w : Finds xs (ticks_of t) (find_start xs (ticks_of t)) = halving-finds xs (ticks_of t) (omega arith) in
-        let k : Entry w.position w.probes ≡ Entry p n = sym w.is ∙ e in
-        let j : w.position ≡ p = cc in
+        let k : ◌≡◌ {A = Result (ℕ × ℕ) Fault} (Ok (w.position, w.probes)) (Ok (p, n)) = sym w.is ∙ e in
+        let j : w.position ≡ p = (ok_parts k).0 in
         let z : p ≡ 0 = omega (arith, w.inside) in
         ap (λ (q : ℕ). entry_of xs q) z
     zone-entry id (listed is end e) ok l p n k = list-entry end is ok.0 p n k ∙ rw (lt-ltb t end l) refl
 
 -- THE ENTRY THAT HALVING LEAVES IS THE START OF THE INTERVAL THAT THE QUESTION GIVES
-module _ (f id : List ℕ) (z : ℤ) (h : InRange z) (x : Found) (k : ask f id z All Two ≡ In x) where
+module _ (f id : List ℕ) (z : ℤ) (h : InRange z) (x : Found) (k : ask f id z All Two ≡ Ok x) where
   abbrev held : Holding f id
   held = ask-holding f id z All Two h x k
 
   abbrev asked : Zone
   asked = held.zone.zone
 
-  pub starts-join : Listed (instant_of z) asked.body → (p n : ℕ) → find_start (starts_of asked.body) z ≡ Entry p n
+  pub starts-join : Listed (instant_of z) asked.body → (p n : ℕ) → find_start (starts_of asked.body) z ≡ Ok (p, n)
       → entry_of (starts_of asked.body) p ≡ x.start
   unfolding under
   starts-join l p n e =
       let t : Finite (instant_of z) = instant-finite (instant_of z) z refl h in
       let y : ticks_of (instant_of z) ≡ z = ticks-instant z t in
-      let a : In (of_held (answer_at Two (instant_of z)) held.zone) ≡ In x = sym (holding-asks f id z All Two h held) ∙ k in
+      let a : ◌≡◌ {A = Result Found Fault} (Ok (of_held (answer_at Two (instant_of z)) held.zone)) (Ok x) = sym (holding-asks f id z All Two h held) ∙ k in
       let b : of_held (answer_at Two (instant_of z)) held.zone ≡ x = cc in
       zone-entry (instant_of z) t (length (strings_of held.zone.pool.body)) asked.id asked.body (holding-sound f id held).body_ok l p n
       (ap (λ (u : ℤ). find_start (starts_of asked.body) u) y ∙ e)

@@ -1,4 +1,8 @@
 -- Each way out of the walk and the zone's reader. Assumes nothing.
+use Rattle.base.specs.declared.Refusal.{Refusal}
+use Rattle.base.specs.Coded.{Fault}
+use Rattle.std.specs.Prelude.{Err, Ok, Result}
+use Rattle.base.specs.declared.Refusal.TheVariants.{CutShort, NotFound, TooShort}
 use mathlib.Core.Path.{◌≡◌, refl, ap, ◌∙◌, subst}
 use mathlib.Core.Bool.{Bool, true, false}
 use mathlib.Core.List.{List}
@@ -19,35 +23,33 @@ use Rattle.zone_starts.specs.Starts.{starts_of, count_of, filled, table, Fills}
 use Rattle.zone_starts.specs.declared.ZoneStarts.{ZoneStarts}
 use Rattle.zone_starts.specs.declared.ZoneStarts.TheVariants.{Filled as Put, Short, Refused as Denied}
 use Rattle.starts.specs.Table.{entries_of, FillsAt}
-use Rattle.starts.specs.declared.Filling.{Filling}
-use Rattle.starts.specs.declared.Filling.TheVariants.{Filled, Refused}
 
 -- the walk
 module _ (o : Out Pool Held) (d : List ℤ) where
-  pub out-refused : (n p : ℕ) → o ≡ refused n p → FillsAt o d (Refused n p) d
+  pub out-refused : (n : Refusal) (p : ℕ) → o ≡ refused n p → FillsAt o d (Err (n, p)) d
   out-refused n p e = rw e (refl, refl)
 
-  pub out-cut : (p : ℕ) → o ≡ cut p → FillsAt o d (Refused 2 p) d
+  pub out-cut : (p : ℕ) → o ≡ cut p → FillsAt o d (Err (CutShort, p)) d
   out-cut p e = rw e (refl, refl)
 
-  pub out-end : (m : Pool) (p : ℕ) → o ≡ ended m p → FillsAt o d (Refused 12 p) d
+  pub out-end : (m : Pool) (p : ℕ) → o ≡ ended m p → FillsAt o d (Err (NotFound, p)) d
   out-end m p e = rw e (refl, refl)
 
   -- the walk that goes on is this one
-  pub out-on : (q : Out Pool Held) (r : Filling) (e : List ℤ) → q ≡ o → FillsAt q d r e → FillsAt o d r e
+  pub out-on : (q : Out Pool Held) (r : Result ℕ Fault) (e : List ℤ) → q ≡ o → FillsAt q d r e → FillsAt o d r e
   out-on q r e k h = subst (λ (x : Out Pool Held). FillsAt x d r e) k h
 
 -- what the zone's reader says, at the place of its field
-abbrev pub at_place : ℕ → ZoneStarts → Filling
-at_place p (Put n) = Filled n
-at_place p Short = Refused 15 0
-at_place p (Denied n) = Refused n p
+abbrev pub at_place : ℕ → ZoneStarts → Result ℕ Fault
+at_place p (Put n) = Ok n
+at_place p Short = Err (TooShort, 0)
+at_place p (Denied n) = Err (n, p)
 
 count_at : (p : ℕ) (xs d : List ℤ) → at_place p (count_of xs d) ≡ entries_of xs d
 unfolding count_of entries_of
 count_at p xs d = go (leb (length xs) (length d))
   where
-    go : (t : Bool) → at_place p (pick t (Put (length xs)) Short) ≡ pick t (Filled (length xs)) (Refused 15 0)
+    go : (t : Bool) → at_place p (pick t (Put (length xs)) Short) ≡ pick t (Ok (length xs)) (Err (TooShort, 0))
     go true = refl
     go false = refl
 

@@ -1,4 +1,7 @@
 -- A code that was read ends where its first bytes say. Assumes nothing.
+use Rattle.std.specs.Prelude.{Err, Ok}
+use Rattle.base.specs.Coded.{Coded}
+use Rattle.base.specs.declared.Refusal.TheVariants.{BadCode, BadData, BadText}
 use mathlib.Core.Path.{◌≡◌, refl, sym, ap, ◌∙◌, subst}
 use mathlib.Core.Bool.{Bool, true, false}
 use mathlib.Core.List.{List, [], ◌∷◌}
@@ -12,9 +15,8 @@ use borrow.Author.Tests.{ltb-true, ltb-false, leb-true, leb-false, eqb-true, eqb
 use Rattle.base.specs.Pick.{pick}
 use Rattle.base.specs.Moment.{finite}
 use Rattle.base.specs.Parsed.{Parsed, got, bad, bind, behind_code, parse, parse_byte}
-use Rattle.base.specs.declared.Read.{Read}
-use Rattle.base.specs.declared.Read.TheVariants.{Value, Refused}
 use Rattle.base.proofs.Tests.{clash, pick-holds}
+use Rattle.base.proofs.PairLaws.{ok_parts}
 use Rattle.base.proofs.ParseLaws.{bad-got, got-value, got-rest, bind-good, pick_good}
 use Rattle.counts.specs.Groups.{more, read_groups}
 use Rattle.counts.specs.Fixed.{fixed_from, read_fixed}
@@ -32,65 +34,65 @@ pub record Ends (s q : List ℕ) (e : ℕ) : Type 0 where
   pub within : e ≤ length s
 
 -- a code of n bytes
-record Coded (read : List ℕ → Read) (s : List ℕ) (p v : ℕ) (q : List ℕ) : Type 0 where
+record CodeAt (read : List ℕ → Coded ℕ) (s : List ℕ) (p v : ℕ) (q : List ℕ) : Type 0 where
   size : ℕ
-  is : Value v size ≡ read (drop p s)
+  is : Ok (v, size) ≡ read (drop p s)
   rest : q ≡ drop (p + size) s
 
-coded : (read : List ℕ → Read) (s : List ℕ) (p v : ℕ) (q : List ℕ) → parse read (drop p s) ≡ got v q → Coded read s p v q
+coded : (read : List ℕ → Coded ℕ) (s : List ℕ) (p v : ℕ) (q : List ℕ) → parse read (drop p s) ≡ got v q → CodeAt read s p v q
 coded read s p v q e = go (read (drop p s)) refl e
   where
-    go : (x : Read) → x ≡ read (drop p s) → behind_code (drop p s) x ≡ got v q → Coded read s p v q
-    go (Value w n) h k =
-        record { size = n; is = ap (λ (y : ℕ). Value y n) (sym (got-value k)) ∙ h; rest = sym (got-rest k) ∙ drop-drop n p s }
-    go (Refused n) h k = bad-got k
+    go : (x : Coded ℕ) → x ≡ read (drop p s) → behind_code (drop p s) x ≡ got v q → CodeAt read s p v q
+    go (Ok (w, n)) h k =
+        record { size = n; is = ap (λ (y : ℕ). Ok (y, n)) (sym (got-value k)) ∙ h; rest = sym (got-rest k) ∙ drop-drop n p s }
+    go (Err n) h k = bad-got k
 
 -- ---- groups
 module _ (s : List ℕ) (p : ℕ) where
-  nothing : length s ≤ p → (k top v n : ℕ) (G : Type 0) → Value v n ≡ read_groups k top (drop p s) → G
+  nothing : length s ≤ p → (k top v n : ℕ) (G : Type 0) → Ok (v, n) ≡ read_groups k top (drop p s) → G
   unfolding read_groups
   nothing l k top v n G e = none k (rw (drop_of_length-le s l) at e)
     where
-      none : (j : ℕ) → Value v n ≡ read_groups j top [] → G
+      none : (j : ℕ) → Ok (v, n) ≡ read_groups j top [] → G
       none zero h = clash cc
       none (suc j) h = clash cc
 
   -- the last of them
-  last-group : (top v n : ℕ) → Value v n ≡ read_groups zero top (drop p s) → (p < length s) × (n ≡ 1)
+  last-group : (top v n : ℕ) → Ok (v, n) ≡ read_groups zero top (drop p s) → (p < length s) × (n ≡ 1)
   unfolding read_groups
   last-group top v n e = go (ltb p (length s)) refl
     where
-      one : (t : Bool) (b : ℕ) → Value v n ≡ pick t (Value b 1) (Refused 7) → n ≡ 1
-      one true b h = cc
+      one : (t : Bool) (b : ℕ) → Ok (v, n) ≡ pick {A = Coded ℕ} t (Ok (b, 1)) (Err BadCode) → n ≡ 1
+      one true b h = (ok_parts h).1
       one false b h = clash cc
 
       go : (t : Bool) → ltb p (length s) ≡ t → (p < length s) × (n ≡ 1)
       go true h = let l = ltb-true p (length s) h in (l, one (leb (get_or s p 0) top) (get_or s p 0) (rw (drop-cons s p 0 l) at e))
       go false h = nothing (ltb-false p (length s) h) zero top v n ((p < length s) × (n ≡ 1)) e
 
-  module _ (k top v n p' : ℕ) (next : p' ≡ p + 1) (G : Type 0) (e : Value v n ≡ read_groups (suc k) top (drop p s))
+  module _ (k top v n p' : ℕ) (next : p' ≡ p + 1) (G : Type 0) (e : Ok (v, n) ≡ read_groups (suc k) top (drop p s))
       (single : p < length s → get_or s p 0 < 128 → n ≡ 1 → v ≡ get_or s p 0 → G)
-      (several : (w m : ℕ) → 128 ≤ get_or s p 0 → Value w m ≡ read_groups k top (drop p' s) → n ≡ m + 1 → v ≡ get_or s p 0 % 128 + 128 * w
+      (several : (w m : ℕ) → 128 ≤ get_or s p 0 → Ok (w, m) ≡ read_groups k top (drop p' s) → n ≡ m + 1 → v ≡ get_or s p 0 % 128 + 128 * w
       → (w ≡ 0 → ⊥) → G) where
     group-step : G
     unfolding read_groups
     group-step = go (ltb p (length s)) refl
       where
-        much : (r : Read) → r ≡ read_groups k top (drop (suc p) s) → 128 ≤ get_or s p 0 → Value v n ≡ more (get_or s p 0) r → G
-        much (Refused j) i a h = clash cc
-        much (Value w m) i a h = zeros (eqb w 0) refl h
+        much : (r : Coded ℕ) → r ≡ read_groups k top (drop (suc p) s) → 128 ≤ get_or s p 0 → Ok (v, n) ≡ more (get_or s p 0) r → G
+        much (Err j) i a h = clash cc
+        much (Ok (w, m)) i a h = zeros (eqb w 0) refl h
           where
-            zeros : (t : Bool) → eqb w 0 ≡ t → Value v n ≡ pick t (Refused 7) (Value (get_or s p 0 % 128 + 128 * w) (m + 1)) → G
+            zeros : (t : Bool) → eqb w 0 ≡ t → Ok (v, n) ≡ pick {A = Coded ℕ} t (Err BadCode) (Ok (get_or s p 0 % 128 + 128 * w, m + 1)) → G
             zeros true z f = clash cc
             zeros false z f =
-                let x : n ≡ m + 1 = cc in
-                let y : v ≡ get_or s p 0 % 128 + 128 * w = cc in
+                let x : n ≡ m + 1 = (ok_parts f).1 in
+                let y : v ≡ get_or s p 0 % 128 + 128 * w = (ok_parts f).0 in
                 several w m a (i ∙ ap (λ (j : ℕ). read_groups k top (drop j s)) (sym (next ∙ add-one p))) x y (eqb-false w 0 z)
 
-        by : p < length s → (t : Bool) → ltb (get_or s p 0) 128 ≡ t → Value v n ≡ pick t (Value (get_or s p 0) 1) (more (get_or s p 0) (read_groups k top (drop (suc p) s))) → G
+        by : p < length s → (t : Bool) → ltb (get_or s p 0) 128 ≡ t → Ok (v, n) ≡ pick t (Ok (get_or s p 0, 1)) (more (get_or s p 0) (read_groups k top (drop (suc p) s))) → G
         by l true h f =
-            let x : n ≡ 1 = cc in
-            let y : v ≡ get_or s p 0 = cc in
+            let x : n ≡ 1 = (ok_parts f).1 in
+            let y : v ≡ get_or s p 0 = (ok_parts f).0 in
             single l (ltb-true (get_or s p 0) 128 h) x y
         by l false h f = much (read_groups k top (drop (suc p) s)) refl (ltb-false (get_or s p 0) 128 h) f
 
@@ -100,7 +102,7 @@ module _ (s : List ℕ) (p : ℕ) where
             by l (ltb (get_or s p 0) 128) refl (rw (drop-cons s p 0 l) at e)
         go false h = nothing (ltb-false p (length s) h) (suc k) top v n G e
 
-module _ (s : List ℕ) (p top v n : ℕ) (e : Value v n ≡ read_groups 4 top (drop p s)) where
+module _ (s : List ℕ) (p top v n : ℕ) (e : Ok (v, n) ≡ read_groups 4 top (drop p s)) where
   groups-end : (p + n ≡ count_end s p) × (p + n ≤ length s)
   groups-end =
       group-step s p 3 top v n (p + 1) (omega arith) _ e
@@ -148,7 +150,7 @@ module _ (s : List ℕ) (p v : ℕ) (q : List ℕ) where
   unfolding parse_name judge_name
   name-ends pool few e =
       let a = bind-good (parse read_count (drop p s)) (judge_name pool) v q e in
-      let b = pick_good (ltb a.first pool) (got a.first a.rest) 8 v q a.on in
+      let b = pick_good (ltb a.first pool) (got a.first a.rest) BadText v q a.on in
       let l = ltb-true a.first pool b.0 in
       number-ends (a.is ∙ b.1) (let i : a.first ≡ v = got-value b.1 in omega arith)
 
@@ -164,13 +166,13 @@ module _ (s : List ℕ) (p v : ℕ) (q : List ℕ) where
       go false h = bad-got (rw (drop_of_length-le s (ltb-false p (length s) h)) at e)
 
 -- ---- how many bytes a value takes, whatever it is
-abbrev Takes : ℕ → Read → Type 0
-Takes n (Value v k) = k ≡ n
-Takes n (Refused k) = Unit {0}
+abbrev Takes : ℕ → Coded ℕ → Type 0
+Takes n (Ok (v, k)) = k ≡ n
+Takes n (Err k) = Unit {0}
 
-takes : (n : ℕ) (r : Read) → Takes n r → (v k : ℕ) → Value v k ≡ r → k ≡ n
-takes n (Value w m) h v k e = let i : k ≡ m = cc in i ∙ h
-takes n (Refused j) h v k e = clash cc
+takes : (n : ℕ) (r : Coded ℕ) → Takes n r → (v k : ℕ) → Ok (v, k) ≡ r → k ≡ n
+takes n (Ok (w, m)) h v k e = (ok_parts e).1 ∙ h
+takes n (Err j) h v k e = clash cc
 
 offset-takes : (n coarser sum : ℕ) → Takes n (offset_of n coarser sum)
 offset-takes n coarser sum =
@@ -189,22 +191,22 @@ count-takes prev v n =
     (λ _. range-takes n (year1800 + v * minute)))))
 
 -- m bytes behind the first of an offset
-units-take : (unit coarser m high : ℕ) (s : List ℕ) (v n : ℕ) → Value v n ≡ in_units unit coarser (read_fixed m high s) → (n ≡ m + 1) × (m ≤ length s)
+units-take : (unit coarser m high : ℕ) (s : List ℕ) (v n : ℕ) → Ok (v, n) ≡ in_units unit coarser (read_fixed m high s) → (n ≡ m + 1) × (m ≤ length s)
 units-take unit coarser m high s v n e = go (leb m (length s)) refl e
   where
-    go : (t : Bool) → leb m (length s) ≡ t → Value v n ≡ in_units unit coarser (pick t (Value (fixed_from m high s) m) (Refused 9)) → (n ≡ m + 1) × (m ≤ length s)
+    go : (t : Bool) → leb m (length s) ≡ t → Ok (v, n) ≡ in_units unit coarser (pick t (Ok (fixed_from m high s, m)) (Err BadData)) → (n ≡ m + 1) × (m ≤ length s)
     go true h f = (takes (m + 1) _ (offset-takes (m + 1) coarser (fixed_from m high s * unit)) v n f, leb-true m (length s) h)
     go false h f = clash cc
 
-ticks-take : (k : ℕ) (s : List ℕ) (v n : ℕ) → Value v n ≡ from_ticks k (read_fixed 8 0 s) → (n ≡ k + 8) × (8 ≤ length s)
+ticks-take : (k : ℕ) (s : List ℕ) (v n : ℕ) → Ok (v, n) ≡ from_ticks k (read_fixed 8 0 s) → (n ≡ k + 8) × (8 ≤ length s)
 ticks-take k s v n e = go (leb 8 (length s)) refl e
   where
-    go : (t : Bool) → leb 8 (length s) ≡ t → Value v n ≡ from_ticks k (pick t (Value (fixed_from 8 0 s) 8) (Refused 9)) → (n ≡ k + 8) × (8 ≤ length s)
+    go : (t : Bool) → leb 8 (length s) ≡ t → Ok (v, n) ≡ from_ticks k (pick t (Ok (fixed_from 8 0 s, 8)) (Err BadData)) → (n ≡ k + 8) × (8 ≤ length s)
     go true h f = (takes (k + 8) _ (range-takes (k + 8) (from_raw (fixed_from 8 0 s))) v n f, leb-true 8 (length s) h)
     go false h f = clash cc
 
 -- ---- an offset
-module _ (s : List ℕ) (p v n : ℕ) (e : Value v n ≡ read_sum (drop p s)) where
+module _ (s : List ℕ) (p v n : ℕ) (e : Ok (v, n) ≡ read_sum (drop p s)) where
   sum-size : (p + n ≡ sum_end s p) × (p + n ≤ length s)
   unfolding read_sum
   sum-size = go (ltb p (length s)) refl
@@ -213,11 +215,11 @@ module _ (s : List ℕ) (p v n : ℕ) (e : Value v n ≡ read_sum (drop p s)) wh
       left l = length-drop (suc p) s
 
       by : p < length s → (t₁ t₂ t₃ t₄ : Bool) → ltb (get_or s p 0) 128 ≡ t₁ → ltb (get_or s p 0) 160 ≡ t₂ → ltb (get_or s p 0) 192 ≡ t₃ → ltb (get_or s p 0) 224 ≡ t₄
-          → Value v n
+          → Ok (v, n)
           ≡ pick t₁ (offset_of 1 172800000 (get_or s p 0 * 1800000))
           (pick t₂ (in_units 60000 1800000 (read_fixed 1 (get_or s p 0 % 32) (drop (suc p) s)))
           (pick t₃ (in_units 1000 60000 (read_fixed 2 (get_or s p 0 % 32) (drop (suc p) s)))
-          (pick t₄ (in_units 1 1000 (read_fixed 3 (get_or s p 0 % 32) (drop (suc p) s))) (Refused 7))))
+          (pick t₄ (in_units 1 1000 (read_fixed 3 (get_or s p 0 % 32) (drop (suc p) s))) (Err BadCode))))
           → (p + n ≡ sum_end s p) × (p + n ≤ length s)
       by l true t₂ t₃ t₄ h₁ h₂ h₃ h₄ f =
           let i = takes 1 _ (offset-takes 1 172800000 (get_or s p 0 * 1800000)) v n f in
@@ -235,7 +237,7 @@ module _ (s : List ℕ) (p v n : ℕ) (e : Value v n ≡ read_sum (drop p s)) wh
 
       go : (t : Bool) → ltb p (length s) ≡ t → (p + n ≡ sum_end s p) × (p + n ≤ length s)
       go true h = let l = ltb-true p (length s) h in by l _ _ _ _ refl refl refl refl (rw (drop-cons s p 0 l) at e)
-      go false h = let f : Value v n ≡ Refused 9 = (rw (drop_of_length-le s (ltb-false p (length s) h)) at e) in clash cc
+      go false h = let f : ◌≡◌ {A = Coded ℕ} (Ok (v, n)) (Err BadData) = (rw (drop_of_length-le s (ltb-false p (length s) h)) at e) in clash cc
 
 pub sum-ends : (s : List ℕ) (p v : ℕ) (q : List ℕ) → parse read_sum (drop p s) ≡ got v q → Ends s q (sum_end s p)
 sum-ends s p v q e =
@@ -244,13 +246,13 @@ sum-ends s p v q e =
     record { rest = c.rest ∙ ap (λ (x : ℕ). drop x s) f.0; within = omega (arith, f.0, f.1) }
 
 -- ---- a transition
-module _ (prev : ℕ) (s : List ℕ) (p m n : ℕ) (e : Value m n ≡ read_moment prev (drop p s)) where
+module _ (prev : ℕ) (s : List ℕ) (p m n : ℕ) (e : Ok (m, n) ≡ read_moment prev (drop p s)) where
   moment-size : (p + n ≡ moment_end s p) × (p + n ≤ length s)
   unfolding read_moment
   moment-size = go (read_count (drop p s)) refl e
     where
-      by : (v k : ℕ) → Value v k ≡ read_count (drop p s) → (t : Bool) → eqb v 2 ≡ t
-          → Value m n ≡ pick t (from_ticks k (read_fixed 8 0 (drop k (drop p s)))) (from_count prev v k) → (p + n ≡ moment_end s p) × (p + n ≤ length s)
+      by : (v k : ℕ) → Ok (v, k) ≡ read_count (drop p s) → (t : Bool) → eqb v 2 ≡ t
+          → Ok (m, n) ≡ pick t (from_ticks k (read_fixed 8 0 (drop k (drop p s)))) (from_count prev v k) → (p + n ≡ moment_end s p) × (p + n ≤ length s)
       by v k r true h f =
           let a = two-first s p 7 v k r (eqb-true v 2 h) in
           let i = ticks-take k (drop k (drop p s)) m n f in
@@ -263,9 +265,9 @@ module _ (prev : ℕ) (s : List ℕ) (p m n : ℕ) (e : Value m n ≡ read_momen
           let g = groups-end s p 7 v k r in
           (ap (λ (x : ℕ). p + x) i ∙ g.0 ∙ moment-count s p (λ z. eqb-false v 2 h (first_two s p 7 v k r z)), omega (arith, i, g.1))
 
-      go : (r : Read) → r ≡ read_count (drop p s) → Value m n ≡ after_count prev (drop p s) r → (p + n ≡ moment_end s p) × (p + n ≤ length s)
-      go (Value v k) r f = by v k r (eqb v 2) refl f
-      go (Refused k) r f = clash cc
+      go : (r : Coded ℕ) → r ≡ read_count (drop p s) → Ok (m, n) ≡ after_count prev (drop p s) r → (p + n ≡ moment_end s p) × (p + n ≤ length s)
+      go (Ok (v, k)) r f = by v k r (eqb v 2) refl f
+      go (Err k) r f = clash cc
 
 pub moment-ends : (prev : ℕ) (s : List ℕ) (p m : ℕ) (q : List ℕ) → parse (read_moment prev) (drop p s) ≡ got m q → Ends s q (moment_end s p)
 moment-ends prev s p m q e =

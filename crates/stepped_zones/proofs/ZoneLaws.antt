@@ -1,4 +1,5 @@
 -- THE NAMES OF A ZONE THAT WAS READ stand where its codes' first bytes say. Assumes nothing.
+use Rattle.base.specs.declared.Refusal.TheVariants.{BadData, BadInterval, BadRecurrence, TooLarge}
 use mathlib.Core.Path.{◌≡◌, refl, sym, ap, ◌∙◌, subst}
 use mathlib.Core.Bool.{Bool, true, false}
 use mathlib.Core.List.{List, [], ◌∷◌, ◌++◌}
@@ -41,7 +42,7 @@ module _ (pool : ℕ) (few : pool ≤ 8192) (s : List ℕ) where
       let a = bind-good (parse (read_moment prev) (drop p s)) (after_start pool prev) i q e in
       let m : ℕ = a.first in
       let a' = moment-ends prev s p m a.rest a.is in
-      let b = pick_good (rises prev m) (parse_details pool m a.rest) 10 i q a.on in
+      let b = pick_good (rises prev m) (parse_details pool m a.rest) BadInterval i q a.on in
       let c = bind-good (parse_name pool (drop (moment_end s p) s)) (after_name m) i q
       (subst (λ (x : List ℕ). bind (parse_name pool x) (after_name m) ≡ got i q) a'.rest b.1) in
       let k : ℕ = c.first in
@@ -54,7 +55,7 @@ module _ (pool : ℕ) (few : pool ≤ 8192) (s : List ℕ) where
       (subst (λ (x : List ℕ). bind (parse read_sum x) (judge_standard m k w) ≡ got i q) d'.rest d.on) in
       let v : ℕ = f.first in
       let f' = sum-ends s (sum_end s (number_end s (moment_end s p))) v f.rest f.is in
-      let g = pick_good (in_day (standard_sum w v)) (got (record { start = m; name = k; wall = w; savings = v }) f.rest) 10 i q f.on in (
+      let g = pick_good (in_day (standard_sum w v)) (got (record { start = m; name = k; wall = w; savings = v }) f.rest) BadInterval i q f.on in (
         ap (λ (x : Interval). x.name) (sym (got-value g.1)) ∙ c'.0,
         record { rest = sym (got-rest g.1) ∙ f'.rest; within = f'.within },
       )
@@ -82,22 +83,22 @@ module _ (pool : ℕ) (few : pool ≤ 8192) (s : List ℕ) where
       let a = bind-good (parse_byte (drop p s)) after_byte x q e in
       let b : ℕ = a.first in
       let a' = byte-ends s p b a.rest a.is in
-      let a'' = pick_good (byte_ok b) (parse_month b a.rest) 11 x q a.on in
+      let a'' = pick_good (byte_ok b) (parse_month b a.rest) BadRecurrence x q a.on in
       let c = bind-good (parse read_count (drop (p + 1) s)) (after_month b) x q
       (subst (λ (y : List ℕ). bind (parse read_count y) (after_month b) ≡ got x q) a'.1.rest a''.1) in
       let m : ℕ = c.first in
       let c' = groups-ends s (p + 1) m c.rest 7 c.is in
-      let c'' = pick_good (month_ok m) (parse_day b m c.rest) 11 x q c.on in
+      let c'' = pick_good (month_ok m) (parse_day b m c.rest) BadRecurrence x q c.on in
       let d = bind-good (parse read_zigzag (drop (count_end s (p + 1)) s)) (after_day b m) x q
       (subst (λ (y : List ℕ). bind (parse read_zigzag y) (after_day b m) ≡ got x q) c'.rest c''.1) in
       let z : ℕ = d.first in
       let d' = groups-ends s (count_end s (p + 1)) z d.rest 15 d.is in
-      let d'' = pick_good (day_ok m z) (parse_time b m z d.rest) 11 x q d.on in
+      let d'' = pick_good (day_ok m z) (parse_time b m z d.rest) BadRecurrence x q d.on in
       let f = bind-good (parse read_sum (drop (count_end s (count_end s (p + 1))) s)) (after_time b m z) x q
       (subst (λ (y : List ℕ). bind (parse read_sum y) (after_time b m z) ≡ got x q) d'.rest d''.1) in
       let t : ℕ = f.first in
       let f' = sum-ends s (count_end s (count_end s (p + 1))) t f.rest f.is in
-      let g = pick_good (time_ok t) (got (rule_of b m z t) f.rest) 11 x q f.on in
+      let g = pick_good (time_ok t) (got (rule_of b m z t) f.rest) BadRecurrence x q f.on in
       record { rest = sym (got-rest g.1) ∙ f'.rest; within = f'.within }
 
   standard-stands : (start p : ℕ) (x : Standard) (r : List ℕ) → parse_standard pool start (drop p s) ≡ got x r
@@ -121,7 +122,7 @@ module _ (pool : ℕ) (few : pool ≤ 8192) (s : List ℕ) where
   named-so x l r t q e =
       let g = bind-good (parse_rule r) (parse_savings x l) t q e in
       let h = bind-good (parse read_sum g.rest) (after_savings x l g.first) t q g.on in
-      let v = pick_good (sum_ok x.offset h.first) (got (tail_of x l g.first h.first) h.rest) 11 t q h.on in
+      let v = pick_good (sum_ok x.offset h.first) (got (tail_of x l g.first h.first) h.rest) BadRecurrence t q h.on in
       (ap (λ (y : NamedTail). y.standard) (sym (got-value v.1)), ap (λ (y : NamedTail). y.daylight) (sym (got-value v.1)))
 
   daylight-stands : (p : ℕ) (x : Standard) (t : NamedTail) (q : List ℕ) → parse_daylight pool x (drop p s) ≡ got t q
@@ -153,18 +154,18 @@ module _ (pool : ℕ) (few : pool ≤ 8192) (s : List ℕ) where
       go (eqb a.first 0) refl (eqb a.first 1) refl a.on a'.0 a'.1
     where
       go : {b : ℕ} {r : List ℕ} (t : Bool) → eqb b 0 ≡ t → (u : Bool) → eqb b 1 ≡ u
-          → pick t (pick (eqb end end_of_time) (zone_of id (listed is end untailed) r) (bad 10))
-          (pick u (pick (both (ltb (behind start_of end_of_time is) end) (ltb end end_of_time)) (parse_tailed pool id is end r) (bad 10)) (bad 9))
+          → pick t (pick (eqb end end_of_time) (zone_of id (listed is end untailed) r) (bad BadInterval))
+          (pick u (pick (both (ltb (behind start_of end_of_time is) end) (ltb end end_of_time)) (parse_tailed pool id is end r) (bad BadInterval)) (bad BadData))
           ≡ got z [] → b ≡ get_or s p 0 → Ends s r (p + 1)
           → (content_names z.body ≡ interval_names is ++ pick (eqb (get_or s p 0) 1) (number_at s (sum_end s (p + 1)) ∷ number_at s (daylight_at s (p + 1)) ∷ []) [])
           × (pick (eqb (get_or s p 0) 1) (number_end s (daylight_at s (p + 1))) (p + 1) ≤ length s)
       go {b} {r} true h u k f i j =
-          let x = pick_good (eqb end end_of_time) (zone_of id (listed is end untailed) r) 10 z [] f in
+          let x = pick_good (eqb end end_of_time) (zone_of id (listed is end untailed) r) BadInterval z [] f in
           let y = ended-good (record { id = id; body = listed is end untailed }) z r [] x.1 in
           let o : eqb (get_or s p 0) 1 ≡ false = ne_eqb (get_or s p 0) 1 (λ c. let d = eqb-true b 0 h in omega arith) in
           rw o (ap (λ (w : Zone). content_names w.body) (sym y.0), j.within)
       go {b} {r} false h true k f i j =
-          let x = pick_good (both (ltb (behind start_of end_of_time is) end) (ltb end end_of_time)) (parse_tailed pool id is end r) 10 z [] f in
+          let x = pick_good (both (ltb (behind start_of end_of_time is) end) (ltb end end_of_time)) (parse_tailed pool id is end r) BadInterval z [] f in
           let y = bind-good (parse_tail pool end (drop (p + 1) s)) (after_tail id is end) z []
           (subst (λ (w : List ℕ). bind (parse_tail pool end w) (after_tail id is end) ≡ got z []) j.rest x.1) in
           let n = tail-stands end (p + 1) y.first y.rest y.is in
@@ -180,8 +181,8 @@ module _ (pool : ℕ) (few : pool ≤ 8192) (s : List ℕ) where
   listed-stands id p z e =
       let a = bind-good (parse read_count (drop p s)) (after_count pool id) z [] e in
       let n : ℕ = a.first in
-      let b = pick-bad (eqb n 0) _ 10 z [] a.on in
-      let c = pick-bad (ltb 4096 n) _ 4 z [] b.1 in
+      let b = pick-bad (eqb n 0) _ BadInterval z [] a.on in
+      let c = pick-bad (ltb 4096 n) _ TooLarge z [] b.1 in
       let l = ltb-false 4096 n c.0 in
       let a' = number-ends s p n a.rest a.is (omega arith) in
       let d = bind-good (many (parse_interval pool) start_of n end_of_time (drop (number_end s p) s)) (after_intervals pool id) z []
@@ -233,7 +234,7 @@ module _ (pool : ℕ) (few : pool ≤ 8192) (s : List ℕ) where
       (subst (λ (x : List ℕ). after_flag pool id b.first x ≡ got z []) b'.1.rest b.on) b'.0
     where
       go : {flag : ℕ} (t : Bool) → eqb flag 1 ≡ t → (u : Bool) → eqb flag 2 ≡ u
-          → pick t (parse_fixed pool id (drop (p + 1) s)) (pick u (parse_listed pool id (drop (p + 1) s)) (bad 9)) ≡ got z [] → flag ≡ get_or s p 0
+          → pick t (parse_fixed pool id (drop (p + 1) s)) (pick u (parse_listed pool id (drop (p + 1) s)) (bad BadData)) ≡ got z [] → flag ≡ get_or s p 0
           → (content_names z.body ≡ body_names s p) × (body_end s p ≤ length s)
       go {flag} true h u k f i = let o : get_or s p 0 ≡ 1 = sym i ∙ eqb-true flag 1 h in rw o (fixed-stands id (p + 1) z f)
       go {flag} false h true k f i =

@@ -14,8 +14,8 @@ use Rattle.base.specs.Equal.{equal}
 use Rattle.base.proofs.Tests.{clash, by_order}
 use Rattle.base.proofs.EqualLaws.{equal-true}
 use Rattle.string_order.specs.Order.{ordering, and_then}
-use Rattle.string_order.specs.declared.Ordering.{Ordering}
-use Rattle.string_order.specs.declared.Ordering.TheVariants.{Less, Equal, Greater}
+use Rattle.std.specs.declared.cmp.Ordering.{Ordering}
+use Rattle.std.specs.declared.cmp.Ordering.TheVariants.{Less, Equal, Greater}
 
 -- what two first bytes and the order of what follows come to
 module _ (a b : ℕ) (o : Ordering) where

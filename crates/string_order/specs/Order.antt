@@ -3,8 +3,8 @@
 -- proofs/OrderLaws.antt say that it is a total order.
 use Rattle.std.specs.Prelude.{ℕ, List, [], ◌∷◌, ltb}
 use Rattle.base.specs.Pick.{pick}
-use Rattle.string_order.specs.declared.Ordering.{Ordering}
-use Rattle.string_order.specs.declared.Ordering.TheVariants.{Less, Equal, Greater}
+use Rattle.std.specs.declared.cmp.Ordering.{Ordering}
+use Rattle.std.specs.declared.cmp.Ordering.TheVariants.{Less, Equal, Greater}
 
 unfoldable pub ordering : List ℕ → List ℕ → Ordering
 ordering [] [] = Equal

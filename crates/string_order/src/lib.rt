@@ -4,13 +4,7 @@
 ghost use Rattle.std.specs.Prelude.{◌≡◌, [], ◌∷◌, ◌≤◌, ◌+◌, ◌*◌, ◌<◌, min, length, drop};
 ghost use Rattle.string_order.specs.Order.{ordering};
 
-// Where one string stands to another.
-#[derive(Clone, Copy)]
-pub enum Ordering {
-    Less,
-    Equal,
-    Greater,
-}
+use std::cmp::Ordering;
 
 // The number of four bytes, high first.
 fn four(a: u8, b: u8, c: u8, d: u8) -> usize

@@ -1,4 +1,8 @@
 -- The string that the search finds is the pool's, where the check takes the pool. Assumes nothing.
+use Rattle.base.specs.declared.Refusal.TheVariants.{TooLarge}
+use Rattle.base.specs.declared.Refusal.{Refusal}
+use Rattle.std.specs.Prelude.{Err, Ok, Result}
+use Rattle.base.specs.Coded.{Coded}
 use mathlib.Core.Path.{◌≡◌, refl, sym, ap, ◌∙◌, subst}
 use mathlib.Core.List.{List, [], ◌∷◌}
 use Prim.Native.Nat.{ℕ, zero, suc, ◌+◌, ◌-◌, ◌≤◌, ◌<◌}
@@ -8,13 +12,9 @@ use lib.ListN.{length, take, drop, get_or, length-drop}
 use lib.Seq.{drop-drop}
 use borrow.Author.Tests.{le-leb, lt-ltb}
 use Rattle.base.specs.Parsed.{got, bind, behind_code, parse, many, prepend, ended}
-use Rattle.base.specs.declared.Read.{Read}
-use Rattle.base.specs.declared.Read.TheVariants.{Value, Refused as Unread}
 use Rattle.base.proofs.ParseLaws.{bad-got, got-value, got-rest, bind-good, pick-bad, ended-good}
 use Rattle.counts.specs.Count.{read_count}
 use Rattle.texts.specs.Text.{read_text, behind_text, parse_text}
-use Rattle.texts.specs.declared.Text.{Text}
-use Rattle.texts.specs.declared.Text.TheVariants.{Part, Refused as Untext}
 use Rattle.texts.proofs.TextLaws.{held}
 use Rattle.pool.specs.Pool.{string, no_state, read_strings, all_strings, counted, parse_pool}
 use Rattle.string_search.specs.Search.{judge_length, parse_string, nth_string, string_numbered, string_span}
@@ -34,9 +34,9 @@ text-string : (s t r : List ℕ) → parse_text s ≡ got t r → Read-string s 
 unfolding parse_string judge_length
 text-string s t r e = go (read_text s) refl e
   where
-    go : (x : Text) → read_text s ≡ x → behind_text s x ≡ got t r → Read-string s t r
-    go (Untext k) q h = bad-got h
-    go (Part a n) q h =
+    go : (x : Result (ℕ × ℕ) Refusal) → read_text s ≡ x → behind_text s x ≡ got t r → Read-string s t r
+    go (Err k) q h = bad-got h
+    go (Ok (a, n)) q h =
         let w = held s a n q in
         let l : n ≤ length (drop a s) = rw length-drop (omega (arith, w.inside)) in
         record {
@@ -98,9 +98,9 @@ nth-is d (suc n) s ts r f e k l =
 code-suffix : (s : List ℕ) (v : ℕ) (r : List ℕ) → parse read_count s ≡ got v r → Suffix s r
 code-suffix s v r e = go (read_count s) e
   where
-    go : (x : Read) → behind_code s x ≡ got v r → Suffix s r
-    go (Value w n) e = let z : drop n s ≡ r = got-rest e in rw (← z) (suffix-drop s n)
-    go (Unread k) e = bad-got e
+    go : (x : Coded ℕ) → behind_code s x ≡ got v r → Suffix s r
+    go (Ok (w, n)) e = let z : drop n s ≡ r = got-rest e in rw (← z) (suffix-drop s n)
+    go (Err k) e = bad-got e
 
 many-length : (n : ℕ) (s : List ℕ) (ts : List (List ℕ)) (r : List ℕ) → many string no_state n tt s ≡ got ts r → length ts ≡ n
 unfolding many
@@ -130,7 +130,7 @@ pub string-is : (d : List ℕ) (ts : List (List ℕ)) (r : List ℕ) (k : ℕ) �
 unfolding counted all_strings
 string-is d ts r k e h =
     let x = bind-good (parse read_count d) counted ts r e in
-    let y = pick-bad (ltb 8192 x.first) (all_strings x.first x.rest) 4 ts r x.on in
+    let y = pick-bad (ltb 8192 x.first) (all_strings x.first x.rest) TooLarge ts r x.on in
     let z = bind-good (read_strings x.first x.rest) ended ts r y.1 in
     let w = ended-good z.first ts z.rest r z.on in
     let i : read_strings x.first x.rest ≡ got ts z.rest = z.is ∙ ap (λ (us : List (List ℕ)). got us z.rest) w.0 in

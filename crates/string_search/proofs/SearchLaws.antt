@@ -1,4 +1,6 @@
 -- Each way out of the search. Assumes nothing.
+use Rattle.base.specs.declared.Refusal.TheVariants.{BadData}
+use Rattle.base.specs.declared.Refusal.{Refusal}
 use mathlib.Core.Path.{◌≡◌, refl, ap, ◌∙◌}
 use mathlib.Core.List.{List}
 use Prim.Native.Nat.{ℕ, zero, suc, ◌+◌, ◌-◌, ◌≤◌, ◌<◌}
@@ -16,7 +18,7 @@ use Rattle.places.proofs.PlaceLaws.{here, refuse}
 use Rattle.string_search.specs.Search.{judge_length, parse_string, nth_string, string_numbered, string_span}
 use Rattle.string_search.proofs.SuffixLaws.{place-of}
 
-pub placed-bad : {A : Type 0} {s : List ℕ} {p : Parsed A} {x : Placed A} → Stands s p x → (k : ℕ) → x ≡ no k → p ≡ bad k
+pub placed-bad : {A : Type 0} {s : List ℕ} {p : Parsed A} {x : Placed A} → Stands s p x → (k : Refusal) → x ≡ no k → p ≡ bad k
 placed-bad h k f = rw (h.means, f)
 
 pub length-in : (s : List ℕ) (n e : ℕ) → e ≤ length s → n ≤ length s - e → Stands s (judge_length n (drop e s)) (at n e)
@@ -25,18 +27,18 @@ length-in s n e w h =
     let l : n ≤ length (drop e s) = rw length-drop h in
     rw (le-leb n (length (drop e s)) l) (here s n n e refl w)
 
-pub length-out : (s : List ℕ) (n e : ℕ) → length s - e < n → Stands s (judge_length n (drop e s)) (no 9)
+pub length-out : (s : List ℕ) (n e : ℕ) → length s - e < n → Stands s (judge_length n (drop e s)) (no BadData)
 unfolding judge_length
 length-out s n e h =
     let l : length (drop e s) < n = rw length-drop h in
-    rw (lt-leb n (length (drop e s)) l) (refuse s 9)
+    rw (lt-leb n (length (drop e s)) l) (refuse s BadData)
 
 -- a string that was read lies in the bytes
 pub string-room : (s q : List ℕ) (n e : ℕ) → parse_string q ≡ got n (drop e s) → e ≤ length s → e + n ≤ length s
 unfolding parse_string judge_length
 string-room s q n e h w =
     let x = bind-good (parse read_count q) judge_length n (drop e s) h in
-    let y = pick_good (leb x.first (length x.rest)) (got x.first x.rest) 9 n (drop e s) x.on in
+    let y = pick_good (leb x.first (length x.rest)) (got x.first x.rest) BadData n (drop e s) x.on in
     let l : x.first ≤ length x.rest = leb-true x.first (length x.rest) y.0 in
     let a : x.first ≡ n = got-value y.1 in
     let b : length x.rest ≡ length (drop e s) = ap length (got-rest y.1) in
@@ -52,7 +54,7 @@ module _ (s : List ℕ) (from k : ℕ) where
   skipping-start h = record { inside = h; goes = refl }
 
   module _ (left place : ℕ) (w : Skipping left place) where
-    pub skipping-bad : 0 < left → (m : ℕ) → Stands s (parse_string (drop place s)) (no m) → Stands s (nth_string k (drop from s)) (no m)
+    pub skipping-bad : 0 < left → (m : Refusal) → Stands s (parse_string (drop place s)) (no m) → Stands s (nth_string k (drop from s)) (no m)
     unfolding nth_string
     skipping-bad h m b = record { means = w.goes ∙ go left h; within = tt }
       where
@@ -77,7 +79,7 @@ module _ (d : List ℕ) (k : ℕ) where
   abbrev none : Span
   none = record { at = 0; len = 0 }
 
-  pub span-uncounted : (m : ℕ) → parse read_count d ≡ bad m → none ≡ string_span d k
+  pub span-uncounted : (m : Refusal) → parse read_count d ≡ bad m → none ≡ string_span d k
   unfolding string_span
   span-uncounted m e = rw e
 
@@ -85,7 +87,7 @@ module _ (d : List ℕ) (k : ℕ) where
   unfolding string_span string_numbered
   span-past n r e h = rw (e, le-ltb k n h)
 
-  pub span-bad : (n : ℕ) (r : List ℕ) (m : ℕ) → parse read_count d ≡ got n r → k < n → nth_string k r ≡ bad m → none ≡ string_span d k
+  pub span-bad : (n : ℕ) (r : List ℕ) (m : Refusal) → parse read_count d ≡ got n r → k < n → nth_string k r ≡ bad m → none ≡ string_span d k
   unfolding string_span string_numbered
   span-bad n r m e h f = rw (e, lt-ltb k n h, f)
 

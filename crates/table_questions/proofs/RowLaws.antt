@@ -1,4 +1,9 @@
 -- Halving every seventh number, and each way out of a question over a table. Assumes nothing.
+use Rattle.base.specs.declared.Refusal.TheVariants.{OutOfRange}
+use Rattle.std.specs.declared.option.Option.{Option}
+use Rattle.std.specs.declared.option.Option.TheVariants.{None, Some}
+use Rattle.base.specs.Coded.{Fault}
+use Rattle.std.specs.Prelude.{Err, Ok, Result}
 use mathlib.Core.Path.{◌≡◌, refl, sym, ap, ◌∙◌, subst}
 use mathlib.Core.Bool.{Bool, true, false}
 use mathlib.Core.List.{List}
@@ -14,15 +19,11 @@ use Rattle.base.proofs.Tests.{never, by_order}
 use Rattle.signed.specs.Instant.{instant_of}
 use Rattle.zones.specs.declared.Edition.{Edition}
 use Rattle.answers.specs.declared.Found.{Found}
-use Rattle.answers.specs.declared.Answer.{Answer}
-use Rattle.answers.specs.declared.Answer.TheVariants.{In, Refused}
 use Rattle.halving.specs.Looks.{Standing, Near}
 use Rattle.halving.proofs.StepLaws.{find_none, standing-start, standing-kept, standing-before, standing-done}
 use Rattle.found_zones.specs.FoundZone.{ask_zone}
 use Rattle.found_zones.specs.declared.FoundZone.{FoundZone}
 use Rattle.answer_tables.specs.Table.{natural, answer_at, starts_of, holds_in, kept_by, kept_row, answer_or, ask_listed}
-use Rattle.answer_tables.specs.declared.Kept.{Kept}
-use Rattle.answer_tables.specs.declared.Kept.TheVariants.{Row, Nothing}
 use Rattle.answer_tables.proofs.RowLaws.{starts-length, start_is, left-inside}
 use Rattle.table_questions.specs.View.{Seeking, Looked, LeftRow}
 use Rattle.table_questions.specs.declared.Rows.{Rows}
@@ -115,7 +116,7 @@ module _ (rows : List ℤ) (z : ℤ) where
 
   -- each way out of the table, of n bytes
   module _ (n : ℕ) where
-    pub kept-none : length rows / 7 ≡ 0 → Nothing ≡ kept_row n rows z
+    pub kept-none : length rows / 7 ≡ 0 → None ≡ kept_row n rows z
     unfolding kept_row
     kept-none h = ap (kept_by n rows z) (find_none (starts_of rows) z (starts-length (length rows / 7) 0 rows ∙ h))
 
@@ -141,38 +142,38 @@ module _ (rows : List ℤ) (z : ℤ) where
 
       -- by its tests
       by_tests : (a b c : Bool) → le_z (number 5) z ≡ a → lt_z z (number 6) ≡ b → leb (natural (number 3) + natural (number 4)) n ≡ c
-          → pick (both a (both b c)) (Row row) Nothing ≡ kept_row n rows z
+          → pick (both a (both b c)) (Some row) None ≡ kept_row n rows z
       unfolding kept_row
       by_tests a b c p q r =
-          rw (← p, ← q, ← r) (ap (λ (y : Found). pick (holds_in n y z) (Row y) Nothing) row_is ∙ ap (kept_by n rows z) (sym l.is))
+          rw (← p, ← q, ← r) (ap (λ (y : Found). pick (holds_in n y z) (Some y) None) row_is ∙ ap (kept_by n rows z) (sym l.is))
 
-      pub kept-after : le_z (number 5) z ≡ false → Nothing ≡ kept_row n rows z
+      pub kept-after : le_z (number 5) z ≡ false → None ≡ kept_row n rows z
       kept-after p = by_tests false (lt_z z (number 6)) (leb (natural (number 3) + natural (number 4)) n) p refl refl
 
       module _ (p : le_z (number 5) z ≡ true) where
-        pub kept-before : lt_z z (number 6) ≡ false → Nothing ≡ kept_row n rows z
+        pub kept-before : lt_z z (number 6) ≡ false → None ≡ kept_row n rows z
         kept-before q = by_tests true false (leb (natural (number 3) + natural (number 4)) n) p q refl
 
         module _ (q : lt_z z (number 6) ≡ true) where
-          pub kept-outside : n < natural (number 3) + natural (number 4) → Nothing ≡ kept_row n rows z
+          pub kept-outside : n < natural (number 3) + natural (number 4) → None ≡ kept_row n rows z
           kept-outside r = by_tests true true false p q (lt-leb (natural (number 3) + natural (number 4)) n r)
 
-          pub kept-holds : natural (number 3) + natural (number 4) ≤ n → Row row ≡ kept_row n rows z
+          pub kept-holds : natural (number 3) + natural (number 4) ≤ n → Some row ≡ kept_row n rows z
           kept-holds r = by_tests true true true p q (le-leb (natural (number 3) + natural (number 4)) n r)
 
 -- BY THE TICK
 module _ (f : List ℕ) (v : FoundZone) (rows : List ℤ) (z : ℤ) (ed : Edition) where
-  pub listed-outside : (t : ℕ) → t ≡ instant_of z → t ≡ 0 → Refused 14 0 ≡ ask_listed f v rows z ed
+  pub listed-outside : (t : ℕ) → t ≡ instant_of z → t ≡ 0 → ◌≡◌ {A = Result Found Fault} (Err (OutOfRange, 0)) (ask_listed f v rows z ed)
   unfolding ask_listed
   listed-outside t e h = rw (eq-eqb (instant_of z) 0 (sym e ∙ h))
 
-  module _ (t : ℕ) (e : t ≡ instant_of z) (h : t ≡ 0 → ⊥) (c : Kept) (k : c ≡ kept_row (length f) rows z) where
-    inside : (a : Answer) → a ≡ answer_or c (ask_zone f v z ed) → a ≡ ask_listed f v rows z ed
+  module _ (t : ℕ) (e : t ≡ instant_of z) (h : t ≡ 0 → ⊥) (c : Option Found) (k : c ≡ kept_row (length f) rows z) where
+    inside : (a : Result Found Fault) → a ≡ answer_or c (ask_zone f v z ed) → a ≡ ask_listed f v rows z ed
     unfolding ask_listed
-    inside a q = rw (ne_eqb (instant_of z) 0 (λ i. h (e ∙ i))) (q ∙ ap (λ (y : Kept). answer_or y (ask_zone f v z ed)) k)
+    inside a q = rw (ne_eqb (instant_of z) 0 (λ i. h (e ∙ i))) (q ∙ ap (λ (y : Option Found). answer_or y (ask_zone f v z ed)) k)
 
-    pub listed-row : (x : Found) → c ≡ Row x → In x ≡ ask_listed f v rows z ed
-    listed-row x q = inside (In x) (rw q refl)
+    pub listed-row : (x : Found) → c ≡ Some x → Ok x ≡ ask_listed f v rows z ed
+    listed-row x q = inside (Ok x) (rw q refl)
 
-    pub listed-asked : c ≡ Nothing → (a : Answer) → a ≡ ask_zone f v z ed → a ≡ ask_listed f v rows z ed
+    pub listed-asked : c ≡ None → (a : Result Found Fault) → a ≡ ask_zone f v z ed → a ≡ ask_listed f v rows z ed
     listed-asked q a w = inside a (rw q w)

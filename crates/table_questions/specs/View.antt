@@ -1,7 +1,6 @@
 -- Halving a table of rows by their starts. The code's way, tied to the table by `kept-holds` and the laws beside it (proofs/RowLaws.antt).
-use Rattle.std.specs.Prelude.{ℕ, ◌+◌, ◌*◌, ◌/◌, ◌≤◌, ◌<◌, ◌≡◌, List, ℤ, length}
+use Rattle.std.specs.Prelude.{ℕ, ◌+◌, ◌*◌, ◌/◌, ◌≤◌, ◌<◌, ◌≡◌, List, ℤ, length, Ok}
 use Rattle.halving.specs.Halving.{find_start}
-use Rattle.halving.specs.declared.Search.TheVariants.{Entry}
 use Rattle.halving.specs.Looks.{Standing}
 use Rattle.answer_tables.specs.Table.{starts_of}
 use Rattle.table_questions.specs.declared.Rows.{Rows}
@@ -27,5 +26,5 @@ pub record LeftRow (rows : List ℤ) (z : ℤ) (at : ℕ) : Type 0 where
   pub row : ℕ
   pub looks : ℕ
   pub place : at ≡ 7 * row
-  pub is : find_start (starts_of rows) z ≡ Entry row looks
+  pub is : find_start (starts_of rows) z ≡ Ok (row, looks)
   pub inside : at + 7 ≤ length rows

@@ -6,8 +6,8 @@ ghost use Rattle.halving.specs.Looks.{Near, Due};
 ghost use Rattle.answer_tables.specs.Table.{natural, kept_row, ask_listed};
 ghost use Rattle.table_questions.specs.View.{Seeks, Looked, LeftRow};
 
-use answer_tables::Kept;
-use answers::{Answer, Found};
+use answers::Found;
+use base::{Fault, Refusal};
 use found_zones::FoundZone;
 use zones::Edition;
 
@@ -118,7 +118,7 @@ fn find_row(rows: &[i64], n: usize, ticks: i64) -> usize
 
 // The row at a place, if it holds the tick and its name is a part of n bytes. Each number is read behind the test before it, so that a test is a
 // branch of its own.
-fn row_at(n: usize, rows: &[i64], at: usize, ticks: i64) -> Kept
+fn row_at(n: usize, rows: &[i64], at: usize, ticks: i64) -> Option<Found>
     requires { LeftRow rows.now ticks at }
     ensures { result ≡ kept_row n rows.now ticks }
 {
@@ -126,13 +126,13 @@ fn row_at(n: usize, rows: &[i64], at: usize, ticks: i64) -> Kept
         if ticks < rows[at + 6] {
             let name = count_of(rows[at + 3]);
             if n < name {
-                return Kept::Nothing;
+                return None;
             }
             let length = count_of(rows[at + 4]);
             if n - name < length {
-                return Kept::Nothing;
+                return None;
             }
-            return Kept::Row(Found {
+            return Some(Found {
                 wall: rows[at],
                 savings: rows[at + 1],
                 standard: rows[at + 2],
@@ -142,32 +142,38 @@ fn row_at(n: usize, rows: &[i64], at: usize, ticks: i64) -> Kept
                 end: rows[at + 6],
             });
         }
-        return Kept::Nothing;
+        return None;
     }
-    Kept::Nothing
+    None
 }
 
 // The row that holds the tick, if its name is a part of n bytes.
-fn kept_row(n: usize, rows: &[i64], ticks: i64) -> Kept
+fn kept_row(n: usize, rows: &[i64], ticks: i64) -> Option<Found>
     ensures { result ≡ kept_row n rows.now ticks }
 {
     let count = rows.len() / 7;
     if count == 0 {
-        return Kept::Nothing;
+        return None;
     }
     let at = find_row(rows, count, ticks);
     row_at(n, rows, at, ticks)
 }
 
 // The question over a table of the zone's answers, whatever its rows are. The file is read only where no row holds the tick.
-pub fn ask_listed(file: &[u8], v: FoundZone, rows: &[i64], ticks: i64, edition: Edition) -> Answer
+pub fn ask_listed(
+    file: &[u8],
+    v: FoundZone,
+    rows: &[i64],
+    ticks: i64,
+    edition: Edition,
+) -> Result<Found, Fault>
     ensures { result ≡ ask_listed file.now v rows.now ticks edition }
 {
     if signed::instant(ticks) == 0 {
-        return Answer::Refused(14, 0);
+        return Err((Refusal::OutOfRange, 0));
     }
     match kept_row(file.len(), rows, ticks) {
-        Kept::Row(x) => Answer::In(x),
-        Kept::Nothing => found_zones::ask_zone(file, v, ticks, edition),
+        Some(x) => Ok(x),
+        None => found_zones::ask_zone(file, v, ticks, edition),
     }
 }

@@ -1,4 +1,5 @@
 -- What a tail that was read says is in its ranges. Assumes nothing.
+use Rattle.base.specs.declared.Refusal.TheVariants.{BadRecurrence}
 use mathlib.Core.Path.{◌≡◌, refl, ap, ◌∙◌, subst}
 use mathlib.Core.List.{List}
 use Prim.Native.Nat.{ℕ, ◌≤◌}
@@ -41,15 +42,15 @@ unfolding parse_rule after_byte parse_month after_month parse_day after_day pars
 rule-parts s x q e =
     let a = bind-good (parse_byte s) after_byte x q e in
     let b : ℕ = a.first in
-    let a' = pick_good (byte_ok b) (parse_month b a.rest) 11 x q a.on in
+    let a' = pick_good (byte_ok b) (parse_month b a.rest) BadRecurrence x q a.on in
     let c = bind-good (parse read_count a.rest) (after_month b) x q a'.1 in
     let m : ℕ = c.first in
-    let c' = pick_good (month_ok m) (parse_day b m c.rest) 11 x q c.on in
+    let c' = pick_good (month_ok m) (parse_day b m c.rest) BadRecurrence x q c.on in
     let d = bind-good (parse read_zigzag c.rest) (after_day b m) x q c'.1 in
     let z : ℕ = d.first in
-    let d' = pick_good (day_ok m z) (parse_time b m z d.rest) 11 x q d.on in
+    let d' = pick_good (day_ok m z) (parse_time b m z d.rest) BadRecurrence x q d.on in
     let f = bind-good (parse read_sum d.rest) (after_time b m z) x q d'.1 in
-    let f' = pick_good (time_ok f.first) (got (rule_of b m z f.first) f.rest) 11 x q f.on in
+    let f' = pick_good (time_ok f.first) (got (rule_of b m z f.first) f.rest) BadRecurrence x q f.on in
     record {
       byte = b;
       behind-byte = a.rest;
@@ -96,7 +97,7 @@ tail-sound pool start s n q h e =
     let b = bind-good (parse_name pool a.rest) (after_daylight_name x) n q a.on in
     let c = bind-good (parse_rule b.rest) (parse_savings x b.first) n q b.on in
     let d = bind-good (parse read_sum c.rest) (after_savings x b.first c.first) n q c.on in
-    let d' = pick_good (sum_ok x.offset d.first) (got (tail_of x b.first c.first d.first) d.rest) 11 n q d.on in
+    let d' = pick_good (sum_ok x.offset d.first) (got (tail_of x b.first c.first d.first) d.rest) BadRecurrence n q d.on in
     let f : got (tail_of x b.first c.first d.first) d.rest ≡ got n q = d'.1 in
     let g : tail_of x b.first c.first d.first ≡ n = cc in
     subst (NamedTailOk pool start) g (record {

@@ -1,5 +1,6 @@
 -- A rule and a tail in the paper's order, each as one definition: what a reader is to believe of `parse_rule` and `parse_tail` (Tail.antt), which
 -- are the same by `rule-stages` and `tail-stages` (proofs/InOrderLaws.antt). Each thing that is read is judged at once.
+use Rattle.base.specs.declared.Refusal.TheVariants.{BadRecurrence}
 use Rattle.std.specs.Prelude.{ℕ, List}
 use Rattle.base.specs.Pick.{pick}
 use Rattle.base.specs.Parsed.{Parsed, got, bad, bind, parse, parse_byte}
@@ -18,7 +19,7 @@ rule_in_order s =
     bind (parse read_count r) (λ month r. pick (month_ok month) (
     bind (parse read_zigzag r) (λ day r. pick (day_ok month day) (
     bind (parse read_sum r) (λ time r. pick (time_ok time) (
-    got (rule_of b month day time) r) (bad 11))) (bad 11))) (bad 11))) (bad 11))
+    got (rule_of b month day time) r) (bad BadRecurrence))) (bad BadRecurrence))) (bad BadRecurrence))) (bad BadRecurrence))
 
 -- "standard offset, standard name, standard rule, daylight name, daylight rule, daylight savings"
 unfoldable pub tail_in_order : ℕ → ℕ → List ℕ → Parsed NamedTail
@@ -34,4 +35,4 @@ tail_in_order pool start s =
       tail = record { start = x.start; offset = x.offset; savings = savings; standard = x.rule; daylight = rule };
       standard = x.name;
       daylight = daylight;
-    }) r) (bad 11)))))
+    }) r) (bad BadRecurrence)))))

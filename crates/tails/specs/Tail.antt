@@ -1,5 +1,6 @@
 -- The tail of a zone, read left to right, for the proofs: each thing that is read is a stage of its own, last stage first. In the paper's order
 -- a rule and a tail stand in InOrder.antt. The code's way, tied to that by `rule-stages` and `tail-stages` (proofs/InOrderLaws.antt).
+use Rattle.base.specs.declared.Refusal.TheVariants.{BadRecurrence}
 use Rattle.std.specs.Prelude.{ℕ, List}
 use Rattle.base.specs.Pick.{pick}
 use Rattle.base.specs.Parsed.{Parsed, got, bad, bind, parse, parse_byte}
@@ -13,25 +14,25 @@ use Rattle.tails.specs.declared.NamedTail.{NamedTail}
 
 -- A rule: "a byte 0MMDDDAP, month as count, day as signed count, time of day as an offset code".
 unfoldable pub after_time : ℕ → ℕ → ℕ → ℕ → List ℕ → Parsed Rule
-after_time b m z time s = pick (time_ok time) (got (rule_of b m z time) s) (bad 11)
+after_time b m z time s = pick (time_ok time) (got (rule_of b m z time) s) (bad BadRecurrence)
 
 unfoldable pub parse_time : ℕ → ℕ → ℕ → List ℕ → Parsed Rule
 parse_time b m z s = bind (parse read_sum s) (after_time b m z)
 
 unfoldable pub after_day : ℕ → ℕ → ℕ → List ℕ → Parsed Rule
-after_day b m z s = pick (day_ok m z) (parse_time b m z s) (bad 11)
+after_day b m z s = pick (day_ok m z) (parse_time b m z s) (bad BadRecurrence)
 
 unfoldable pub parse_day : ℕ → ℕ → List ℕ → Parsed Rule
 parse_day b m s = bind (parse read_zigzag s) (after_day b m)
 
 unfoldable pub after_month : ℕ → ℕ → List ℕ → Parsed Rule
-after_month b m s = pick (month_ok m) (parse_day b m s) (bad 11)
+after_month b m s = pick (month_ok m) (parse_day b m s) (bad BadRecurrence)
 
 unfoldable pub parse_month : ℕ → List ℕ → Parsed Rule
 parse_month b s = bind (parse read_count s) (after_month b)
 
 unfoldable pub after_byte : ℕ → List ℕ → Parsed Rule
-after_byte b s = pick (byte_ok b) (parse_month b s) (bad 11)
+after_byte b s = pick (byte_ok b) (parse_month b s) (bad BadRecurrence)
 
 unfoldable pub parse_rule : List ℕ → Parsed Rule
 parse_rule s = bind (parse_byte s) after_byte
@@ -59,7 +60,7 @@ tail_of x n rule savings =
     }
 
 unfoldable pub after_savings : Standard → ℕ → Rule → ℕ → List ℕ → Parsed NamedTail
-after_savings x n rule savings s = pick (sum_ok x.offset savings) (got (tail_of x n rule savings) s) (bad 11)
+after_savings x n rule savings s = pick (sum_ok x.offset savings) (got (tail_of x n rule savings) s) (bad BadRecurrence)
 
 unfoldable pub parse_savings : Standard → ℕ → Rule → List ℕ → Parsed NamedTail
 parse_savings x n rule s = bind (parse read_sum s) (after_savings x n rule)

@@ -1,23 +1,19 @@
 -- The results of the tail's readers. The code's way: places in the data, as places' `Stands` has them.
+use Rattle.std.specs.Prelude.{Err, Ok}
+use Rattle.base.specs.Coded.{Coded}
 use Rattle.places.specs.Placed.{Placed, at, no}
 use Rattle.rules.specs.declared.Rule.{Rule}
 use Rattle.tails.specs.declared.Standard.{Standard}
 use Rattle.tails.specs.declared.NamedTail.{NamedTail}
-use Rattle.tails.specs.declared.RuleRead.{RuleRead}
-use Rattle.tails.specs.declared.RuleRead.TheVariants.{Got as RuleGot, Refused as RuleRefused}
-use Rattle.tails.specs.declared.StandardRead.{StandardRead}
-use Rattle.tails.specs.declared.StandardRead.TheVariants.{Got as StandardGot, Refused as StandardRefused}
-use Rattle.tails.specs.declared.TailRead.{TailRead}
-use Rattle.tails.specs.declared.TailRead.TheVariants.{Got as TailGot, Refused as TailRefused}
 
-abbrev pub of_rule : RuleRead → Placed Rule
-of_rule (RuleGot r e) = at r e
-of_rule (RuleRefused n) = no n
+abbrev pub of_rule : Coded Rule → Placed Rule
+of_rule (Ok (r, e)) = at r e
+of_rule (Err n) = no n
 
-abbrev pub of_standard : StandardRead → Placed Standard
-of_standard (StandardGot x e) = at x e
-of_standard (StandardRefused n) = no n
+abbrev pub of_standard : Coded Standard → Placed Standard
+of_standard (Ok (x, e)) = at x e
+of_standard (Err n) = no n
 
-abbrev pub of_tail : TailRead → Placed NamedTail
-of_tail (TailGot t e) = at t e
-of_tail (TailRefused n) = no n
+abbrev pub of_tail : Coded NamedTail → Placed NamedTail
+of_tail (Ok (t, e)) = at t e
+of_tail (Err n) = no n

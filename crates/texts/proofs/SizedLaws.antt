@@ -1,5 +1,9 @@
 -- A text behind the code of its length, whatever code that is: what the reader's tests say, where a text that reads lies, that reading and
 -- writing undo one another, and what the writer leaves. Assumes nothing.
+use Rattle.std.specs.Prelude.{Err, Ok, Result}
+use Rattle.base.specs.Coded.{Coded}
+use Rattle.base.specs.declared.Refusal.{Refusal}
+use Rattle.base.specs.declared.Refusal.TheVariants.{BadData, BadText, TooLarge, TooShort}
 use mathlib.Core.Path.{◌≡◌, refl, sym, ◌∙◌, ap}
 use mathlib.Core.List.{List, ◌++◌, append_assoc}
 use mathlib.Core.Bool.{Bool, true, false}
@@ -12,51 +16,52 @@ use borrow.Author.Tests.{lt-ltb, le-ltb, le-leb, ltb-false}
 use borrow.Rule.Slice.PartMut.{put_mid}
 use Rattle.base.specs.Pick.{pick}
 use Rattle.base.specs.Writing.{bytes, wrote, placed, Writes}
-use Rattle.base.specs.declared.Read.{Read}
-use Rattle.base.specs.declared.Read.TheVariants.{Value, Refused as Unread}
-use Rattle.base.specs.declared.Wrote.TheVariants.{Length, Refused as WriteRefused}
+use Rattle.base.proofs.PairLaws.{ok_parts}
 use Rattle.base.proofs.Tests.{clash}
 use Rattle.base.proofs.Parts.{part-from, put-from}
 use Rattle.base.proofs.WriteLaws.{no_room}
 use Rattle.utf8.specs.Utf8.{utf8}
 use Rattle.texts.specs.Text.{text_sized}
-use Rattle.texts.specs.declared.Text.TheVariants.{Part, Refused}
 pub use Rattle.texts.specs.Facts.{Sized, Fit}
 
 -- what the tests of the reader say
 module _ (s : List ℕ) (n a : ℕ) where
-  pub sized-long : 1024 < n → Refused 4 ≡ text_sized s (Value n a)
+  pub sized-long : 1024 < n → Err TooLarge ≡ text_sized s (Ok (n, a))
   unfolding text_sized
   sized-long l = rw (lt-ltb 1024 n l)
 
   module _ (l : n ≤ 1024) where
-    pub sized-cut : length s - a < n → Refused 9 ≡ text_sized s (Value n a)
+    pub sized-cut : length s - a < n → Err BadData ≡ text_sized s (Ok (n, a))
     unfolding text_sized
     sized-cut k = rw (le-ltb 1024 n l, lt-ltb (length s - a) n k)
 
-    pub sized-tested : (b : Bool) → n ≤ length s - a → b ≡ utf8 (take (a + n - a) (drop a s)) → pick b (Part a n) (Refused 8) ≡ text_sized s (Value n a)
+    pub sized-tested : (b : Bool) → n ≤ length s - a → b ≡ utf8 (take (a + n - a) (drop a s)) → pick b (Ok (a, n)) (Err BadText) ≡ text_sized s (Ok (n, a))
     unfolding text_sized
     sized-tested b k q =
         let z : a + n - a ≡ n = omega arith in
         rw (rw z at q) (rw (le-ltb 1024 n l, le-ltb (length s - a) n k))
 
-pub sized-held : (s : List ℕ) (g : Read) (a n : ℕ) → text_sized s g ≡ Part a n → Sized s g a n
+pub sized-held : (s : List ℕ) (g : Coded ℕ) (a n : ℕ) → text_sized s g ≡ Ok (a, n) → Sized s g a n
 unfolding text_sized
-sized-held s (Unread k) a n e = clash cc
-sized-held s (Value m b) a n e = one (ltb 1024 m) refl e
+sized-held s (Err k) a n e = clash cc
+sized-held s (Ok (m, b)) a n e = one (ltb 1024 m) refl e
   where
-    three : (t : Bool) → utf8 (take m (drop b s)) ≡ t → m ≤ 1024 → m ≤ length s - b → pick t (Part b m) (Refused 8) ≡ Part a n → Sized s (Value m b) a n
+    three : (t : Bool) → utf8 (take m (drop b s)) ≡ t → m ≤ 1024 → m ≤ length s - b → pick {A = Result (ℕ × ℕ) Refusal} t (Ok (b, m)) (Err BadText) ≡ Ok (a, n)
+        → Sized s (Ok (m, b)) a n
     three true q l k p =
-        let i : m ≡ n = cc in
-        let j : b ≡ a = cc in
-        record { code = cc; small = omega arith; room = omega arith; valid = rw (i, j) at q }
+        let i : m ≡ n = (ok_parts p).1 in
+        let j : b ≡ a = (ok_parts p).0 in
+        record { code = cc (i, j); small = omega arith; room = omega arith; valid = rw (i, j) at q }
     three false q l k p = clash cc
 
-    two : (t : Bool) → ltb (length s - b) m ≡ t → m ≤ 1024 → pick t (Refused 9) (pick (utf8 (take m (drop b s))) (Part b m) (Refused 8)) ≡ Part a n → Sized s (Value m b) a n
+    two : (t : Bool) → ltb (length s - b) m ≡ t → m ≤ 1024
+        → pick {A = Result (ℕ × ℕ) Refusal} t (Err BadData) (pick (utf8 (take m (drop b s))) (Ok (b, m)) (Err BadText)) ≡ Ok (a, n) → Sized s (Ok (m, b)) a n
     two true q l p = clash cc
     two false q l p = three (utf8 (take m (drop b s))) refl l (ltb-false _ _ q) p
 
-    one : (t : Bool) → ltb 1024 m ≡ t → pick t (Refused 4) (pick (ltb (length s - b) m) (Refused 9) (pick (utf8 (take m (drop b s))) (Part b m) (Refused 8))) ≡ Part a n → Sized s (Value m b) a n
+    one : (t : Bool) → ltb 1024 m ≡ t
+        → pick {A = Result (ℕ × ℕ) Refusal} t (Err TooLarge) (pick (ltb (length s - b) m) (Err BadData) (pick (utf8 (take m (drop b s))) (Ok (b, m)) (Err BadText))) ≡ Ok (a, n)
+        → Sized s (Ok (m, b)) a n
     one true q p = clash cc
     one false q p = two (ltb (length s - b) m) refl (ltb-false _ _ q) p
 
@@ -67,7 +72,7 @@ sized-back w t rest =
     ∙ ap (take (length t)) (drop-append_seam w (t ++ rest))
     ∙ take-append_seam t rest
 
-pub sized-written : (w t rest : List ℕ) → Fit t → text_sized ((w ++ t) ++ rest) (Value (length t) (length w)) ≡ Part (length w) (length t)
+pub sized-written : (w t rest : List ℕ) → Fit t → text_sized ((w ++ t) ++ rest) (Ok (length t, length w)) ≡ Ok (length w, length t)
 unfolding text_sized
 sized-written w t rest f =
     let s : List ℕ = (w ++ t) ++ rest in
@@ -86,7 +91,7 @@ sized-form s w a n e =
 
 -- what the writer leaves: the code w of the length, the bytes t, and what stood behind them
 module _ (w t d : List ℕ) (a : ℕ) (e : a ≡ length w) where
-  pub sized-full : length d < a + length t → Writes (bytes (w ++ t)) d (WriteRefused 15) d
+  pub sized-full : length d < a + length t → Writes (bytes (w ++ t)) d (Err TooShort) d
   sized-full h = no_room (w ++ t) d (simp length-append (omega arith))
 
   -- out is what the length's code left
@@ -106,7 +111,7 @@ module _ (w t d : List ℕ) (a : ℕ) (e : a ≡ length w) where
 
     -- last is what the copy left of the output behind the length's code
     pub sized-left : (last : List ℕ) → last ≡ take (length t) t ++ drop (length t) (take (length out - a) (drop a out))
-        → Writes (bytes (w ++ t)) d (Length (a + length t)) (put_mid a (length out - a) out last)
+        → Writes (bytes (w ++ t)) d (Ok (a + length t)) (put_mid a (length out - a) out last)
     unfolding wrote placed
     sized-left last p =
         let k : length (w ++ t) ≡ a + length t = simp length-append (omega arith) in

@@ -1,4 +1,7 @@
 -- What the writer of a text leaves. Assumes nothing.
+use Rattle.base.specs.declared.Refusal.{Refusal}
+use Rattle.std.specs.Prelude.{Err, Result}
+use Rattle.base.specs.declared.Refusal.TheVariants.{BadText, TooLarge}
 use mathlib.Core.Path.{◌≡◌, sym, ◌∙◌}
 use mathlib.Core.List.{List}
 use mathlib.Core.Bool.{Bool, true, false}
@@ -7,8 +10,6 @@ use native.Mathlib.Omega.{arith}
 use lib.ListN.{length}
 use borrow.Author.Tests.{lt-ltb, le-ltb, le-leb}
 use Rattle.base.specs.Writing.{bytes, placed, Writes}
-use Rattle.base.specs.declared.Wrote.{Wrote}
-use Rattle.base.specs.declared.Wrote.TheVariants.{Refused}
 use Rattle.base.proofs.WriteLaws.{not_carried}
 use Rattle.counts.specs.Count.{write_count, count_form}
 use Rattle.utf8.specs.Utf8.{utf8}
@@ -19,12 +20,12 @@ pub length-written : (n : ℕ) (d out : List ℕ) → n ≤ 1024 → out ≡ pla
 length-written n d out l q = q ∙ rw (le-leb n 2147483647 (omega arith))
 
 -- the tests of the writer
-pub form-long : (t d : List ℕ) → 1024 < length t → Writes (text_form t) d (Refused 4) d
-form-long t d h = rw (lt-ltb 1024 (length t) h) (not_carried 4 d)
+pub form-long : (t d : List ℕ) → 1024 < length t → Writes (text_form t) d (Err TooLarge) d
+form-long t d h = rw (lt-ltb 1024 (length t) h) (not_carried TooLarge d)
 
 module _ (t d : List ℕ) (l : length t ≤ 1024) (b : Bool) (q : b ≡ utf8 t) where
-  pub form-invalid : b ≡ false → Writes (text_form t) d (Refused 8) d
-  form-invalid e = rw (le-ltb 1024 (length t) l, sym q ∙ e) (not_carried 8 d)
+  pub form-invalid : b ≡ false → Writes (text_form t) d (Err BadText) d
+  form-invalid e = rw (le-ltb 1024 (length t) l, sym q ∙ e) (not_carried BadText d)
 
-  pub form-valid : b ≡ true → (r : Wrote) (o : List ℕ) → Writes (bytes (write_text t)) d r o → Writes (text_form t) d r o
+  pub form-valid : b ≡ true → (r : Result ℕ Refusal) (o : List ℕ) → Writes (bytes (write_text t)) d r o → Writes (text_form t) d r o
   form-valid e r o h = rw (le-ltb 1024 (length t) l, sym q ∙ e) h

@@ -1,4 +1,6 @@
 -- Worked examples of UTF-8 and of texts. Assumes nothing.
+use Rattle.std.specs.Prelude.{Err, Ok}
+use Rattle.base.specs.declared.Refusal.TheVariants.{BadCode, BadData, BadText, TooLarge}
 use mathlib.Core.Path.{◌≡◌, refl}
 use mathlib.Core.List.{[], ◌∷◌, map}
 use mathlib.Core.Bool.{true, false}
@@ -7,7 +9,6 @@ use Rattle.counts.specs.Groups.{read_groups, write_groups}
 use Rattle.utf8.specs.Utf8.{chars, utf8}
 use Rattle.utf8.specs.CodePoints.{encode}
 use Rattle.texts.specs.Text.{text_sized, read_text, text_bytes, text_form}
-use Rattle.texts.specs.declared.Text.TheVariants.{Part, Refused}
 
 -- U+20AC; an overlong slash; a surrogate; U+10FFFF; one past it; a lone tail byte; a cut character
 pub is-utf8 :
@@ -26,7 +27,7 @@ encodes = refl
 -- 03 "UTC" before a byte more; cut; not UTF-8; a length of 1025; a padded length; none
 pub reads :
     map read_text ((3 ∷ 85 ∷ 84 ∷ 67 ∷ 9 ∷ []) ∷ (3 ∷ 85 ∷ 84 ∷ []) ∷ (1 ∷ 0xff ∷ []) ∷ (0x81 ∷ 8 ∷ []) ∷ (0x80 ∷ 0 ∷ []) ∷ [] ∷ [])
-    ≡ Part 1 3 ∷ Refused 9 ∷ Refused 8 ∷ Refused 4 ∷ Refused 7 ∷ Refused 9 ∷ []
+    ≡ Ok (1, 3) ∷ Err BadData ∷ Err BadText ∷ Err TooLarge ∷ Err BadCode ∷ Err BadData ∷ []
 unfolding chars text_sized read_groups
 reads = refl
 

@@ -1,59 +1,47 @@
 // Texts: a length and that many bytes of UTF-8.
 #![tactic(auto)]
 
-ghost use Rattle.std.specs.Prelude.{◌≡◌, ◌+◌, ◌≤◌, ◌<◌, length, take, true};
+ghost use Rattle.std.specs.Prelude.{◌≡◌, ◌+◌, ◌≤◌, ◌<◌, length, take, true, Ok};
 ghost use Rattle.base.specs.Writing.{bytes, Writes};
 ghost use Rattle.utf8.specs.Utf8.{utf8};
 ghost use Rattle.utf8.specs.Ascii.{ascii};
-ghost use Rattle.base.specs.declared.Read.TheVariants.{Value};
 ghost use Rattle.texts.specs.Text.{text_sized, read_text, text_bytes, write_text, text_form};
 
-use base::{Read, Wrote};
+use base::Refusal;
 
-// What reading a text from the front of some bytes finds.
-#[derive(Clone, Copy)]
-pub enum Text {
-    // The place of its first byte, behind the length, and how many bytes it has.
-    Part(usize, usize),
-    // The number of a refusal.
-    Refused(u8),
-}
-
-// The text of n bytes behind the a bytes of its length at the front of s, of which the first `plain` bytes are known to be ASCII: what lies
+// Place and length of the text of n bytes behind the a bytes of its length at the front of s, of which the first `plain` bytes are known to be ASCII: what lies
 // in them is not looked at again.
-pub fn text_behind(s: &[u8], a: usize, n: usize, plain: usize) -> Text
+pub fn text_behind(s: &[u8], a: usize, n: usize, plain: usize) -> Result<(usize, usize), Refusal>
     requires { (a ≤ length s.now) × (ascii (take plain s.now) ≡ true) }
-    ensures { result ≡ text_sized s.now (Value n a) }
+    ensures { result ≡ text_sized s.now (Ok (n, a)) }
 {
     if 1024 < n {
-        return Text::Refused(4);
+        return Err(Refusal::TooLarge);
     }
     if s.len() - a < n {
-        return Text::Refused(9);
+        return Err(Refusal::BadData);
     }
     let e = a + n;
     if e <= plain {
-        return Text::Part(a, n);
+        return Ok((a, n));
     }
     if utf8::is_utf8(&s[a..e]) {
-        return Text::Part(a, n);
+        return Ok((a, n));
     }
-    Text::Refused(8)
+    Err(Refusal::BadText)
 }
 
-// The text at the front of s, of which the first `plain` bytes are known to be ASCII.
-pub fn read_text_in(s: &[u8], plain: usize) -> Text
+// Place and length of the text at the front of s, of which the first `plain` bytes are known to be ASCII.
+pub fn read_text_in(s: &[u8], plain: usize) -> Result<(usize, usize), Refusal>
     requires { ascii (take plain s.now) ≡ true }
     ensures { result ≡ read_text s.now }
 {
-    match count_readers::read_count(s) {
-        Read::Refused(k) => Text::Refused(k),
-        Read::Value(n, a) => text_behind(s, a, n as usize, plain),
-    }
+    let (n, a) = count_readers::read_count(s)?;
+    text_behind(s, a, n as usize, plain)
 }
 
-// The text at the front of s.
-pub fn read_text(s: &[u8]) -> Text
+// Place and length of the text at the front of s.
+pub fn read_text(s: &[u8]) -> Result<(usize, usize), Refusal>
     ensures { result ≡ read_text s.now }
 {
     read_text_in(s, 0)
@@ -65,8 +53,8 @@ pub fn text_bytes<'a>(s: &'a [u8]) -> &'a [u8]
 {
     let t = read_text(s);
     match t {
-        Text::Refused(_) => &s[0..0],
-        Text::Part(a, n) => {
+        Err(_) => &s[0..0],
+        Ok((a, n)) => {
             let e = a + n;
             &s[a..e]
         }
@@ -74,29 +62,30 @@ pub fn text_bytes<'a>(s: &'a [u8]) -> &'a [u8]
 }
 
 // Writes a length and the bytes of t, once all of them are known to have room.
-fn write_sized(t: &[u8], out: &mut [u8]) -> Wrote
+fn write_sized(t: &[u8], out: &mut [u8]) -> Result<usize, Refusal>
     requires { length t.now ≤ 1024 }
     ensures { Writes (bytes (write_text t.now)) out.old result out.new }
 {
     let n = t.len();
     let a = count_writers::count_size(n as u64);
     if out.len() < a + n {
-        return Wrote::Refused(15);
+        return Err(Refusal::TooShort);
     }
-    count_writers::write_count(n as u64, out);
+    // the room is known
+    let _ = count_writers::write_count(n as u64, out);
     slices::copy(t, &mut out[a..]);
-    Wrote::Length(a + n)
+    Ok(a + n)
 }
 
 // Writes t as a text to the front of out.
-pub fn write_text(t: &[u8], out: &mut [u8]) -> Wrote
+pub fn write_text(t: &[u8], out: &mut [u8]) -> Result<usize, Refusal>
     ensures { Writes (text_form t.now) out.old result out.new }
 {
     if 1024 < t.len() {
-        return Wrote::Refused(4);
+        return Err(Refusal::TooLarge);
     }
     if utf8::is_utf8(t) {
         return write_sized(t, out);
     }
-    Wrote::Refused(8)
+    Err(Refusal::BadText)
 }

@@ -1,4 +1,7 @@
 -- The zone kept for a name, and the offset kept with it, answer as the question on that name. Assumes nothing.
+use Rattle.base.specs.declared.Refusal.{Refusal}
+use Rattle.base.specs.declared.Refusal.TheVariants.{OutOfRange}
+use Rattle.std.specs.Prelude.{Err, Ok}
 use mathlib.Core.Path.{◌≡◌, refl, sym, ap, ◌∙◌, subst}
 use mathlib.Core.Bool.{Bool, true, false}
 use mathlib.Core.List.{List}
@@ -17,12 +20,10 @@ use Rattle.base.proofs.Tests.{never}
 use Rattle.signed.specs.Instant.{instant_of, InRange}
 use Rattle.zones.specs.Content.{Zone}
 use Rattle.zones.specs.declared.Edition.TheVariants.{Two}
-use Rattle.answers.specs.declared.Answer.TheVariants.{Refused}
 use Rattle.questions.specs.Question.{ask}
 use Rattle.traces.specs.Trace.{name_start, name_length, instant_at, shown_at, name_at}
 use Rattle.found_zones.specs.FoundZone.{zone_at, zone_answer, ask_zone, FindsZone}
 use Rattle.found_zones.specs.declared.FoundZone.{FoundZone}
-use Rattle.found_zones.specs.declared.Finding.TheVariants.{Zone as Here, Refused as Nowhere}
 use Rattle.trace_records.specs.Record.{same_as, gives, shows, agrees}
 use Rattle.trace_records.specs.Kept.{name_by, kept_zone, kept_of, with_offset, KeptAs, Lasts, OffsetAt, Filled, KeptOk, HasName, StillAgrees, Takes, TakesZone}
 use Rattle.trace_records.specs.declared.Kept.{Kept}
@@ -35,7 +36,7 @@ unfolding ask_zone
 place-free f a n v z w = go (eqb (instant_of z) 0) (zone_at f v)
   where
     go : (b : Bool) (p : Parsed Zone)
-        → gives w (pick b (Refused 14 0) (zone_answer f v Two (instant_of z) p)) ≡ gives w (pick b (Refused 14 0) (zone_answer f (kept_zone (kept_of a n v)) Two (instant_of z) p))
+        → gives w (pick b (Err (OutOfRange, 0)) (zone_answer f v Two (instant_of z) p)) ≡ gives w (pick b (Err (OutOfRange, 0)) (zone_answer f (kept_zone (kept_of a n v)) Two (instant_of z) p))
     go true p = refl
     go false (got y r) = refl
     go false (bad k) = refl
@@ -111,7 +112,7 @@ module _ (f : List ℕ) (names : ℕ) (s : List ℕ) (at : ℕ) (z w : ℤ) (ins
 
   -- of a zone that was found for it
   module _ (start len : ℕ) (starts : start ≡ name_start at s) (long : len ≡ name_length at s) (within : names + (name_start at s + name_length at s) ≤ length s)
-      (v : FoundZone) (finds : FindsZone f (name_at names at s) (Here v)) where
+      (v : FoundZone) (finds : FindsZone f (name_at names at s) (Ok v)) where
     found-shows : (y u : ℤ) → gives u (ask_zone f v y Two) ≡ shows f (name_at names at s) y u
     unfolding shows
     found-shows y u = ap (gives u) (finds.to y Two)
@@ -131,7 +132,7 @@ module _ (f : List ℕ) (names : ℕ) (s : List ℕ) (at : ℕ) (z w : ℤ) (ins
         })
 
 -- no zone has the name
-pub nowhere-agrees : (f : List ℕ) (names : ℕ) (s : List ℕ) (at n p : ℕ) → FindsZone f (name_at names at s) (Nowhere n p) → agrees f names s at ≡ false
+pub nowhere-agrees : (f : List ℕ) (names : ℕ) (s : List ℕ) (at : ℕ) (n : Refusal) (p : ℕ) → FindsZone f (name_at names at s) (Err (n, p)) → agrees f names s at ≡ false
 unfolding agrees shows ask
 nowhere-agrees f names s at n p h = go (eqb (instant_of (instant_at at s)) 0) refl
   where

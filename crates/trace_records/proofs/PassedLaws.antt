@@ -1,4 +1,6 @@
 -- The zones passed, step by step, and what is reached. Assumes nothing.
+use Rattle.std.specs.declared.option.Option.{Option}
+use Rattle.std.specs.declared.option.Option.TheVariants.{None, Some}
 use mathlib.Core.Path.{◌≡◌, refl, sym, ◌∙◌, subst}
 use mathlib.Core.Bool.{Bool, true, false}
 use mathlib.Core.List.{List, []}
@@ -25,8 +27,6 @@ use Rattle.ids.proofs.PlaceLaws.{between-new}
 use Rattle.ids.proofs.MemoryLaws.{keeps-start, inserted-each, inserted_same, inserted-sorted}
 use Rattle.trace_records.specs.Passed.{pool_strings, walk_to, Fails, ZoneAt, NextZone, NextTo, NextIs, PassedOk, ReachedAs}
 use Rattle.trace_records.specs.declared.PassedZones.{PassedZones}
-use Rattle.trace_records.specs.declared.NextField.{NextField}
-use Rattle.trace_records.specs.declared.NextField.TheVariants.{Zone, Nothing}
 
 -- behind field 0 none is passed
 pub passed_none : (s : List ℕ) (d e : ℕ) (fs ts : List ℕ) → Lies s d e → length fs ≡ 8192 → length ts ≡ 8192
@@ -46,7 +46,7 @@ module _ (s : List ℕ) (d e : ℕ) (od fs ts : List ℕ) (at prev n : ℕ) (g :
   texts = texts_of (pool_strings s d e) od n
 
   -- the walk to an ID that was not seen ends at the place
-  pub passed-fails : NextTo s d e at prev Nothing → (id : List ℕ) → among id texts ≡ false → Fails (walk_to s d e id)
+  pub passed-fails : NextTo s d e at prev None → (id : List ℕ) → among id texts ≡ false → Fails (walk_to s d e id)
   passed-fails x id q = x id (g.rest id q)
 
   module _ (i a b k : ℕ) (x : NextZone s d e at prev i a b k) (later : at < b) (inside : b ≤ length s) where
@@ -126,7 +126,7 @@ module _ (s : List ℕ) (d e : ℕ) (od fs ts : List ℕ) (at prev n : ℕ) (g :
         not_yet id q h = rw (add-one n) (still-new id q (sym h))
 
   -- no zone is reached
-  pub reached-none : NextTo s d e at prev Nothing → (id : List ℕ) → among id texts ≡ false → (od' fs' ts' : List ℕ) (p : PassedZones)
+  pub reached-none : NextTo s d e at prev None → (id : List ℕ) → among id texts ≡ false → (od' fs' ts' : List ℕ) (p : PassedZones)
       → ReachedAs s d e id od' fs' ts' (record { start = 0; end = 0; passed = p })
   reached-none x id q od' fs' ts' p = record { reached = λ h. absurd (omega arith); none = λ h. passed-fails x id q }
 
@@ -157,11 +157,11 @@ module _ (s : List ℕ) (d e : ℕ) (od fs ts : List ℕ) (p : PassedZones) (g :
   look-new i j q = between-new (pool_strings s d e) od p.ids id (i + j) (rw q at f).is.1
 
 -- by what was read
-module _ (s : List ℕ) (count at prev : ℕ) (r : NextField) (h : NextIs s count at prev r) (d e : ℕ) (c : count ≡ length (pool_strings s d e)) where
-  pub read-nothing : r ≡ Nothing → NextTo s d e at prev Nothing
+module _ (s : List ℕ) (count at prev : ℕ) (r : Option (ℕ × ℕ × ℕ × ℕ)) (h : NextIs s count at prev r) (d e : ℕ) (c : count ≡ length (pool_strings s d e)) where
+  pub read-nothing : r ≡ None → NextTo s d e at prev None
   read-nothing q = (rw q at h).means d e c
 
-  module _ (i a b k : ℕ) (q : r ≡ Zone i a b k) where
+  module _ (i a b k : ℕ) (q : r ≡ Some (i, a, b, k)) where
     pub read-zone : NextZone s d e at prev i a b k
     read-zone = (rw q at h).means d e c
 

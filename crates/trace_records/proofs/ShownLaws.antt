@@ -1,4 +1,6 @@
 -- Whether an answer has the offset shown, and how long the offset lasts. Assumes nothing.
+use Rattle.base.specs.declared.Refusal.{Refusal}
+use Rattle.std.specs.Prelude.{Err, Ok, Result}
 use mathlib.Core.Path.{◌≡◌, refl, sym, ap, ◌∙◌}
 use mathlib.Core.Bool.{Bool, true, false}
 use mathlib.Core.List.{List}
@@ -20,8 +22,6 @@ use Rattle.zones.specs.Intervals.{Holds}
 use Rattle.zones.specs.Lookup.{answer_of}
 use Rattle.zones.specs.declared.Edition.TheVariants.{Two}
 use Rattle.zones.specs.declared.Found.{Found as Interval}
-use Rattle.zones.specs.declared.Answer.{Answer as ZoneAnswer}
-use Rattle.zones.specs.declared.Answer.TheVariants.{In as Inside, Refused as Denied}
 use Rattle.found_zones.specs.FoundZone.{ask_zone}
 use Rattle.found_zones.specs.declared.FoundZone.{FoundZone}
 use Rattle.found_zones.proofs.SameLaws.{found-holds, found-same}
@@ -72,32 +72,32 @@ module _ (f : List ℕ) (v : FoundZone) (z shown : ℤ) (t : ℕ) (e : t ≡ ins
   shown-outside h = ap (gives shown) (zone-outside f v z Two t e h)
 
   -- by the lookup, in the parts that were lent
-  module _ (inside : t ≡ 0 → ⊥) (pool zone : List ℕ) (count : ℕ) (a : ZoneAnswer)
+  module _ (inside : t ≡ 0 → ⊥) (pool zone : List ℕ) (count : ℕ) (a : Result Interval Refusal)
       (lent-pool : pool ≡ lent_part f v.pool v.past) (counts : count ≡ room_of pool) (lent-zone : zone ≡ lent_part f v.start v.end)
       (finds : a ≡ answer_of Two t (parse_zone count zone)) where
-    pub shown-denied : (n : ℕ) → a ≡ Denied n → false ≡ gives shown (ask_zone f v z Two)
+    pub shown-denied : (n : Refusal) → a ≡ Err n → false ≡ gives shown (ask_zone f v z Two)
     shown-denied n h =
         ap (gives shown) (zone-inside f v z Two t e inside _ (in-denied f v Two t pool zone count a lent-pool counts lent-zone finds n _ h refl))
 
-    pub shown-found : (x : Interval) → a ≡ Inside x → (r : Bool) → r ≡ same_as (milliseconds_of x.wall) shown → r ≡ gives shown (ask_zone f v z Two)
+    pub shown-found : (x : Interval) → a ≡ Ok x → (r : Bool) → r ≡ same_as (milliseconds_of x.wall) shown → r ≡ gives shown (ask_zone f v z Two)
     shown-found x h r k =
         k ∙ ap (gives shown) (zone-inside f v z Two t e inside _ (in-found f v Two t pool zone count a lent-pool counts lent-zone finds x h _ _ refl refl))
 
 -- at an instant
-module _ (f : List ℕ) (v : FoundZone) (t : ℕ) (g : Finite t) (pool zone : List ℕ) (count : ℕ) (a : ZoneAnswer)
+module _ (f : List ℕ) (v : FoundZone) (t : ℕ) (g : Finite t) (pool zone : List ℕ) (count : ℕ) (a : Result Interval Refusal)
     (lent-pool : pool ≡ lent_part f v.pool v.past) (counts : count ≡ room_of pool) (lent-zone : zone ≡ lent_part f v.start v.end)
     (finds : a ≡ answer_of Two t (parse_zone count zone)) where
   inside : t ≡ 0 → ⊥
   inside e = omega (arith, g.low)
 
-  pub offset-none : (n : ℕ) → a ≡ Denied n → OffsetAt f v t (record { from = 0; to = 0; wall = pos 0 })
+  pub offset-none : (n : Refusal) → a ≡ Err n → OffsetAt f v t (record { from = 0; to = 0; wall = pos 0 })
   offset-none n h = record {
     lasts = record { each = λ z w r l m. absurd (omega arith) };
     begun = λ l. absurd (omega arith);
     none = λ l z w e. shown-denied f v z w t e inside pool zone count a lent-pool counts lent-zone finds n h;
   }
 
-  pub offset-found : (x : Interval) → a ≡ Inside x → (y : ℤ) → y ≡ milliseconds_of x.wall → OffsetAt f v t (record { from = x.start; to = x.end; wall = y })
+  pub offset-found : (x : Interval) → a ≡ Ok x → (y : ℤ) → y ≡ milliseconds_of x.wall → OffsetAt f v t (record { from = x.start; to = x.end; wall = y })
   offset-found x h y q = record {
     lasts = record { each = each };
     begun = λ l. now.from;

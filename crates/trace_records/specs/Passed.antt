@@ -1,10 +1,11 @@
 -- What the numbers of the zones passed stand for. The code's way: what a walk to a zone comes to is said by `from (holder id)` alone.
-use Rattle.std.specs.Prelude.{ℕ, ◌≤◌, ◌<◌, ◌≡◌, true, false, List, [], length, drop, get_or}
+use Rattle.std.specs.declared.option.Option.{Option}
+use Rattle.std.specs.declared.option.Option.TheVariants.{None, Some}
+use Rattle.std.specs.Prelude.{ℕ, ◌≤◌, ◌<◌, ◌≡◌, true, false, List, [], length, drop, get_or, Ok}
 use Rattle.base.specs.Equal.{equal}
 use Rattle.pool.specs.Pool.{strings_of}
 use Rattle.zones.specs.Parse.{parse_zone}
 use Rattle.zones.specs.Lookup.{verdict_of}
-use Rattle.zones.specs.declared.ZoneVerdict.TheVariants.{Good}
 use Rattle.frames.specs.Frame.{largest}
 use Rattle.frames.specs.Machine.{Out, found, state_at, from}
 use Rattle.answers.specs.Answers.{Pool}
@@ -16,8 +17,6 @@ use Rattle.ids.specs.Layout.{number_at}
 use Rattle.ids.specs.Memory.{text_at, texts_of, Sorted}
 use Rattle.trace_records.specs.declared.PassedZones.{PassedZones}
 use Rattle.trace_records.specs.declared.ReachedZone.{ReachedZone}
-use Rattle.trace_records.specs.declared.NextField.{NextField}
-use Rattle.trace_records.specs.declared.NextField.TheVariants.{Zone, Nothing}
 
 -- the strings of field 0, whose data are s[d..e]
 abbrev pub pool_strings : List ℕ → ℕ → ℕ → List (List ℕ)
@@ -45,7 +44,7 @@ pub record ZoneAt (s : List ℕ) (d e : ℕ) (id : List ℕ) (a b : ℕ) : Type 
   pub some : 0 < b
   pub limit : b ≤ largest
   pub spotted : Spotted s (pool_at s d e) (walk_to s d e id) (spot_at s d e a b)
-  pub good : Good number ≡ verdict_of (parse_zone (length (pool_strings s d e)) (part a b s))
+  pub good : Ok number ≡ verdict_of (parse_zone (length (pool_strings s d e)) (part a b s))
 
 -- a good zone stands at a place, with the k-th string as its ID: of the walks that come to that place, one to this ID stops there, and every
 -- other goes on behind it, at b
@@ -54,17 +53,17 @@ pub record NextZone (s : List ℕ) (d e at prev i a b k : ℕ) : Type 0 where
   pub here : (id : List ℕ) → walk_to s d e id ≡ walk_from s d e at prev id → equal (get_or (pool_strings s d e) k []) id ≡ true → ZoneAt s d e id a b
   pub past : (id : List ℕ) → walk_to s d e id ≡ walk_from s d e at prev id → equal (get_or (pool_strings s d e) k []) id ≡ false → walk_to s d e id ≡ walk_from s d e b i id
 
-abbrev pub NextTo : List ℕ → ℕ → ℕ → ℕ → ℕ → NextField → Type 0
-NextTo s d e at prev (Zone i a b k) = NextZone s d e at prev i a b k
-NextTo s d e at prev Nothing = (id : List ℕ) → walk_to s d e id ≡ walk_from s d e at prev id → Fails (walk_to s d e id)
+abbrev pub NextTo : List ℕ → ℕ → ℕ → ℕ → ℕ → Option (ℕ × ℕ × ℕ × ℕ) → Type 0
+NextTo s d e at prev (Some (i, a, b, k)) = NextZone s d e at prev i a b k
+NextTo s d e at prev None = (id : List ℕ) → walk_to s d e id ≡ walk_from s d e at prev id → Fails (walk_to s d e id)
 
 -- the places of a zone lie behind a place in s
-abbrev pub NextIn : List ℕ → ℕ → NextField → Type 0
-NextIn s at (Zone i a b k) = (at < a) × (a ≤ b) × (b ≤ length s) × (b ≤ largest)
-NextIn s at Nothing = Unit {0}
+abbrev pub NextIn : List ℕ → ℕ → Option (ℕ × ℕ × ℕ × ℕ) → Type 0
+NextIn s at (Some (i, a, b, k)) = (at < a) × (a ≤ b) × (b ≤ length s) × (b ≤ largest)
+NextIn s at None = Unit {0}
 
 -- r tells what stands at a place behind a field with the ID prev, wherever field 0 is whose pool has so many strings
-pub record NextIs (s : List ℕ) (count at prev : ℕ) (r : NextField) : Type 0 where
+pub record NextIs (s : List ℕ) (count at prev : ℕ) (r : Option (ℕ × ℕ × ℕ × ℕ)) : Type 0 where
   pub lies : NextIn s at r
   pub means : (d e : ℕ) → count ≡ length (pool_strings s d e) → NextTo s d e at prev r
 

@@ -1,11 +1,11 @@
 -- Ask 14, one record of a trace. To be believed.
-use Rattle.std.specs.Prelude.{ℕ, Bool, true, false, List, ℤ}
+use Rattle.answers.specs.declared.Found.{Found}
+use Rattle.base.specs.Coded.{Fault}
+use Rattle.std.specs.Prelude.{ℕ, Bool, true, false, List, ℤ, Err, Ok, Result}
 use Rattle.std.specs.Int.Signed.{lt_z}
 use Rattle.base.specs.Pick.{pick}
 use Rattle.zones.specs.declared.Edition.TheVariants.{Two}
 use Rattle.answers.specs.declared.Mark.TheVariants.{All}
-use Rattle.answers.specs.declared.Answer.{Answer}
-use Rattle.answers.specs.declared.Answer.TheVariants.{In, Refused as Denied}
 use Rattle.questions.specs.Question.{ask}
 use Rattle.traces.specs.Trace.{instant_at, shown_at, name_at}
 
@@ -14,9 +14,9 @@ unfoldable pub same_as : ℤ → ℤ → Bool
 same_as a b = pick (lt_z a b) false (pick (lt_z b a) false true)
 
 -- an answer with the wall offset shown; no refusal is one, 14 included
-abbrev pub gives : ℤ → Answer → Bool
-gives shown (In x) = same_as x.wall shown
-gives shown (Denied n p) = false
+abbrev pub gives : ℤ → Result Found Fault → Bool
+gives shown (Ok x) = same_as x.wall shown
+gives shown (Err (n, p)) = false
 
 -- "Their questions mean 'this is all', edition 2": the file gives the offset shown
 unfoldable pub shows : List ℕ → List ℕ → ℤ → ℤ → Bool

@@ -3,7 +3,7 @@
 // twice. The numbers of their IDs stand in the order of the IDs' bytes, and by these numbers the places of each first zone of an ID.
 #![tactic(auto)]
 
-ghost use Rattle.std.specs.Prelude.{◌≡◌, false, ◌≤◌, ◌<◌, ◌+◌, length};
+ghost use Rattle.std.specs.Prelude.{◌≡◌, false, ◌≤◌, ◌<◌, ◌+◌, length, Ok};
 ghost use Rattle.pool.specs.Pool.{strings_of};
 ghost use Rattle.pool.specs.Index.{Ready};
 ghost use Rattle.locate.specs.View.{part, Lies};
@@ -12,7 +12,6 @@ ghost use Rattle.ids.specs.Memory.{texts_of};
 ghost use Rattle.trace_records.specs.Passed.{NextIs, PassedOk, ReachedAs};
 ghost use Rattle.base.specs.Moment.{Finite};
 ghost use Rattle.found_zones.specs.FoundZone.{FindsZone};
-ghost use Rattle.found_zones.specs.declared.Finding.TheVariants.{Zone as Here};
 ghost use Rattle.traces.specs.Trace.{name_start, name_length, name_at};
 ghost use Rattle.trace_records.specs.Record.{same_as, agrees};
 ghost use Rattle.trace_records.specs.Kept.{name_by, kept_zone, with_offset, KeptAs, OffsetAt, KeptOk, HasName, StillAgrees, Takes, TakesZone};
@@ -20,7 +19,7 @@ ghost use Rattle.trace_records.specs.Kept.{name_by, kept_zone, with_offset, Kept
 use found_zones::FoundZone;
 use frames::Frame;
 use ids::Gap;
-use zones::{Answer as ZoneAnswer, Edition, ZoneVerdict};
+use zones::Edition;
 
 // The place behind the last zone that was passed, the ID of its field, and how many IDs were seen.
 #[derive(Clone, Copy)]
@@ -38,31 +37,25 @@ pub struct ReachedZone {
     pub passed: PassedZones,
 }
 
-// The zone of the next field: the field's ID, where its data start and end, and the number of its own ID. Or the walk ends there.
-#[derive(Clone, Copy)]
-pub enum NextField {
-    Zone(usize, usize, usize, usize),
-    Nothing,
-}
-
-// What stands at a place behind a field with the ID prev.
-fn read_next(s: &[u8], count: usize, at: usize, prev: usize) -> NextField
+// The zone at a place behind a field with the ID prev: the field's ID, where its data start and end, and the number of its own ID.
+// Or the walk ends there.
+fn read_next(s: &[u8], count: usize, at: usize, prev: usize) -> Option<(usize, usize, usize, usize)>
     requires { (0 < at) × (at ≤ length s.now) }
     ensures { NextIs s.now count at prev result }
 {
     let f = headers::read_frame(&s[at..], 1, at, true, prev);
     match f {
-        Frame::End => NextField::Nothing,
-        Frame::Cut => NextField::Nothing,
-        Frame::Refused(_) => NextField::Nothing,
+        Frame::End => None,
+        Frame::Cut => None,
+        Frame::Refused(_) => None,
         // The version stands at place 0 only.
-        Frame::Version => NextField::Nothing,
+        Frame::Version => None,
         Frame::Whole(i, h, n) => {
             let a = at + h;
             let b = a + n;
             match zone_reads::check(&s[a..b], count as u64) {
-                ZoneVerdict::Refused(_) => NextField::Nothing,
-                ZoneVerdict::Good(k) => NextField::Zone(i as usize, a, b, k as usize),
+                Err(_) => None,
+                Ok(k) => Some((i as usize, a, b, k as usize)),
             }
         }
     }
@@ -89,14 +82,14 @@ fn walk_on(
     let mut n = p.ids;
     loop {
         match read_next(s, count, at, prev) {
-            NextField::Nothing => {
+            None => {
                 return ReachedZone {
                     start: 0,
                     end: 0,
                     passed: p,
                 };
             }
-            NextField::Zone(i, a, b, k) => {
+            Some((i, a, b, k)) => {
                 match ids::find_gap(
                     &s[d..e],
                     starts,
@@ -209,12 +202,12 @@ fn offset_at(f: &[u8], v: FoundZone, t: u64) -> Lasting
     let count = pool::room(location_lookup::lent(f, v.pool, v.past));
     let zone = location_lookup::lent(f, v.start, v.end);
     match zone_lookups::find(zone, count as u64, t, Edition::Two) {
-        ZoneAnswer::Refused(_) => Lasting {
+        Err(_) => Lasting {
             from: 0,
             to: 0,
             wall: 0,
         },
-        ZoneAnswer::In(x) => Lasting {
+        Ok(x) => Lasting {
             from: x.start,
             to: x.end,
             wall: signed::milliseconds(x.wall),
@@ -389,7 +382,7 @@ pub fn take_same(f: &[u8], s: &[u8], names: usize, at: usize, k: Kept) -> Taken
 
 // The record at a place, of the zone v, which was found for its name.
 pub fn take_found(f: &[u8], s: &[u8], names: usize, at: usize, v: FoundZone) -> Taken
-    requires { (at + 20 ≤ length s.now) × (names + (name_start at s.now + name_length at s.now) ≤ length s.now) × FindsZone f.now (name_at names at s.now) (Here v) }
+    requires { (at + 20 ≤ length s.now) × (names + (name_start at s.now + name_length at s.now) ≤ length s.now) × FindsZone f.now (name_at names at s.now) (Ok v) }
     ensures { Takes f.now names s.now (agrees f.now names s.now at) result }
 {
     let instant = traces::signed_eight_at(s, at);

@@ -7,48 +7,47 @@ ghost use Rattle.counts.specs.Fixed.{read_fixed};
 ghost use Rattle.transitions.specs.Later.{later_in};
 ghost use Rattle.transitions.specs.Transition.{in_range, hours_after, from_count, from_ticks, read_moment, read_transition};
 
-use base::{END, FIRST, LAST, Read};
-use signed::Number;
+use base::{Coded, END, FIRST, LAST, Refusal};
 use transitions::{HOUR, MINUTE, YEAR_1800};
 
 // An instant `t`, which isn't before year 1, in `n` bytes.
-fn in_range(n: usize, t: u64) -> Read
+fn in_range(n: usize, t: u64) -> Coded<u64>
     requires { first_instant ≤ t }
     ensures { result ≡ in_range n t }
 {
     if t <= LAST {
-        return Read::Value(t, n);
+        return Ok((t, n));
     }
-    Read::Refused(7)
+    Err(Refusal::BadCode)
 }
 
 // `v` hours after the previous transition.
-fn hours_after(previous: u64, v: u64, n: usize) -> Read
+fn hours_after(previous: u64, v: u64, n: usize) -> Coded<u64>
     requires { v < 2097152 }
     ensures { result ≡ hours_after previous v n }
 {
     if previous < FIRST {
-        return Read::Refused(7);
+        return Err(Refusal::BadCode);
     }
     if previous > LAST {
-        return Read::Refused(7);
+        return Err(Refusal::BadCode);
     }
     in_range(n, previous + v * HOUR)
 }
 
 // The moment of a count `v` other than 2, in `n` bytes.
-fn from_count(previous: u64, v: u64, n: usize) -> Read
+fn from_count(previous: u64, v: u64, n: usize) -> Coded<u64>
     requires { v ≤ 2147483647 }
     ensures { result ≡ from_count previous v n }
 {
     if v == 0 {
-        return Read::Value(0, n);
+        return Ok((0, n));
     }
     if v == 1 {
-        return Read::Value(END, n);
+        return Ok((END, n));
     }
     if v < 128 {
-        return Read::Refused(7);
+        return Err(Refusal::BadCode);
     }
     if v < 2097152 {
         return hours_after(previous, v, n);
@@ -57,35 +56,28 @@ fn from_count(previous: u64, v: u64, n: usize) -> Read
 }
 
 // The instant of eight bytes at the front of `s`, behind `n` bytes.
-fn from_ticks(s: &[u8], n: usize) -> Read
+fn from_ticks(s: &[u8], n: usize) -> Coded<u64>
     requires { n ≤ 5 }
     ensures { result ≡ from_ticks n (read_fixed 8 0 s.now) }
 {
-    match count_readers::read_fixed(s, 8, 0) {
-        Read::Value(raw, m) => {
-            let t = signed::from_raw(raw);
-            if t == 0 {
-                return Read::Refused(7);
-            }
-            Read::Value(t, n + m)
-        }
-        Read::Refused(k) => Read::Refused(k),
+    let (raw, m) = count_readers::read_fixed(s, 8, 0)?;
+    let t = signed::from_raw(raw);
+    if t == 0 {
+        Err(Refusal::BadCode)
+    } else {
+        Ok((t, n + m))
     }
 }
 
 // The moment at the front of `s`, after a previous one.
-pub fn read_moment(previous: u64, s: &[u8]) -> Read
+pub fn read_moment(previous: u64, s: &[u8]) -> Coded<u64>
     ensures { result ≡ read_moment previous s.now }
 {
-    match count_readers::read_count(s) {
-        Read::Value(v, n) => {
-            if v == 2 {
-                return from_ticks(&s[n..], n);
-            }
-            from_count(previous, v, n)
-        }
-        Read::Refused(k) => Read::Refused(k),
+    let (v, n) = count_readers::read_count(s)?;
+    if v == 2 {
+        return from_ticks(&s[n..], n);
     }
+    from_count(previous, v, n)
 }
 
 // The instant in ticks at the front of `s`, where it is after the instant `previous`; else 0.
@@ -110,11 +102,9 @@ pub fn ticks_after(previous: u64, s: &[u8]) -> u64
 }
 
 // The transition at the front of `s`, in ticks since 1970: the least number for start of time, the largest for end of time.
-pub fn read_transition(previous: i64, s: &[u8]) -> Number
+pub fn read_transition(previous: i64, s: &[u8]) -> Coded<i64>
     ensures { result ≡ read_transition previous s.now }
 {
-    match read_moment(signed::instant(previous), s) {
-        Read::Value(m, n) => Number::Value(signed::ticks(m), n),
-        Read::Refused(k) => Number::Refused(k),
-    }
+    let (m, n) = read_moment(signed::instant(previous), s)?;
+    Ok((signed::ticks(m), n))
 }

@@ -6,7 +6,7 @@ ghost use Rattle.base.specs.Writing.{bytes, Writes};
 ghost use Rattle.counts.specs.Fixed.{fixed_bytes};
 ghost use Rattle.transitions.specs.Transition.{units_to, hours_to, count_to, write_moment, moment_form, transition_form};
 
-use base::{END, FIRST, LAST, Wrote};
+use base::{END, FIRST, LAST, Refusal};
 use transitions::{HOUR, MINUTE, YEAR_1800};
 
 // The count of units from one instant to another, or 0 where it isn't whole, at least `least` and below `limit`.
@@ -73,11 +73,11 @@ pub fn moment_size(previous: u64, m: u64) -> usize
 }
 
 // 2, then the bits of the ticks, high first.
-fn write_ticks(raw: u64, out: &mut [u8]) -> Wrote
+fn write_ticks(raw: u64, out: &mut [u8]) -> Result<usize, Refusal>
     ensures { Writes (bytes (2 ∷ fixed_bytes 8 raw)) out.old result out.new }
 {
     if out.len() < 9 {
-        return Wrote::Refused(15);
+        return Err(Refusal::TooShort);
     }
     out[0] = 2;
     out[1] = (raw / 72057594037927936 % 256) as u8;
@@ -88,11 +88,11 @@ fn write_ticks(raw: u64, out: &mut [u8]) -> Wrote
     out[6] = (raw / 65536 % 256) as u8;
     out[7] = (raw / 256 % 256) as u8;
     out[8] = (raw / 1 % 256) as u8;
-    Wrote::Length(9)
+    Ok(9)
 }
 
 // Writes the moment `m`, after a previous one, to the front of `out`.
-pub fn write_moment(previous: u64, m: u64, out: &mut [u8]) -> Wrote
+pub fn write_moment(previous: u64, m: u64, out: &mut [u8]) -> Result<usize, Refusal>
     ensures { Writes (moment_form previous m) out.old result out.new }
 {
     if m == 0 {
@@ -102,10 +102,10 @@ pub fn write_moment(previous: u64, m: u64, out: &mut [u8]) -> Wrote
         return count_writers::write_count(1, out);
     }
     if m < FIRST {
-        return Wrote::Refused(7);
+        return Err(Refusal::BadCode);
     }
     if m > LAST {
-        return Wrote::Refused(7);
+        return Err(Refusal::BadCode);
     }
     let v = count_to(previous, m);
     if v == 0 {
@@ -115,7 +115,7 @@ pub fn write_moment(previous: u64, m: u64, out: &mut [u8]) -> Wrote
 }
 
 // Writes the transition at tick `t`, after a previous one, to the front of `out`.
-pub fn write_transition(previous: i64, t: i64, out: &mut [u8]) -> Wrote
+pub fn write_transition(previous: i64, t: i64, out: &mut [u8]) -> Result<usize, Refusal>
     ensures { Writes (transition_form previous t) out.old result out.new }
 {
     write_moment(signed::instant(previous), signed::moment(t), out)

@@ -1,4 +1,8 @@
 -- The instant in ticks after another: each way out of the reader, and what one that is not 0 is. Assumes nothing.
+use Rattle.base.specs.declared.Refusal.{Refusal}
+use Rattle.std.specs.Prelude.{Err, Ok}
+use Rattle.base.specs.Coded.{Coded}
+use Rattle.base.specs.declared.Refusal.TheVariants.{BadCode}
 use mathlib.Core.Path.{◌≡◌, refl, ap, sym, ◌∙◌}
 use mathlib.Core.List.{List, [], ◌∷◌}
 use mathlib.Core.Bool.{Bool, true, false}
@@ -9,9 +13,8 @@ use lib.ListN.{length, take, drop, get_or, length-drop}
 use borrow.Author.Tests.{le-leb, lt-ltb, le-ltb, ne_eqb, eqb-true, eqb-false, ltb-true}
 use Rattle.base.specs.Pick.{pick, both}
 use Rattle.base.specs.Moment.{Finite, finite, first_instant, start_of_time, end_of_time}
-use Rattle.base.specs.declared.Read.{Read}
-use Rattle.base.specs.declared.Read.TheVariants.{Value, Refused}
 use Rattle.base.proofs.Tests.{both_left, both_right, by_order, clash}
+use Rattle.base.proofs.PairLaws.{ok_parts}
 use Rattle.base.proofs.Parts.{part-from}
 use Rattle.base.proofs.MomentLaws.{finite-true, finite-yes, finite-low}
 use Rattle.counts.specs.Groups.{read_groups, more}
@@ -25,28 +28,28 @@ use Rattle.transitions.specs.Transition.{read_moment}
 use Rattle.transitions.proofs.MomentLaws.{moment-holds, moment-read, ticks-read, ticks-none}
 
 -- a count of 2 is the byte 2
-pub first_two : (s : List ℕ) (n : ℕ) → Value 2 n ≡ read_count s → get_or s 0 0 ≡ 2
+pub first_two : (s : List ℕ) (n : ℕ) → Ok (2, n) ≡ read_count s → get_or s 0 0 ≡ 2
 unfolding read_groups
 first_two [] n e = clash cc
 first_two (b ∷ r) n e = go (ltb b 128) (read_groups 3 7 r) e
   where
-    two : (t : Bool) (v m : ℕ) → eqb v 0 ≡ t → Value 2 n ≡ pick t (Refused 7) (Value (b % 128 + 128 * v) (m + 1)) → b ≡ 2
+    two : (t : Bool) (v m : ℕ) → eqb v 0 ≡ t → ◌≡◌ {A = Coded ℕ} (Ok (2, n)) (pick t (Err BadCode) (Ok (b % 128 + 128 * v, m + 1))) → b ≡ 2
     two true v m q k = clash cc
     two false v m q k =
-        let z : 2 ≡ b % 128 + 128 * v = cc in
+        let z : 2 ≡ b % 128 + 128 * v = (ok_parts k).0 in
         let w : v ≡ 0 → ⊥ = eqb-false v 0 q in
         absurd (w (omega arith))
 
-    go : (t : Bool) (x : Read) → Value 2 n ≡ pick t (Value b 1) (more b x) → b ≡ 2
-    go true x k = cc
-    go false (Value v m) k = two (eqb v 0) v m refl k
-    go false (Refused j) k = clash cc
+    go : (t : Bool) (x : Coded ℕ) → Ok (2, n) ≡ pick t (Ok (b, 1)) (more b x) → b ≡ 2
+    go true x k = sym (ok_parts k).0
+    go false (Ok (v, m)) k = two (eqb v 0) v m refl k
+    go false (Err j) k = clash cc
 
-other-size : (prev n t m : ℕ) → (m ≡ n → ⊥) → 0 ≡ later_in prev n (Value t m)
+other-size : (prev n t m : ℕ) → (m ≡ n → ⊥) → 0 ≡ later_in prev n (Ok (t, m))
 unfolding later_in
 other-size prev n t m h = rw (ne_eqb m n h)
 
-none : (prev n k : ℕ) → 0 ≡ later_in prev n (Refused k)
+none : (prev n : ℕ) (k : Refusal) → 0 ≡ later_in prev n (Err k)
 unfolding later_in
 none prev n k = refl
 
@@ -54,9 +57,9 @@ module _ (prev : ℕ) (s : List ℕ) where
   pub later-short : length s < 9 → 0 ≡ later_in prev 9 (read_moment prev s)
   later-short h = go (read_moment prev s) refl
     where
-      go : (r : Read) → r ≡ read_moment prev s → 0 ≡ later_in prev 9 r
-      go (Value t m) e = other-size prev 9 t m (λ q. omega (arith, (moment-read prev s e).within))
-      go (Refused k) e = none prev 9 k
+      go : (r : Coded ℕ) → r ≡ read_moment prev s → 0 ≡ later_in prev 9 r
+      go (Ok (t, m)) e = other-size prev 9 t m (λ q. omega (arith, (moment-read prev s e).within))
+      go (Err k) e = none prev 9 k
 
   pub later-other : (get_or s 0 0 ≡ 2 → ⊥) → 0 ≡ later_in prev 9 (read_moment prev s)
   later-other h =
@@ -78,9 +81,9 @@ module _ (prev : ℕ) (s : List ℕ) where
       two true x v = refl
       two false x v = refl
 
-      go : (r : Read) → 0 ≡ later_in prev 9 r
-      go (Value t m) = rw (finite-low prev h) (two (eqb m 9) (both (ltb prev t) (finite t)) t)
-      go (Refused k) = refl
+      go : (r : Coded ℕ) → 0 ≡ later_in prev 9 r
+      go (Ok (t, m)) = rw (finite-low prev h) (two (eqb m 9) (both (ltb prev t) (finite t)) t)
+      go (Err k) = refl
 
   module _ (raw t : ℕ) (l : 9 ≤ length s) (e : get_or s 0 0 ≡ 2) (g : raw ≡ fixed_from 8 0 (take (length s - 1) (drop 1 s))) (u : t ≡ from_raw raw) where
     named : t ≡ from_raw (fixed_from 8 0 (drop 1 s))
@@ -125,7 +128,7 @@ later_of prev n t s e = go (read_moment prev s) refl e
     none_of : t ≡ 0 → Later prev s n t
     none_of z = rw z (not-later prev n s)
 
-    two : (x : Bool) (u m : ℕ) → both (eqb m n) (both (finite prev) (both (ltb prev u) (finite u))) ≡ x → Value u m ≡ read_moment prev s → t ≡ pick x u 0 → Later prev s n t
+    two : (x : Bool) (u m : ℕ) → both (eqb m n) (both (finite prev) (both (ltb prev u) (finite u))) ≡ x → Ok (u, m) ≡ read_moment prev s → t ≡ pick x u 0 → Later prev s n t
     two true u m q k z =
         let a = both_right (eqb m n) _ q in
         let b = both_right (finite prev) _ a in
@@ -139,6 +142,6 @@ later_of prev n t s e = go (read_moment prev s) refl e
         }
     two false u m q k z = none_of z
 
-    go : (r : Read) → r ≡ read_moment prev s → t ≡ later_in prev n r → Later prev s n t
-    go (Value u m) k z = two (both (eqb m n) (both (finite prev) (both (ltb prev u) (finite u)))) u m refl k z
-    go (Refused j) k z = none_of z
+    go : (r : Coded ℕ) → r ≡ read_moment prev s → t ≡ later_in prev n r → Later prev s n t
+    go (Ok (u, m)) k z = two (both (eqb m n) (both (finite prev) (both (ltb prev u) (finite u)))) u m refl k z
+    go (Err j) k z = none_of z

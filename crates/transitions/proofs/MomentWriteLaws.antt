@@ -1,4 +1,7 @@
 -- How the transition code is written, over moments: a law for each way out of the writer and of its size. Assumes nothing.
+use Rattle.base.specs.declared.Refusal.{Refusal}
+use Rattle.std.specs.Prelude.{Err, Result}
+use Rattle.base.specs.declared.Refusal.TheVariants.{BadCode}
 use mathlib.Core.Path.{◌≡◌, sym, ◌∙◌}
 use mathlib.Core.List.{List, ◌∷◌}
 use Prim.Native.Nat.{ℕ, ◌<◌}
@@ -8,8 +11,6 @@ use lib.ListN.{length}
 use borrow.Author.Tests.{le-leb, eq-eqb, ne_eqb}
 use Rattle.base.specs.Moment.{Finite, first_instant, last_instant, end_of_time}
 use Rattle.base.specs.Writing.{bytes, Writes}
-use Rattle.base.specs.declared.Wrote.{Wrote}
-use Rattle.base.specs.declared.Wrote.TheVariants.{Refused}
 use Rattle.base.proofs.WriteLaws.{not_carried}
 use Rattle.base.proofs.MomentLaws.{finite-yes, finite-low, finite-high}
 use Rattle.counts.specs.Groups.{write_groups}
@@ -21,13 +22,13 @@ use Rattle.transitions.specs.Transition.{count_to, write_moment, moment_form, tr
 use Rattle.transitions.proofs.MomentLaws.{Names, count-names, write-instant}
 
 module _ (p m : ℕ) (d : List ℕ) where
-  pub too-early : (m ≡ 0 → ⊥) → (m ≡ end_of_time → ⊥) → m < first_instant → Writes (moment_form p m) d (Refused 7) d
-  too-early a b h = rw (ne_eqb m 0 a, ne_eqb m end_of_time b, finite-low m h) (not_carried 7 d)
+  pub too-early : (m ≡ 0 → ⊥) → (m ≡ end_of_time → ⊥) → m < first_instant → Writes (moment_form p m) d (Err BadCode) d
+  too-early a b h = rw (ne_eqb m 0 a, ne_eqb m end_of_time b, finite-low m h) (not_carried BadCode d)
 
-  pub too-late : (m ≡ 0 → ⊥) → (m ≡ end_of_time → ⊥) → last_instant < m → Writes (moment_form p m) d (Refused 7) d
-  too-late a b h = rw (ne_eqb m 0 a, ne_eqb m end_of_time b, finite-high m h) (not_carried 7 d)
+  pub too-late : (m ≡ 0 → ⊥) → (m ≡ end_of_time → ⊥) → last_instant < m → Writes (moment_form p m) d (Err BadCode) d
+  too-late a b h = rw (ne_eqb m 0 a, ne_eqb m end_of_time b, finite-high m h) (not_carried BadCode d)
 
-  module _ (r : Wrote) (e : List ℕ) where
+  module _ (r : Result ℕ Refusal) (e : List ℕ) where
     pub as-start : m ≡ 0 → Writes (count_form 0) d r e → Writes (moment_form p m) d r e
     unfolding write_moment
     as-start h w = rw h w
@@ -74,6 +75,6 @@ module _ (p m v : ℕ) (a : m ≡ 0 → ⊥) (b : m ≡ end_of_time → ⊥) (i 
       rw (ne_eqb m 0 a, ne_eqb m end_of_time b, ne_eqb (count_to p m) 0 k) (rw i at e)
 
 -- the signed ticks' moments were written
-pub as-transition : (y z : ℤ) (p m : ℕ) (d : List ℕ) (r : Wrote) (e : List ℕ) → p ≡ instant_of y → m ≡ moment_of z
+pub as-transition : (y z : ℤ) (p m : ℕ) (d : List ℕ) (r : Result ℕ Refusal) (e : List ℕ) → p ≡ instant_of y → m ≡ moment_of z
     → Writes (moment_form p m) d r e → Writes (transition_form y z) d r e
 as-transition y z p m d r e i j w = rw j at (rw i at w)

@@ -1,4 +1,5 @@
 -- The transition code's laws in signed ticks, from those over moments. Assumes nothing.
+use Rattle.std.specs.Prelude.{Ok}
 use mathlib.Core.Path.{◌≡◌, ap, sym, ◌∙◌}
 use mathlib.Core.List.{List, ◌++◌}
 use Prim.Native.Nat.{ℕ, ◌≤◌}
@@ -8,7 +9,6 @@ use mir.Syntax.{w64}
 use mir.Val.{SFits}
 use Rattle.base.proofs.Parts.{Bytes}
 use Rattle.base.proofs.MomentLaws.{Moment}
-use Rattle.signed.specs.declared.Number.TheVariants.{Value as Signed}
 use Rattle.signed.specs.Number.{number}
 use Rattle.signed.specs.Instant.{instant_of, ticks_of, moment_of}
 use Rattle.signed.proofs.NumberLaws.{number-of}
@@ -18,13 +18,13 @@ use Rattle.transitions.proofs.MomentLaws.{MomentRead, moment-read, moment-writte
 
 -- a transition that was written is read back, whatever follows
 pub transition-written : (y z : ℤ) (rest : List ℕ) → SFits w64 z → Moment (moment_of z)
-    → read_transition y (write_moment (instant_of y) (moment_of z) ++ rest) ≡ Signed z (length (write_moment (instant_of y) (moment_of z)))
+    → read_transition y (write_moment (instant_of y) (moment_of z) ++ rest) ≡ Ok (z, length (write_moment (instant_of y) (moment_of z)))
 transition-written y z rest f h =
     ap (number ticks_of) (moment-written (instant_of y) (moment_of z) rest h)
-    ∙ ap (λ (x : ℤ). Signed x (length (write_moment (instant_of y) (moment_of z)))) (ticks-moment z f h)
+    ∙ ap (λ (x : ℤ). Ok (x, length (write_moment (instant_of y) (moment_of z)))) (ticks-moment z f h)
 
 -- a tick z that s gives in n bytes
-module _ (y : ℤ) (s : List ℕ) {z : ℤ} {n : ℕ} (e : Signed z n ≡ read_transition y s) where
+module _ (y : ℤ) (s : List ℕ) {z : ℤ} {n : ℕ} (e : Ok (z, n) ≡ read_transition y s) where
   read_as : MomentRead s (number-of ticks_of (read_moment (instant_of y) s) e).value n
   read_as = moment-read (instant_of y) s (number-of ticks_of (read_moment (instant_of y) s) e).read
 

@@ -1,13 +1,12 @@
 -- The transition code, over moments. To be believed.
-use Rattle.std.specs.Prelude.{ℕ, ◌+◌, ◌*◌, ◌-◌, ◌/◌, ◌%◌, List, ◌∷◌, Bool, true, ltb, leb, eqb, ℤ, drop}
+use Rattle.base.specs.Coded.{Coded}
+use Rattle.base.specs.declared.Refusal.TheVariants.{BadCode}
+use Rattle.std.specs.Prelude.{ℕ, ◌+◌, ◌*◌, ◌-◌, ◌/◌, ◌%◌, List, ◌∷◌, Bool, true, ltb, leb, eqb, ℤ, drop, Err, Ok}
 use Rattle.base.specs.Pick.{pick, both}
 use Rattle.base.specs.Moment.{finite, start_of_time, end_of_time}
 use Rattle.base.specs.Writing.{Form, bytes, unfit}
-use Rattle.base.specs.declared.Read.{Read}
-use Rattle.base.specs.declared.Read.TheVariants.{Value, Refused}
 use Rattle.counts.specs.Count.{read_count, write_count}
 use Rattle.counts.specs.Fixed.{read_fixed, fixed_bytes}
-use Rattle.signed.specs.declared.Number.{Number}
 use Rattle.signed.specs.Number.{number}
 use Rattle.signed.specs.Instant.{instant_of, ticks_of, moment_of, from_raw, raw_of}
 
@@ -23,33 +22,33 @@ abbrev pub year1800 : ℕ
 year1800 = 693937152000000000
 
 -- "A finite result outside the range gives 7"
-abbrev pub in_range : ℕ → ℕ → Read
-in_range n t = pick (finite t) (Value t n) (Refused 7)
+abbrev pub in_range : ℕ → ℕ → Coded ℕ
+in_range n t = pick (finite t) (Ok (t, n)) (Err BadCode)
 
 -- "hours after the previous, which must be finite"
-abbrev pub hours_after : ℕ → ℕ → ℕ → Read
-hours_after previous v n = pick (finite previous) (in_range n (previous + v * hour)) (Refused 7)
+abbrev pub hours_after : ℕ → ℕ → ℕ → Coded ℕ
+hours_after previous v n = pick (finite previous) (in_range n (previous + v * hour)) (Err BadCode)
 
 -- "0 start of time; 1 end of time; .. 3 to 127 refused; 128 to 2097151 hours after the previous ..; from 2097152 on, minutes
 -- since 1800-01-01": every count v but 2, in n bytes
-unfoldable pub from_count : ℕ → ℕ → ℕ → Read
+unfoldable pub from_count : ℕ → ℕ → ℕ → Coded ℕ
 from_count previous v n =
-    pick (eqb v 0) (Value start_of_time n)
-    (pick (eqb v 1) (Value end_of_time n)
-    (pick (ltb v 128) (Refused 7)
+    pick (eqb v 0) (Ok (start_of_time, n))
+    (pick (eqb v 1) (Ok (end_of_time, n))
+    (pick (ltb v 128) (Err BadCode)
     (pick (ltb v 2097152) (hours_after previous v n) (in_range n (year1800 + v * minute)))))
 
 -- "2 then eight bytes, high first, signed ticks": the eight bytes, behind the n of the count
-abbrev pub from_ticks : ℕ → Read → Read
-from_ticks n (Value raw m) = in_range (n + m) (from_raw raw)
-from_ticks n (Refused k) = Refused k
+abbrev pub from_ticks : ℕ → Coded ℕ → Coded ℕ
+from_ticks n (Ok (raw, m)) = in_range (n + m) (from_raw raw)
+from_ticks n (Err k) = Err k
 
-abbrev pub after_count : ℕ → List ℕ → Read → Read
-after_count previous s (Value v n) = pick (eqb v 2) (from_ticks n (read_fixed 8 0 (drop n s))) (from_count previous v n)
-after_count previous s (Refused k) = Refused k
+abbrev pub after_count : ℕ → List ℕ → Coded ℕ → Coded ℕ
+after_count previous s (Ok (v, n)) = pick (eqb v 2) (from_ticks n (read_fixed 8 0 (drop n s))) (from_count previous v n)
+after_count previous s (Err k) = Err k
 
 -- "Transition: a count": the moment that s starts with. "The reader takes any form."
-unfoldable pub read_moment : ℕ → List ℕ → Read
+unfoldable pub read_moment : ℕ → List ℕ → Coded ℕ
 read_moment previous s = after_count previous s (read_count s)
 
 -- the count of whole units from one instant to another where it is least or more and below limit; 0 where it is not
@@ -81,10 +80,10 @@ is_moment m = pick (eqb m start_of_time) true (pick (eqb m end_of_time) true (fi
 
 -- "writing, 7 for a number the code can't carry"
 abbrev pub moment_form : ℕ → ℕ → Form
-moment_form previous m = pick (is_moment m) (bytes (write_moment previous m)) (unfit 7)
+moment_form previous m = pick (is_moment m) (bytes (write_moment previous m)) (unfit BadCode)
 
 -- the transition code in signed ticks: a previous one outside the instants, marks included, is not finite
-abbrev pub read_transition : ℤ → List ℕ → Number
+abbrev pub read_transition : ℤ → List ℕ → Coded ℤ
 read_transition previous s = number ticks_of (read_moment (instant_of previous) s)
 
 abbrev pub transition_form : ℤ → ℤ → Form

@@ -1,4 +1,6 @@
 -- THE CLOSED FILE OF A FILE whose uses descend, whose strings are all used and whose sizes are in the shortest form is the file itself. Assumes nothing.
+use Rattle.base.specs.declared.Refusal.{Refusal}
+use Rattle.std.specs.Prelude.{Err, Ok, Result}
 use mathlib.Core.Path.{◌≡◌, refl, sym, ap, ap₂, ◌∙◌, subst}
 use mathlib.Core.Bool.{Bool, true, false}
 use mathlib.Core.List.{List, [], ◌∷◌, ◌++◌, append_assoc, append-nil}
@@ -10,17 +12,16 @@ use lib.Dec.{eqb}
 use borrow.Author.Tests.{eqb-true, eqb-false}
 use Rattle.base.specs.All.{All}
 use Rattle.base.specs.Bytes.{Bytes}
+use Rattle.base.specs.Coded.{Coded}
 use Rattle.base.specs.Parsed.{got, bind, prepend, many}
-use Rattle.base.specs.declared.Read.TheVariants.{Value, Refused}
 use Rattle.base.proofs.AllLaws.{all_head, all_tail, all_map, all_left, all_right}
 use Rattle.base.proofs.ByteLaws.{drop-bytes}
+use Rattle.base.proofs.PairLaws.{ok_parts}
 use Rattle.base.proofs.ParseLaws.{bad-got, got-value, got-rest, bind-good}
 use Rattle.base.proofs.Tests.{clash}
 use Rattle.counts.specs.Count.{read_count, write_count}
 use Rattle.counts.proofs.CountLaws.{count-form}
 use Rattle.texts.specs.Text.{read_text, part_of, text_bytes, behind_text, parse_text, write_text}
-use Rattle.texts.specs.declared.Text.{Text}
-use Rattle.texts.specs.declared.Text.TheVariants.{Part, Refused as Untext}
 use Rattle.texts.proofs.TextLaws.{text-form}
 use Rattle.pool.specs.Pool.{read_strings, strings_of}
 use Rattle.pool.proofs.StringLaws.{Opened, opened}
@@ -54,10 +55,10 @@ strings-form (suc k) s ts q b e =
     go (λ r xs y. strings-form k r xs y) (read_text s) refl a.first a.rest a.is a.on
   where
     go : ((r : List ℕ) (xs : List (List ℕ)) (y : List ℕ) → Bytes r → read_strings k r ≡ got xs y → (length xs ≡ k) × (r ≡ write_texts xs ++ y))
-        → (x : Text) → read_text s ≡ x → (t r : List ℕ) → behind_text s x ≡ got t r → bind (read_strings k r) (prepend t) ≡ got ts q
+        → (x : Result (ℕ × ℕ) Refusal) → read_text s ≡ x → (t r : List ℕ) → behind_text s x ≡ got t r → bind (read_strings k r) (prepend t) ≡ got ts q
         → (length ts ≡ suc k) × (s ≡ write_texts ts ++ q)
-    go rec (Untext n) h t r i o = bad-got i
-    go rec (Part a n) h t r i o =
+    go rec (Err n) h t r i o = bad-got i
+    go rec (Ok (a, n)) h t r i o =
         let w = text-form s a n b h in
         let c = bind-good (read_strings k r) (prepend t) ts q o in
         let m : drop (a + n) s ≡ r = got-rest i in
@@ -83,14 +84,14 @@ module _ (d : List ℕ) (b : Bytes d) (w : GoodPool d) where
       ∙ ap (λ (x : List ℕ). write_count held.k ++ x) (sym (append-nil (write_texts (strings_of d))) ∙ sym forms.1)
       ∙ sym (count-form d b (sym held.count)).form
 
-  pub strings-counted : (v a : ℕ) → read_count d ≡ Value v a → v ≡ length (strings_of d)
+  pub strings-counted : (v a : ℕ) → read_count d ≡ Ok (v, a) → v ≡ length (strings_of d)
   strings-counted v a e =
-      let z : Value v a ≡ Value held.k held.a = sym e ∙ held.count in
-      let y : v ≡ held.k = cc in
+      let z : ◌≡◌ {A = Coded ℕ} (Ok (v, a)) (Ok (held.k, held.a)) = sym e ∙ held.count in
+      let y : v ≡ held.k = (ok_parts z).0 in
       y ∙ sym forms.0
 
-  pub strings-unread : (k : ℕ) → read_count d ≡ Refused k → 0 ≡ length (strings_of d)
-  strings-unread k e = let z : Refused k ≡ Value held.k held.a = sym e ∙ held.count in clash cc
+  pub strings-unread : (k : Refusal) → read_count d ≡ Err k → 0 ≡ length (strings_of d)
+  strings-unread k e = let z : ◌≡◌ {A = Coded ℕ} (Err k) (Ok (held.k, held.a)) = sym e ∙ held.count in clash cc
 
 -- ---- how far uses go, whatever they are
 record Reach (l : List ℕ) : Type 0 where

@@ -10,8 +10,6 @@ ghost use Rattle.closed_fields.specs.View.{PoolChecked};
 ghost use Rattle.closed_walks.specs.View.{Walkable};
 ghost use Rattle.unchanged_files.specs.View.{NotBelow, DescendsWhere, LastUsed, UsedUpTo, ClosedWhere, FirstStrings, PlainField, Walks};
 
-use base::Read;
-
 // 0 where a number isn't below the next, and none was before.
 fn below(a: u32, b: u32, bad: u32) -> u32
     ensures { NotBelow a b bad result }
@@ -75,8 +73,8 @@ fn string_count(d: &[u8]) -> usize
 {
     let g = count_readers::read_count(d);
     match g {
-        Read::Refused(_) => 0,
-        Read::Value(v, _) => v as usize,
+        Err(_) => 0,
+        Ok((v, _)) => v as usize,
     }
 }
 

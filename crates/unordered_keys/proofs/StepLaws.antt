@@ -1,4 +1,7 @@
 -- The entries one by one, with what is remembered of them. Assumes nothing.
+use Rattle.base.specs.declared.Refusal.TheVariants.{SecondAlias}
+use Rattle.base.specs.declared.Refusal.{Refusal}
+use Rattle.std.specs.Prelude.{Err, Ok, Result}
 use mathlib.Core.Path.{◌≡◌, refl, ◌∙◌}
 use mathlib.Core.Bool.{Bool, true, false}
 use mathlib.Core.List.{List, [], ◌∷◌, ◌++◌}
@@ -13,12 +16,9 @@ use Rattle.old_texts.specs.OldText.{parse_old_text}
 use Rattle.old_dictionaries.specs.OldDictionary.{after_key, parse_entry, parse_entries, found_of}
 use Rattle.old_dictionaries.specs.Pairs.{key_among}
 use Rattle.old_dictionaries.specs.View.{part}
-use Rattle.old_dictionaries.specs.declared.Found.TheVariants.{Entries, Refused}
 use Rattle.old_dictionaries.proofs.EntryLaws.{Walk, walk_start, walk-known, walk-bad, walk-next, walk-done}
 use Rattle.unordered_keys.specs.Keys.{limit_of, KeyTaken, Remembers, Judged, StepTo, Stepped, Arrays}
 use Rattle.unordered_keys.proofs.KeyLaws.{keys_length}
-use Rattle.unordered_keys.specs.declared.Step.{Step}
-use Rattle.unordered_keys.specs.declared.Step.TheVariants.{Next, Bad}
 
 pub arrays : (s st en : List ℕ) (n : ℕ) (od : List ℕ) (mem : List (List ℕ)) → Remembers s st en n od mem → Arrays s st en n od
 arrays s st en n od mem r = record { most = λ l. let h = r.most l in record { inside = h.inside; wide = h.wide; sorted = h.keeps.sorted } }
@@ -41,23 +41,23 @@ module _ (s : List ℕ) (from n : ℕ) (st en od x : List ℕ) (r : Bool) where
 
 -- the entry at a place
 module _ (s : List ℕ) (from n place : ℕ) (st en od : List ℕ) where
-  pub step-unread : (k : ℕ) → parse_old_text (drop place s) ≡ bad k → Stepped s from n place st en od st en od (Bad k)
+  pub step-unread : (k : Refusal) → parse_old_text (drop place s) ≡ bad k → Stepped s from n place st en od st en od (Err k)
   unfolding parse_entry
   step-unread k e = record { means = λ pre h m. rw e }
 
   -- its key goes from b to c
   module _ (b c : ℕ) (e : parse_old_text (drop place s) ≡ got (part b c s) (drop c s)) (st' en' od' : List ℕ) (r : Bool)
       (j : Judged s from n st en od (part b c s) st' en' od' r) where
-    pub step-second : r ≡ true → Stepped s from n place st en od st' en' od' (Bad 19)
+    pub step-second : r ≡ true → Stepped s from n place st en od st' en' od' (Err SecondAlias)
     unfolding parse_entry after_key
     step-second q = record { means = λ pre h m. rw (e, ← (j.said (keys pre) h m), q) }
 
     module _ (q : r ≡ false) where
-      pub step-valueless : (k : ℕ) → parse_old_text (drop c s) ≡ bad k → Stepped s from n place st en od st' en' od' (Bad k)
+      pub step-valueless : (k : Refusal) → parse_old_text (drop c s) ≡ bad k → Stepped s from n place st en od st' en' od' (Err k)
       unfolding parse_entry after_key
       step-valueless k f = record { means = λ pre h m. rw (e, ← (j.said (keys pre) h m), q, f) }
 
-      pub step-next : (v d : ℕ) → d ≤ length s → parse_old_text (drop c s) ≡ got (part v d s) (drop d s) → Stepped s from n place st en od st' en' od' (Next d)
+      pub step-next : (v d : ℕ) → d ≤ length s → parse_old_text (drop c s) ≡ got (part v d s) (drop d s) → Stepped s from n place st en od st' en' od' (Ok d)
       unfolding parse_entry after_key
       step-next v d l f =
           record {
@@ -108,14 +108,14 @@ unfolding keys
 reading-start s from n st en od h r = record { pre = []; walk = walk_start s from n h; remembers = r }
 
 module _ (s : List ℕ) (from n : ℕ) (st en od : List ℕ) (done place : ℕ) (g : Reading s from n st en od done place) where
-  module _ (some : done < n) (st' en' od' : List ℕ) (r : Step) (t : Stepped s from done place st en od st' en' od' r) where
+  module _ (some : done < n) (st' en' od' : List ℕ) (r : Result ℕ Refusal) (t : Stepped s from done place st en od st' en' od' r) where
     to : StepTo s g.pre (parse_entry g.pre (drop place s)) st' en' done od' r
     to = t.means g.pre (walk-known s from n done place g.pre g.walk) g.remembers
 
-    pub reading-bad : (k : ℕ) → r ≡ Bad k → Refused k ≡ found_of s (parse_entries n [] (drop from s))
+    pub reading-bad : (k : Refusal) → r ≡ Err k → Err k ≡ found_of s (parse_entries n [] (drop from s))
     reading-bad k e = walk-bad s from n done place g.pre g.walk some k (rw e at to)
 
-    next-at : (d : ℕ) → StepTo s g.pre (parse_entry g.pre (drop place s)) st' en' done od' (Next d) → Reading s from n st' en' od' (done + 1) d
+    next-at : (d : ℕ) → StepTo s g.pre (parse_entry g.pre (drop place s)) st' en' done od' (Ok d) → Reading s from n st' en' od' (done + 1) d
     next-at d q =
         record {
           pre = g.pre ++ (q.1 ∷ []);
@@ -123,8 +123,8 @@ module _ (s : List ℕ) (from n : ℕ) (st en od : List ℕ) (done place : ℕ) 
           remembers = q.3;
         }
 
-    pub reading-next : (d : ℕ) → r ≡ Next d → Reading s from n st' en' od' (done + 1) d
+    pub reading-next : (d : ℕ) → r ≡ Ok d → Reading s from n st' en' od' (done + 1) d
     reading-next d e = next-at d (rw e at to)
 
-  pub reading-done : n ≤ done → Entries n place ≡ found_of s (parse_entries n [] (drop from s))
+  pub reading-done : n ≤ done → Ok (n, place) ≡ found_of s (parse_entries n [] (drop from s))
   reading-done = walk-done s from n done place g.pre g.walk

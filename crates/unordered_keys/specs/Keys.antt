@@ -1,6 +1,7 @@
 -- How arrays stand for the keys of the entries that were read: where each key lies, and the keys' numbers in their order. The code's way:
 -- internal functions alone use it.
-use Rattle.std.specs.Prelude.{ℕ, zero, suc, ◌+◌, ◌≤◌, ◌<◌, ◌≡◌, List, [], ◌∷◌, ◌++◌, Bool, false, length, get_or, drop, ltb}
+use Rattle.base.specs.declared.Refusal.{Refusal}
+use Rattle.std.specs.Prelude.{ℕ, zero, suc, ◌+◌, ◌≤◌, ◌<◌, ◌≡◌, List, [], ◌∷◌, ◌++◌, Bool, false, length, get_or, drop, ltb, Err, Ok, Result}
 use Rattle.base.specs.Pick.{pick}
 use Rattle.base.specs.Parsed.{Parsed, got, bad}
 use Rattle.ids.specs.Ids.{among}
@@ -9,8 +10,6 @@ use Rattle.aliases.specs.Dictionary.{Entry, Dictionary, keys}
 use Rattle.old_dictionaries.specs.OldDictionary.{parse_entry}
 use Rattle.old_dictionaries.specs.Pairs.{key_among}
 use Rattle.old_dictionaries.specs.View.{part}
-use Rattle.unordered_keys.specs.declared.Step.{Step}
-use Rattle.unordered_keys.specs.declared.Step.TheVariants.{Next, Bad}
 
 -- the keys that lie from the first n places of st to those of en
 unfoldable pub keys_in : List ℕ → List ℕ → List ℕ → ℕ → List (List ℕ)
@@ -56,11 +55,11 @@ pub record Judged (s : List ℕ) (from n : ℕ) (st en od x st' en' od' : List �
   pub kept : (mem : List (List ℕ)) → Remembers s st en n od mem → r ≡ false → Remembers s st' en' (n + 1) od' (x ∷ mem)
 
 -- the entry at a place, behind the entries pre
-abbrev pub StepTo : List ℕ → Dictionary → Parsed Entry → List ℕ → List ℕ → ℕ → List ℕ → Step → Type 0
-StepTo s pre p st en n od (Next e) = (e ≤ length s) × (x : Entry) × (p ≡ got x (drop e s)) × Remembers s st en (n + 1) od (keys (pre ++ (x ∷ [])))
-StepTo s pre p st en n od (Bad k) = p ≡ bad k
+abbrev pub StepTo : List ℕ → Dictionary → Parsed Entry → List ℕ → List ℕ → ℕ → List ℕ → Result ℕ Refusal → Type 0
+StepTo s pre p st en n od (Ok e) = (e ≤ length s) × (x : Entry) × (p ≡ got x (drop e s)) × Remembers s st en (n + 1) od (keys (pre ++ (x ∷ [])))
+StepTo s pre p st en n od (Err k) = p ≡ bad k
 
-pub record Stepped (s : List ℕ) (from n place : ℕ) (st en od st' en' od' : List ℕ) (r : Step) : Type 0 where
+pub record Stepped (s : List ℕ) (from n place : ℕ) (st en od st' en' od' : List ℕ) (r : Result ℕ Refusal) : Type 0 where
   pub means : (pre : Dictionary) → ((y : List ℕ) → key_among n y (drop from s) ≡ among y (keys pre)) → Remembers s st en n od (keys pre)
       → StepTo s pre (parse_entry pre (drop place s)) st' en' n od' r
 

@@ -10,17 +10,9 @@ ghost use Rattle.old_dictionaries.specs.OldDictionary.{parse_entries, found_of};
 ghost use Rattle.old_dictionaries.specs.View.{part};
 ghost use Rattle.unordered_keys.specs.Keys.{keys_in, limit_of, Inside, Held, KeyTaken, Remembers, Judged, Stepped, Arrays};
 
+use base::{Coded, Refusal};
 use ids::{Gap, Place};
-use old_dictionaries::Found;
-use string_order::Ordering;
-use texts::Text;
-
-// What an entry comes to: the place behind it, or the number of a refusal.
-#[derive(Clone, Copy)]
-pub enum Step {
-    Next(usize),
-    Bad(u8),
-}
+use std::cmp::Ordering;
 
 // The key with the number k.
 fn key_by<'a>(s: &'a [u8], starts: &[u32], ends: &[u32], k: usize) -> &'a [u8]
@@ -164,7 +156,7 @@ fn is_second(
     old_pairs::has_key(s, from, n, &s[b..c])
 }
 
-// The entry at a place of s, behind n others, which start at another place.
+// The place behind the entry at a place of s, behind n others, which start at another place.
 fn take_entry(
     s: &[u8],
     from: usize,
@@ -173,21 +165,21 @@ fn take_entry(
     starts: &mut [u32],
     ends: &mut [u32],
     order: &mut [u16],
-) -> Step
+) -> Result<usize, Refusal>
     requires { (from ≤ length s.now) × (at ≤ length s.now) × Arrays s.now starts.old ends.old n order.old }
     ensures { Stepped s.now from n at starts.old ends.old order.old starts.new ends.new order.new result }
 {
     match old_texts::read_text(&s[at..]) {
-        Text::Refused(k) => Step::Bad(k),
-        Text::Part(a, m) => {
+        Err(k) => Err(k),
+        Ok((a, m)) => {
             let b = at + a;
             let c = b + m;
             if is_second(s, from, n, b, c, starts, ends, order) {
-                return Step::Bad(19);
+                return Err(Refusal::SecondAlias);
             }
             match old_texts::read_text(&s[c..]) {
-                Text::Refused(k) => Step::Bad(k),
-                Text::Part(v, l) => Step::Next(c + v + l),
+                Err(k) => Err(k),
+                Ok((v, l)) => Ok(c + v + l),
             }
         }
     }
@@ -201,7 +193,7 @@ fn read_all(
     starts: &mut [u32],
     ends: &mut [u32],
     order: &mut [u16],
-) -> Found
+) -> Coded<u64>
     requires { (from ≤ length s.now) × Remembers s.now starts.old ends.old 0 order.old [] }
     ensures { result ≡ found_of s.now (parse_entries n [] (drop from s.now)) }
 {
@@ -210,20 +202,20 @@ fn read_all(
     while done < n {
         let t = take_entry(s, from, done, at, &mut *starts, &mut *ends, &mut *order);
         match t {
-            Step::Bad(k) => {
-                return Found::Refused(k);
+            Err(k) => {
+                return Err(k);
             }
-            Step::Next(e) => {
+            Ok(e) => {
                 at = e;
                 done += 1;
             }
         }
     }
-    Found::Entries(n, at)
+    Ok((n, at))
 }
 
 // The same with arrays of its own, for few entries: short arrays are cleared at once.
-fn read_few(s: &[u8], from: usize, n: u64) -> Found
+fn read_few(s: &[u8], from: usize, n: u64) -> Coded<u64>
     requires { from ≤ length s.now }
     ensures { result ≡ found_of s.now (parse_entries n [] (drop from s.now)) }
 {
@@ -234,7 +226,7 @@ fn read_few(s: &[u8], from: usize, n: u64) -> Found
 }
 
 // The same for many.
-fn read_many(s: &[u8], from: usize, n: u64) -> Found
+fn read_many(s: &[u8], from: usize, n: u64) -> Coded<u64>
     requires { from ≤ length s.now }
     ensures { result ≡ found_of s.now (parse_entries n [] (drop from s.now)) }
 {
@@ -245,7 +237,7 @@ fn read_many(s: &[u8], from: usize, n: u64) -> Found
 }
 
 // n entries of s from a place on.
-pub fn read_entries(s: &[u8], from: usize, n: u64) -> Found
+pub fn read_entries(s: &[u8], from: usize, n: u64) -> Coded<u64>
     requires { from ≤ length s.now }
     ensures { result ≡ found_of s.now (parse_entries n [] (drop from s.now)) }
 {

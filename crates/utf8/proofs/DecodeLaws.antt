@@ -1,5 +1,6 @@
 -- UTF-8 by the table takes nothing but what encodes code points that are no surrogates: overlong forms, surrogates and numbers past
 -- U+10FFFF are refused. Assumes nothing.
+use Rattle.std.specs.declared.option.Option.TheVariants.{None, Some}
 use mathlib.Core.Path.{◌≡◌, refl, sym, ◌∙◌, ap}
 use mathlib.Core.List.{List, [], ◌∷◌, ◌++◌}
 use mathlib.Core.Bool.{Bool, true}
@@ -11,7 +12,6 @@ use lib.Dec.{ltb, leb}
 use borrow.Author.Tests.{lt-ltb, le-ltb, le-leb, lt-leb, ne_eqb}
 use Rattle.base.specs.Pick.{pick}
 use Rattle.base.proofs.Tests.{never, by_order, pick-holds}
-use Rattle.utf8.specs.declared.Due.TheVariants.{Follow, Never}
 use Rattle.utf8.specs.Utf8.{lead, going, chars, utf8}
 use Rattle.utf8.specs.CodePoints.{scalar, encode, encode_all, scalars, Encoded}
 use Rattle.utf8.proofs.EncodeLaws.{lead-1, lead-2, lead-e0, lead-3, lead-ed, lead-f0, lead-f1, lead-f4, lead-tail, lead-past, one}
@@ -30,7 +30,7 @@ unfolding chars
 tail k lo hi [] e = never e (ne_eqb (suc k) 0 (λ z. omega arith))
 tail k lo hi (x ∷ s) e =
     let d : suc k - 1 ≡ k = omega arith in
-    let f : ◌≡◌ {A = Bool} (going (pick (leb lo x) (pick (leb x hi) (Follow k 0x80 0xbf) Never) Never) (λ j l h. chars j l h s)) true = rw (ne_eqb (suc k) 0 (λ z. omega arith), d) at e in
+    let f : ◌≡◌ {A = Bool} (going (pick (leb lo x) (pick (leb x hi) (Some (k, 0x80, 0xbf)) None) None) (λ j l h. chars j l h s)) true = rw (ne_eqb (suc k) 0 (λ z. omega arith), d) at e in
     by_order x lo (λ l. never refl (sym (rw (lt-leb lo x l) at f)))
     (λ l. by_order hi x (λ m. never refl (sym (rw (le-leb lo x l, lt-leb x hi m) at f)))
     (λ m. record { x = x; rest = s; is = refl; low = l; high = m; later = rw (le-leb lo x l, le-leb x hi m) at f }))
@@ -109,11 +109,11 @@ module _ (b x : ℕ) (l : 0x80 ≤ x) (h : x ≤ 0xbf) (s : List ℕ) where
 
 module _ (b lo hi : ℕ) (s : List ℕ) (h : utf8 (b ∷ s) ≡ true) (l₀ : 0x80 ≤ lo) (h₀ : hi ≤ 0xbf) where
   -- what follows the first byte, where its row says how many bytes are due
-  due : (k : ℕ) → lead b ≡ Follow k lo hi → chars k lo hi s ≡ true
+  due : (k : ℕ) → lead b ≡ Some (k, lo, hi) → chars k lo hi s ≡ true
   unfolding chars
   due k e = rw e at h
 
-  first-2 : lead b ≡ Follow 1 lo hi → 0xc2 ≤ b → b < 0xe0 → First (b ∷ s)
+  first-2 : lead b ≡ Some (1, lo, hi) → 0xc2 ≤ b → b < 0xe0 → First (b ∷ s)
   first-2 e l m =
       let t = tail 0 lo hi s (due 1 e) in
       record {
@@ -124,7 +124,7 @@ module _ (b lo hi : ℕ) (s : List ℕ) (h : utf8 (b ∷ s) ≡ true) (l₀ : 0x
         later = t.later;
       }
 
-  first-3 : lead b ≡ Follow 2 lo hi → 0xe0 ≤ b → b < 0xf0 → ((x y : ℕ) → lo ≤ x → x ≤ hi → 0x80 ≤ y → y ≤ 0xbf → (0x800 ≤ point-3 b x y) × (scalar (point-3 b x y) ≡ true)) → First (b ∷ s)
+  first-3 : lead b ≡ Some (2, lo, hi) → 0xe0 ≤ b → b < 0xf0 → ((x y : ℕ) → lo ≤ x → x ≤ hi → 0x80 ≤ y → y ≤ 0xbf → (0x800 ≤ point-3 b x y) × (scalar (point-3 b x y) ≡ true)) → First (b ∷ s)
   first-3 e l m f =
       let t = tail 1 lo hi s (due 2 e) in
       let u = tail 0 0x80 0xbf t.rest t.later in
@@ -137,7 +137,7 @@ module _ (b lo hi : ℕ) (s : List ℕ) (h : utf8 (b ∷ s) ≡ true) (l₀ : 0x
         later = u.later;
       }
 
-  first-4 : lead b ≡ Follow 3 lo hi → 0xf0 ≤ b → ((x y z : ℕ) → lo ≤ x → x ≤ hi → 0x80 ≤ y → y ≤ 0xbf → 0x80 ≤ z → z ≤ 0xbf → (0x10000 ≤ point-4 b x y z) × (point-4 b x y z ≤ 0x10ffff)) → First (b ∷ s)
+  first-4 : lead b ≡ Some (3, lo, hi) → 0xf0 ≤ b → ((x y z : ℕ) → lo ≤ x → x ≤ hi → 0x80 ≤ y → y ≤ 0xbf → 0x80 ≤ z → z ≤ 0xbf → (0x10000 ≤ point-4 b x y z) × (point-4 b x y z ≤ 0x10ffff)) → First (b ∷ s)
   first-4 e l f =
       let t = tail 2 lo hi s (due 3 e) in
       let u = tail 1 0x80 0xbf t.rest t.later in
@@ -152,7 +152,7 @@ module _ (b lo hi : ℕ) (s : List ℕ) (h : utf8 (b ∷ s) ≡ true) (l₀ : 0x
       }
 
 module _ (b : ℕ) (s : List ℕ) (h : utf8 (b ∷ s) ≡ true) where
-  none : lead b ≡ Never → First (b ∷ s)
+  none : lead b ≡ None → First (b ∷ s)
   unfolding chars
   none e = never refl (sym (rw e at h))
 

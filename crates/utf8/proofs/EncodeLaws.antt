@@ -1,4 +1,5 @@
 -- UTF-8 by the table takes what encodes code points (RFC 3629, section 3). Assumes nothing.
+use Rattle.std.specs.declared.option.Option.TheVariants.{None, Some}
 use mathlib.Core.Path.{◌≡◌, refl, ◌∙◌}
 use mathlib.Core.List.{List, [], ◌∷◌, ◌++◌}
 use mathlib.Core.Bool.{true}
@@ -7,57 +8,56 @@ use native.Mathlib.Omega.{arith}
 use lib.Dec.{leb}
 use borrow.Author.Tests.{lt-ltb, le-ltb, le-leb, ne_eqb, leb-true}
 use Rattle.base.proofs.Tests.{by_order, both_left, both_right}
-use Rattle.utf8.specs.declared.Due.TheVariants.{Follow, Never}
 use Rattle.utf8.specs.Utf8.{lead, chars, utf8}
 use Rattle.utf8.specs.CodePoints.{scalar, encode, encode_all, scalars}
 
 -- The rows of the table.
 module _ (b : ℕ) where
-  pub lead-1 : b < 0x80 → lead b ≡ Follow 0 0x80 0xbf
+  pub lead-1 : b < 0x80 → lead b ≡ Some (0, 0x80, 0xbf)
   lead-1 h = rw (lt-ltb b 0x80 h)
 
-  pub lead-2 : 0xc2 ≤ b → b < 0xe0 → lead b ≡ Follow 1 0x80 0xbf
+  pub lead-2 : 0xc2 ≤ b → b < 0xe0 → lead b ≡ Some (1, 0x80, 0xbf)
   lead-2 h l = rw (le-ltb b 0x80 (omega arith), le-ltb b 0xc2 h, lt-ltb b 0xe0 l)
 
-  pub lead-e0 : b ≡ 0xe0 → lead b ≡ Follow 2 0xa0 0xbf
+  pub lead-e0 : b ≡ 0xe0 → lead b ≡ Some (2, 0xa0, 0xbf)
   lead-e0 h = rw h
 
-  pub lead-3 : 0xe0 < b → b < 0xf0 → (b ≡ 0xed → ⊥) → lead b ≡ Follow 2 0x80 0xbf
+  pub lead-3 : 0xe0 < b → b < 0xf0 → (b ≡ 0xed → ⊥) → lead b ≡ Some (2, 0x80, 0xbf)
   lead-3 h l n = rw (le-ltb b 0x80 (omega arith), le-ltb b 0xc2 (omega arith), le-ltb b 0xe0 (omega arith), ne_eqb b 0xe0 (λ e. omega arith), ne_eqb b 0xed n, lt-ltb b 0xf0 l)
 
-  pub lead-ed : b ≡ 0xed → lead b ≡ Follow 2 0x80 0x9f
+  pub lead-ed : b ≡ 0xed → lead b ≡ Some (2, 0x80, 0x9f)
   lead-ed h = rw h
 
-  pub lead-f0 : b ≡ 0xf0 → lead b ≡ Follow 3 0x90 0xbf
+  pub lead-f0 : b ≡ 0xf0 → lead b ≡ Some (3, 0x90, 0xbf)
   lead-f0 h = rw h
 
-  pub lead-f1 : 0xf0 < b → b < 0xf4 → lead b ≡ Follow 3 0x80 0xbf
+  pub lead-f1 : 0xf0 < b → b < 0xf4 → lead b ≡ Some (3, 0x80, 0xbf)
   lead-f1 h l = rw (le-ltb b 0x80 (omega arith), le-ltb b 0xc2 (omega arith), le-ltb b 0xe0 (omega arith), ne_eqb b 0xe0 (λ e. omega arith), ne_eqb b 0xed (λ e. omega arith), le-ltb b 0xf0 (omega arith), ne_eqb b 0xf0 (λ e. omega arith), lt-ltb b 0xf4 l)
 
-  pub lead-f4 : b ≡ 0xf4 → lead b ≡ Follow 3 0x80 0x8f
+  pub lead-f4 : b ≡ 0xf4 → lead b ≡ Some (3, 0x80, 0x8f)
   lead-f4 h = rw h
 
-  pub lead-tail : 0x80 ≤ b → b < 0xc2 → lead b ≡ Never
+  pub lead-tail : 0x80 ≤ b → b < 0xc2 → lead b ≡ None
   lead-tail h l = rw (le-ltb b 0x80 h, lt-ltb b 0xc2 l)
 
-  pub lead-past : 0xf4 < b → lead b ≡ Never
+  pub lead-past : 0xf4 < b → lead b ≡ None
   lead-past h = rw (le-ltb b 0x80 (omega arith), le-ltb b 0xc2 (omega arith), le-ltb b 0xe0 (omega arith), ne_eqb b 0xe0 (λ e. omega arith), ne_eqb b 0xed (λ e. omega arith), le-ltb b 0xf0 (omega arith), ne_eqb b 0xf0 (λ e. omega arith), le-ltb b 0xf4 (omega arith), ne_eqb b 0xf4 (λ e. omega arith))
 
 -- Characters of one to four bytes, by the row of the first.
 module _ (b : ℕ) (lo hi : ℕ) (s : List ℕ) where
-  pub one : lead b ≡ Follow 0 0x80 0xbf → utf8 (b ∷ s) ≡ utf8 s
+  pub one : lead b ≡ Some (0, 0x80, 0xbf) → utf8 (b ∷ s) ≡ utf8 s
   unfolding chars
   one e = rw e
 
-  two : (x : ℕ) → lead b ≡ Follow 1 lo hi → lo ≤ x → x ≤ hi → utf8 (b ∷ x ∷ s) ≡ utf8 s
+  two : (x : ℕ) → lead b ≡ Some (1, lo, hi) → lo ≤ x → x ≤ hi → utf8 (b ∷ x ∷ s) ≡ utf8 s
   unfolding chars
   two x e l h = rw (e, le-leb lo x l, le-leb x hi h)
 
-  three : (x y : ℕ) → lead b ≡ Follow 2 lo hi → lo ≤ x → x ≤ hi → 0x80 ≤ y → y ≤ 0xbf → utf8 (b ∷ x ∷ y ∷ s) ≡ utf8 s
+  three : (x y : ℕ) → lead b ≡ Some (2, lo, hi) → lo ≤ x → x ≤ hi → 0x80 ≤ y → y ≤ 0xbf → utf8 (b ∷ x ∷ y ∷ s) ≡ utf8 s
   unfolding chars
   three x y e l h p q = rw (e, le-leb lo x l, le-leb x hi h, le-leb 0x80 y p, le-leb y 0xbf q)
 
-  four : (x y z : ℕ) → lead b ≡ Follow 3 lo hi → lo ≤ x → x ≤ hi → 0x80 ≤ y → y ≤ 0xbf → 0x80 ≤ z → z ≤ 0xbf → utf8 (b ∷ x ∷ y ∷ z ∷ s) ≡ utf8 s
+  four : (x y z : ℕ) → lead b ≡ Some (3, lo, hi) → lo ≤ x → x ≤ hi → 0x80 ≤ y → y ≤ 0xbf → 0x80 ≤ z → z ≤ 0xbf → utf8 (b ∷ x ∷ y ∷ z ∷ s) ≡ utf8 s
   unfolding chars
   four x y z e l h p q v w = rw (e, le-leb lo x l, le-leb x hi h, le-leb 0x80 y p, le-leb y 0xbf q, le-leb 0x80 z v, le-leb z 0xbf w)
 

@@ -1,4 +1,6 @@
 -- How a reading of UTF-8 goes on. Assumes nothing.
+use Rattle.std.specs.declared.option.Option.{Option}
+use Rattle.std.specs.declared.option.Option.TheVariants.{None, Some}
 use mathlib.Core.Path.{◌≡◌, refl, sym, ◌∙◌, ap}
 use mathlib.Core.Bool.{Bool, true, false}
 use mathlib.Core.List.{List, [], ◌∷◌}
@@ -11,12 +13,10 @@ use lib.Dec.{ltb, leb}
 use borrow.Author.Tests.{lt-ltb, le-ltb, ne_eqb, le-leb}
 use Rattle.base.specs.Pick.{pick, both}
 use Rattle.base.proofs.Tests.{never, by_order}
-use Rattle.utf8.specs.declared.Due.{Due}
-use Rattle.utf8.specs.declared.Due.TheVariants.{Follow, Never}
 use Rattle.utf8.specs.Utf8.{lead, after, going, chars, utf8, size_by, size_of}
 
 -- at a character's first byte, which asks for x
-chars-at : (s : List ℕ) (i : ℕ) (x : Due) → i < length s → x ≡ lead (get_or s i 0)
+chars-at : (s : List ℕ) (i : ℕ) (x : Option (ℕ × ℕ × ℕ)) → i < length s → x ≡ lead (get_or s i 0)
     → utf8 (drop i s) ≡ going x (λ j l h. chars j l h (drop (i + 1) s))
 unfolding chars
 chars-at s i x h e = rw (drop-cons s i 0 h, e, add-one i)
@@ -29,7 +29,7 @@ utf8-end s i l = rw (drop_of_length-le s l) refl
 going-tail : (k lo hi b : ℕ) (f : ℕ → ℕ → ℕ → Bool) → 0 < k → going (after k lo hi b) f ≡ both (both (leb lo b) (leb b hi)) (f (k - 1) 0x80 0xbf)
 going-tail k lo hi b f p = rw (ne_eqb k 0 (λ e. omega arith)) (go (leb lo b) (leb b hi))
   where
-    go : (t u : Bool) → going (pick t (pick u (Follow (k - 1) 0x80 0xbf) Never) Never) f ≡ both (both t u) (f (k - 1) 0x80 0xbf)
+    go : (t u : Bool) → going (pick t (pick u (Some (k - 1, 0x80, 0xbf)) None) None) f ≡ both (both t u) (f (k - 1) 0x80 0xbf)
     go true true = refl
     go true false = refl
     go false u = refl
@@ -89,17 +89,17 @@ chars-split (suc k) lo hi (b ∷ s) =
     go false x y u e = refl
 
 -- a character at the front is whole, and what follows it is read on
-front-size : (b : ℕ) (s : List ℕ) (x : Due) → going x (λ j l h. chars j l h s) ≡ both (ltb 0 (size_by x s)) (utf8 (drop (size_by x s) (b ∷ s)))
-front-size b s Never = refl
-front-size b s (Follow k lo hi) = chars-split k lo hi s ∙ go (chars k lo hi (take k s))
+front-size : (b : ℕ) (s : List ℕ) (x : Option (ℕ × ℕ × ℕ)) → going x (λ j l h. chars j l h s) ≡ both (ltb 0 (size_by x s)) (utf8 (drop (size_by x s) (b ∷ s)))
+front-size b s None = refl
+front-size b s (Some (k, lo, hi)) = chars-split k lo hi s ∙ go (chars k lo hi (take k s))
   where
     go : (t : Bool) → both t (utf8 (drop k s)) ≡ both (ltb 0 (pick t (k + 1) 0)) (utf8 (drop (pick t (k + 1) 0) (b ∷ s)))
     go true = rw (lt-ltb 0 (k + 1) (omega arith), add-one k)
     go false = refl
 
-front_fits : (s : List ℕ) (x : Due) → size_by x s ≤ length s + 1
-front_fits s Never = omega arith
-front_fits s (Follow k lo hi) = go (chars k lo hi (take k s)) refl
+front_fits : (s : List ℕ) (x : Option (ℕ × ℕ × ℕ)) → size_by x s ≤ length s + 1
+front_fits s None = omega arith
+front_fits s (Some (k, lo, hi)) = go (chars k lo hi (take k s)) refl
   where
     go : (t : Bool) → chars k lo hi (take k s) ≡ t → pick t (k + 1) 0 ≤ length s + 1
     go true e =
@@ -110,28 +110,28 @@ front_fits s (Follow k lo hi) = go (chars k lo hi (take k s)) refl
 
 module _ (s : List ℕ) (at : ℕ) (h : at < length s) where
   -- what a character's first byte asks for tells its size
-  pub size-by : (x : Due) → x ≡ lead (get_or s at 0) → size_by x (drop (at + 1) s) ≡ size_of (drop at s)
+  pub size-by : (x : Option (ℕ × ℕ × ℕ)) → x ≡ lead (get_or s at 0) → size_by x (drop (at + 1) s) ≡ size_of (drop at s)
   unfolding size_of
   size-by x e = rw (drop-cons s at 0 h, ← e, add-one at)
 
   -- the bytes end before it
-  pub size-cut : (k lo hi : ℕ) → Follow k lo hi ≡ lead (get_or s at 0) → length s - at ≤ k → 0 ≡ size_of (drop at s)
+  pub size-cut : (k lo hi : ℕ) → Some (k, lo, hi) ≡ lead (get_or s at 0) → length s - at ≤ k → 0 ≡ size_of (drop at s)
   size-cut k lo hi e l =
       let d : length (drop (at + 1) s) ≡ length s - (at + 1) = length-drop (at + 1) s in
       let r : take k (drop (at + 1) s) ≡ drop (at + 1) s = take_all k (drop (at + 1) s) (omega arith) in
       let c : chars k lo hi (take k (drop (at + 1) s)) ≡ false = rw r (chars-cut (drop (at + 1) s) k lo hi (omega arith)) in
-      rw c at (size-by (Follow k lo hi) e)
+      rw c at (size-by (Some (k, lo, hi)) e)
 
   -- k bytes behind the first end it, or do not
-  pub size-ends : (k lo hi : ℕ) (t : Bool) → Follow k lo hi ≡ lead (get_or s at 0) → t ≡ chars k lo hi (take k (drop (at + 1) s))
+  pub size-ends : (k lo hi : ℕ) (t : Bool) → Some (k, lo, hi) ≡ lead (get_or s at 0) → t ≡ chars k lo hi (take k (drop (at + 1) s))
       → pick t (k + 1) 0 ≡ size_of (drop at s)
-  size-ends k lo hi t e f = rw f (size-by (Follow k lo hi) e)
+  size-ends k lo hi t e f = rw f (size-by (Some (k, lo, hi)) e)
 
   -- what the size n of a character says of the bytes
   pub size-means : (n : ℕ) → n ≡ size_of (drop at s) → (at + n ≤ length s) × (utf8 (drop at s) ≡ both (ltb 0 n) (utf8 (drop (at + n) s)))
   unfolding chars
   size-means n e =
-      let x : Due = lead (get_or s at 0) in
+      let x : (Option (ℕ × ℕ × ℕ)) = lead (get_or s at 0) in
       let r : List ℕ = drop (suc at) s in
       let z : size_by x r ≡ n = rw (add-one at) at (size-by x refl) ∙ sym e in
       let d : length r ≡ length s - suc at = length-drop (suc at) s in (
@@ -156,7 +156,7 @@ module _ (s : List ℕ) (at : ℕ) (h : at + 3 ≤ length s) where
   three-passed (al, ah, ad, bl, bh, cl, ch) =
       sym (size-means s at (omega arith) 3 (size-ends s at (omega arith) 2 0x80 0xbf true first rest)).1
     where
-      first : Follow 2 0x80 0xbf ≡ lead a
+      first : Some (2, 0x80, 0xbf) ≡ lead a
       first =
           rw (le-ltb a 0x80 (omega arith), le-ltb a 0xc2 (omega arith), le-ltb a 0xe0 (omega arith), ne_eqb a 0xe0 (λ e. omega arith), ne_eqb a 0xed ad, lt-ltb a 0xf0 (omega arith))
 

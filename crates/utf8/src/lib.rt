@@ -6,45 +6,38 @@ ghost use Rattle.base.specs.Pick.{pick, both};
 ghost use Rattle.utf8.specs.Utf8.{lead as lead_of, chars, utf8, size_of};
 ghost use Rattle.utf8.specs.Ascii.{ascii, ascii_front};
 
-// What is due after a byte: how many more bytes of its character, and the range of the first of them. Or the bytes are not UTF-8.
-#[derive(Clone, Copy)]
-pub enum Due {
-    Follow(u8, u8, u8),
-    Never,
-}
-
-// What a character's first byte asks for.
-fn lead(b: u8) -> Due
+// What is due after a character's first byte: how many more bytes, and the range of the first of them; or it begins none.
+fn lead(b: u8) -> Option<(u8, u8, u8)>
     ensures { result ≡ lead_of b }
 {
     if b < 0x80 {
-        return Due::Follow(0, 0x80, 0xbf);
+        return Some((0, 0x80, 0xbf));
     }
     if b < 0xc2 {
-        return Due::Never;
+        return None;
     }
     if b < 0xe0 {
-        return Due::Follow(1, 0x80, 0xbf);
+        return Some((1, 0x80, 0xbf));
     }
     if b == 0xe0 {
-        return Due::Follow(2, 0xa0, 0xbf);
+        return Some((2, 0xa0, 0xbf));
     }
     if b == 0xed {
-        return Due::Follow(2, 0x80, 0x9f);
+        return Some((2, 0x80, 0x9f));
     }
     if b < 0xf0 {
-        return Due::Follow(2, 0x80, 0xbf);
+        return Some((2, 0x80, 0xbf));
     }
     if b == 0xf0 {
-        return Due::Follow(3, 0x90, 0xbf);
+        return Some((3, 0x90, 0xbf));
     }
     if b < 0xf4 {
-        return Due::Follow(3, 0x80, 0xbf);
+        return Some((3, 0x80, 0xbf));
     }
     if b == 0xf4 {
-        return Due::Follow(3, 0x80, 0x8f);
+        return Some((3, 0x80, 0x8f));
     }
-    Due::Never
+    None
 }
 
 // Whether b is from lo to hi.
@@ -83,8 +76,8 @@ fn size_at(s: &[u8], at: usize) -> usize
     ensures { result ≡ size_of (drop at s.now) }
 {
     match lead(s[at]) {
-        Due::Never => 0,
-        Due::Follow(k, lo, hi) => {
+        None => 0,
+        Some((k, lo, hi)) => {
             let n = k as usize;
             if s.len() - at <= n {
                 return 0;

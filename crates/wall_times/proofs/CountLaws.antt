@@ -1,4 +1,6 @@
 -- The count of the integers with P is the only one. Assumes nothing.
+use Rattle.std.specs.Prelude.{Result, ℕ}
+use Rattle.base.specs.Coded.{Fault}
 use mathlib.Core.Path.{◌≡◌, refl, sym, ap, ◌∙◌, subst}
 use mathlib.Core.List.{List, [], ◌∷◌}
 use mathlib.Core.Logic.{inl, inr}
@@ -6,7 +8,6 @@ use lib.IntN.{ℤ}
 use lib.Signed.{◌<ℤ◌, <ℤ_irrefl}
 use Rattle.signed.proofs.OrderLaws.{lt_trans}
 use Rattle.wall_times.specs.WallTime.{Among, After, Ascending, count_of, Counts}
-use Rattle.wall_times.specs.declared.Mapping.{Mapping}
 
 pub among-after : (a z : ℤ) (zs : List ℤ) → After a zs → Among z zs → a <ℤ z
 among-after a z [] r m = absurd m
@@ -48,7 +49,7 @@ lists-one (x ∷ xs) (y ∷ ys) r s f g =
         go (inl k) = absurd (<ℤ_irrefl (subst (λ (u : ℤ). u <ℤ z) (sym e ∙ sym k) (among-after y z ys s m)))
         go (inr k) = k
 
-pub count-one : (P : ℤ → Type 0) (r s : Mapping) → Counts P r → Counts P s → r ≡ s
+pub count-one : (P : ℤ → Type 0) (r s : Result (ℕ × ℤ × ℤ) Fault) → Counts P r → Counts P s → r ≡ s
 count-one P r s a b =
     a.is
     ∙ ap count_of (lists-one a.instants b.instants a.lists.rising b.lists.rising (λ z m. b.lists.complete z (a.lists.sound z m)) (λ z m. a.lists.complete z (b.lists.sound z m)))

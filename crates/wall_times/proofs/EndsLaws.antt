@@ -1,6 +1,11 @@
 -- What a mapping says: 17 exactly if no instant reads as the local time; a count's earliest is the least and its latest the greatest, and at
 -- no other instant does the question give the local time back. Assumes nothing.
-use mathlib.Core.Path.{◌≡◌, refl, sym, ◌∙◌, subst}
+use Rattle.answers.specs.declared.Found.{Found}
+use Rattle.base.specs.declared.Refusal.{Refusal}
+use Rattle.base.specs.declared.Refusal.TheVariants.{NoInstant}
+use Rattle.base.specs.Coded.{Fault}
+use Rattle.std.specs.Prelude.{Err, Ok, Result}
+use mathlib.Core.Path.{◌≡◌, refl, sym, ap, ◌∙◌, subst}
 use mathlib.Core.List.{List, [], ◌∷◌}
 use mathlib.Core.Logic.{inl, inr}
 use Prim.Native.Nat.{ℕ}
@@ -11,12 +16,8 @@ use lib.Signed.{◌≤ℤ◌, ≤ℤ_refl, <ℤ-≤ℤ_trans}
 use Rattle.base.proofs.Tests.{clash}
 use Rattle.signed.specs.Instant.{biased_of, InRange}
 use Rattle.signed.proofs.OrderLaws.{lt-le}
-use Rattle.answers.specs.declared.Answer.{Answer}
-use Rattle.answers.specs.declared.Answer.TheVariants.{In, Refused as Denied}
 use Rattle.wall_times.specs.WallTime.{ask_all, ReadsAs, Among, After, Lists, latest_of, count_of, Counts, MapsTo}
 use Rattle.wall_times.specs.Facts.{GivesBack}
-use Rattle.wall_times.specs.declared.Mapping.{Mapping}
-use Rattle.wall_times.specs.declared.Mapping.TheVariants.{Instants, Refused}
 use Rattle.wall_times.proofs.CountLaws.{among-after}
 
 -- the ends of a rising list
@@ -36,31 +37,36 @@ at_least z x zs r (inl e) = subst (λ (u : ℤ). z ≤ℤ u) (sym e) (≤ℤ_ref
 at_least z x zs r (inr m) = lt-le (among-after z x zs r m)
 
 -- "Number 17, place 0, exactly if there is none"
-module _ (P : ℤ → Type 0) (r : Mapping) (c : Counts P r) where
-  pub none-if : ((z : ℤ) → P z → ⊥) → r ≡ Refused 17 0
+module _ (P : ℤ → Type 0) (r : Result (ℕ × ℤ × ℤ) Fault) (c : Counts P r) where
+  pub none-if : ((z : ℤ) → P z → ⊥) → r ≡ Err (NoInstant, 0)
   none-if h = c.is ∙ go c.instants c.lists.sound
     where
-      go : (zs : List ℤ) → ((z : ℤ) → Among z zs → P z) → count_of zs ≡ Refused 17 0
+      go : (zs : List ℤ) → ((z : ℤ) → Among z zs → P z) → count_of zs ≡ Err (NoInstant, 0)
       go [] s = refl
       go (z ∷ zs) s = absurd (h z (s z (inl refl)))
 
-  pub only_if : (n p : ℕ) → r ≡ Refused n p → (z : ℤ) → P z → ⊥
+  pub only_if : (n : Refusal) (p : ℕ) → r ≡ Err (n, p) → (z : ℤ) → P z → ⊥
   only_if n p e z q = go c.instants (sym c.is ∙ e) (c.lists.complete z q)
     where
-      go : (zs : List ℤ) → count_of zs ≡ Refused n p → Among z zs → ⊥
+      go : (zs : List ℤ) → count_of zs ≡ Err (n, p) → Among z zs → ⊥
       go [] k m = m
       go (y ∷ ys) k m = clash cc
 
+-- what is counted; nothing where that is refused
+abbrev counted : Result (ℕ × ℤ × ℤ) Fault → ℕ × ℤ × ℤ
+counted (Ok p) = p
+counted (Err p) = (0, pos 0, pos 0)
+
 module _ (f id : List ℕ) (local : ℤ) (n : ℕ) (a b : ℤ) where
-  counts-back : Counts (ReadsAs f id local) (Instants n a b) → GivesBack f id local n a b
+  counts-back : Counts (ReadsAs f id local) (Ok (n, a, b)) → GivesBack f id local n a b
   counts-back c = go c.instants c.lists c.is
     where
-      go : (zs : List ℤ) → Lists (ReadsAs f id local) zs → Instants n a b ≡ count_of zs → GivesBack f id local n a b
+      go : (zs : List ℤ) → Lists (ReadsAs f id local) zs → ◌≡◌ {A = Result (ℕ × ℤ × ℤ) Fault} (Ok (n, a, b)) (count_of zs) → GivesBack f id local n a b
       go [] l e = clash cc
       go (z ∷ zs) l e =
-          let w : length (z ∷ zs) ≡ n = cc in
-          let x : z ≡ a = cc in
-          let y : latest_of z zs ≡ b = cc in
+          let w : length (z ∷ zs) ≡ n = sym (ap (λ (r : Result (ℕ × ℤ × ℤ) Fault). (counted r).0) e) in
+          let x : z ≡ a = sym (ap (λ (r : Result (ℕ × ℤ × ℤ) Fault). (counted r).1) e) in
+          let y : latest_of z zs ≡ b = sym (ap (λ (r : Result (ℕ × ℤ × ℤ) Fault). (counted r).2) e) in
           record {
             instants = z ∷ zs;
             rising = l.rising;
@@ -74,13 +80,13 @@ module _ (f id : List ℕ) (local : ℤ) (n : ℕ) (a b : ℤ) where
           }
 
   -- AT EVERY INSTANT COUNTED THE QUESTION'S WALL OFFSET GIVES THE LOCAL TIME BACK, AND AT NO OTHER
-  pub gives_back : MapsTo f id local (Instants n a b) → GivesBack f id local n a b
+  pub gives_back : MapsTo f id local (Ok (n, a, b)) → GivesBack f id local n a b
   unfolding biased_of
   gives_back m = go (ask_all f id (pos 0)) refl
     where
       epoch-in : InRange (pos 0)
       epoch-in e = omega arith
 
-      go : (x : Answer) → ask_all f id (pos 0) ≡ x → GivesBack f id local n a b
-      go (In x) e = counts-back (m.counts (pos 0) x epoch-in e)
-      go (Denied k p) e = let s : Instants n a b ≡ Refused k p = m.refuses (pos 0) k p epoch-in e in clash cc
+      go : (x : Result Found Fault) → ask_all f id (pos 0) ≡ x → GivesBack f id local n a b
+      go (Ok x) e = counts-back (m.counts (pos 0) x epoch-in e)
+      go (Err (k, p)) e = let s : ◌≡◌ {A = Result (ℕ × ℤ × ℤ) Fault} (Ok (n, a, b)) (Err (k, p)) = m.refuses (pos 0) k p epoch-in e in clash cc

@@ -1,4 +1,6 @@
 -- No more than 4,098 instants are counted, and the place of a refusal is at most 4,194,304. Assumes nothing.
+use Rattle.std.specs.Prelude.{Result}
+use Rattle.base.specs.Coded.{Fault}
 use mathlib.Core.Path.{◌≡◌, refl, subst}
 use mathlib.Core.List.{List, [], ◌∷◌}
 use Prim.Native.Nat.{ℕ, ◌≤◌}
@@ -19,7 +21,6 @@ use Rattle.local_times.proofs.MostLaws.{instants-most}
 use Rattle.wall_times.specs.WallTime.{MapsTo}
 use Rattle.wall_times.specs.Facts.{Bounded}
 use Rattle.wall_times.specs.View.{local_of, mapping_of, mapping_at, mapping_in}
-use Rattle.wall_times.specs.declared.Mapping.{Mapping}
 use Rattle.wall_times.proofs.MapLaws.{map-some, map-one}
 
 pub tally-count : (ts : List ℕ) → (tally_of ts).count ≡ length ts
@@ -45,5 +46,5 @@ in-bounded f id local = go (walk (holder id) no_pool f) refl (walk-near (holder 
     go (cut p) e n = record { to = n.to }
     go (ended m p) e n = record { to = n.to }
 
-pub map-bounded : (f id : List ℕ) (local : ℤ) (r : Mapping) → MapsTo f id local r → Bounded r
+pub map-bounded : (f id : List ℕ) (local : ℤ) (r : Result (ℕ × ℤ × ℤ) Fault) → MapsTo f id local r → Bounded r
 map-bounded f id local r m = subst Bounded (map-one f id local (mapping_in f id local) r (map-some f id local) m) (in-bounded f id local)

@@ -6,8 +6,7 @@ ghost use Rattle.zones.specs.Parse.{parse_tailed, after_tail_byte, after_interva
 ghost use Rattle.zones.specs.View.{EndOf};
 ghost use Rattle.zone_ends.specs.Untailed.{UntailedAt};
 
-use base::{END, Read};
-use tails::TailRead;
+use base::{END, Refusal};
 use zones::ZoneEnd;
 
 // What stands behind the end transition of a zone with a tail.
@@ -16,10 +15,10 @@ fn read_tailed(s: &[u8], at: usize, pool: u64, last: u64, end: u64) -> ZoneEnd
     ensures { EndOf (λ id is. parse_tailed pool id is end (drop at s.now)) last result }
 {
     match tails::read_tail(s, at, pool, end) {
-        TailRead::Refused(k) => ZoneEnd::Refused(k),
-        TailRead::Got(n, e) => {
+        Err(k) => ZoneEnd::Refused(k),
+        Ok((n, e)) => {
             if e < s.len() {
-                return ZoneEnd::Refused(9);
+                return ZoneEnd::Refused(Refusal::BadData);
             }
             ZoneEnd::Tailed(n)
         }
@@ -34,11 +33,11 @@ fn read_ending(s: &[u8], at: usize, pool: u64, last: u64, end: u64, b: u64) -> Z
     if b == 0 {
         if end == END {
             if at < s.len() {
-                return ZoneEnd::Refused(9);
+                return ZoneEnd::Refused(Refusal::BadData);
             }
             return ZoneEnd::Untailed;
         }
-        return ZoneEnd::Refused(10);
+        return ZoneEnd::Refused(Refusal::BadInterval);
     }
     if b == 1 {
         if last < end {
@@ -46,9 +45,9 @@ fn read_ending(s: &[u8], at: usize, pool: u64, last: u64, end: u64, b: u64) -> Z
                 return read_tailed(s, at, pool, last, end);
             }
         }
-        return ZoneEnd::Refused(10);
+        return ZoneEnd::Refused(Refusal::BadInterval);
     }
-    ZoneEnd::Refused(9)
+    ZoneEnd::Refused(Refusal::BadData)
 }
 
 // What stands behind intervals of which the last starts at the moment `last`.
@@ -57,10 +56,10 @@ pub fn read_end(s: &[u8], at: usize, pool: u64, last: u64) -> ZoneEnd
     ensures { EndOf (λ id is. after_intervals pool id is (drop at s.now)) last result }
 {
     match places::moment_at(s, at, last) {
-        Read::Refused(k) => ZoneEnd::Refused(k),
-        Read::Value(end, a) => match places::byte_at(s, a) {
-            Read::Refused(k) => ZoneEnd::Refused(k),
-            Read::Value(b, e) => read_ending(s, e, pool, last, end, b),
+        Err(k) => ZoneEnd::Refused(k),
+        Ok((end, a)) => match places::byte_at(s, a) {
+            Err(k) => ZoneEnd::Refused(k),
+            Ok((b, e)) => read_ending(s, e, pool, last, end, b),
         },
     }
 }

@@ -1,4 +1,5 @@
 -- What the usual codes before a zone's intervals say. Assumes nothing.
+use Rattle.std.specs.Prelude.{Ok}
 use Prim.Native.Nat.{ℕ, suc, ◌+◌, ◌*◌, ◌-◌, ◌%◌, ◌≤◌, ◌<◌}
 use mathlib.Core.Path.{◌≡◌, refl, sym, ◌∙◌}
 use mathlib.Core.List.{List}
@@ -7,7 +8,6 @@ use lib.ListN.{length, drop, get_or}
 use lib.Seq.{drop-cons}
 use borrow.Author.Tests.{lt-ltb, le-ltb, ne_eqb}
 use Rattle.base.specs.Parsed.{got, parse, parse_byte}
-use Rattle.base.specs.declared.Read.TheVariants.{Value}
 use Rattle.counts.specs.Groups.{read_groups}
 use Rattle.counts.specs.Count.{read_count}
 use Rattle.counts.proofs.CountLaws.{byte-count}

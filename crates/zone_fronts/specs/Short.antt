@@ -1,7 +1,6 @@
 -- The usual codes before a zone's intervals, by their bytes. The code's way, tied to the zone by `ShortPlace` itself.
-use Rattle.std.specs.Prelude.{ℕ, ◌+◌, ◌*◌, ◌-◌, ◌%◌, ◌≤◌, ◌≡◌, List, ltb, length, get_or}
+use Rattle.std.specs.Prelude.{ℕ, ◌+◌, ◌*◌, ◌-◌, ◌%◌, ◌≤◌, ◌≡◌, List, ltb, length, get_or, Ok}
 use Rattle.base.specs.Pick.{pick}
-use Rattle.base.specs.declared.Read.TheVariants.{Value}
 use Rattle.counts.specs.Count.{read_count}
 use Rattle.pieces.specs.Content.{parse_head}
 use Rattle.zones.specs.Parse.{parse_zone}
@@ -15,7 +14,7 @@ short_id s = pick (ltb (get_or s 0 0) 128) (get_or s 0 0) (get_or s 0 0 % 128 + 
 -- it takes k bytes, one or two, unless k is 0
 pub record IdSize (s : List ℕ) (k : ℕ) : Type 0 where
   pub most : k ≤ 2
-  pub means : (k ≡ 0 → ⊥) → read_count s ≡ Value (short_id s) k
+  pub means : (k ≡ 0 → ⊥) → read_count s ≡ Ok (short_id s, k)
 
 -- the intervals of a zone s stand at a place, behind such an ID, the flag and a count of one byte, unless the place is 0
 pub record ShortPlace (pool : ℕ) (s : List ℕ) (place : ℕ) : Type 0 where

@@ -9,7 +9,7 @@ ghost use Rattle.zones.specs.Parse.{parse_fixed, parse_listed, parse_zone};
 ghost use Rattle.zones.specs.View.{FrontOf};
 ghost use Rattle.zone_fronts.specs.Short.{short_id, IdSize, ShortPlace};
 
-use base::Read;
+use base::Refusal;
 use zones::ZoneFront;
 
 // A fixed zone whose data end behind its offset has its ID for its name.
@@ -18,16 +18,16 @@ fn read_fixed(s: &[u8], at: usize, pool: u64, id: u64) -> ZoneFront
     ensures { FrontOf pool s.now (parse_fixed pool id (drop at s.now)) (got 0 []) result }
 {
     match places::sum_at(s, at) {
-        Read::Refused(k) => ZoneFront::Refused(k),
-        Read::Value(offset, a) => {
+        Err(k) => ZoneFront::Refused(k),
+        Ok((offset, a)) => {
             if a == s.len() {
                 return ZoneFront::Fixed(id, offset, id);
             }
             match places::name_at(s, a, pool) {
-                Read::Refused(k) => ZoneFront::Refused(k),
-                Read::Value(n, e) => {
+                Err(k) => ZoneFront::Refused(k),
+                Ok((n, e)) => {
                     if e < s.len() {
-                        return ZoneFront::Refused(9);
+                        return ZoneFront::Refused(Refusal::BadData);
                     }
                     ZoneFront::Fixed(id, offset, n)
                 }
@@ -42,13 +42,13 @@ fn read_interval_count(s: &[u8], at: usize, pool: u64, id: u64) -> ZoneFront
     ensures { FrontOf pool s.now (parse_listed pool id (drop at s.now)) (bind (parse read_count (drop at s.now)) head_count) result }
 {
     match places::count_at(s, at) {
-        Read::Refused(k) => ZoneFront::Refused(k),
-        Read::Value(n, a) => {
+        Err(k) => ZoneFront::Refused(k),
+        Ok((n, a)) => {
             if n == 0 {
-                return ZoneFront::Refused(10);
+                return ZoneFront::Refused(Refusal::BadInterval);
             }
             if 4096 < n {
-                return ZoneFront::Refused(4);
+                return ZoneFront::Refused(Refusal::TooLarge);
             }
             ZoneFront::Listed(id, n, a)
         }
@@ -60,17 +60,17 @@ pub fn read_front(s: &[u8], pool: u64) -> ZoneFront
     ensures { FrontOf pool s.now (parse_zone pool s.now) (parse_head s.now) result }
 {
     match places::name_at(s, 0, pool) {
-        Read::Refused(k) => ZoneFront::Refused(k),
-        Read::Value(id, a) => match places::byte_at(s, a) {
-            Read::Refused(k) => ZoneFront::Refused(k),
-            Read::Value(flag, e) => {
+        Err(k) => ZoneFront::Refused(k),
+        Ok((id, a)) => match places::byte_at(s, a) {
+            Err(k) => ZoneFront::Refused(k),
+            Ok((flag, e)) => {
                 if flag == 1 {
                     return read_fixed(s, e, pool, id);
                 }
                 if flag == 2 {
                     return read_interval_count(s, e, pool, id);
                 }
-                ZoneFront::Refused(9)
+                ZoneFront::Refused(Refusal::BadData)
             }
         },
     }

@@ -1,4 +1,5 @@
 -- Two offsets and a start of four bytes behind an interval's name. Assumes nothing.
+use Rattle.std.specs.Prelude.{Ok}
 use mathlib.Core.Path.{◌≡◌, refl}
 use mathlib.Core.Bool.{Bool, true}
 use mathlib.Core.List.{List}
@@ -11,7 +12,6 @@ use lib.Seq.{drop-cons}
 use borrow.Author.Tests.{lt-ltb, le-ltb, ne_eqb, ltb-true}
 use Rattle.base.specs.Moment.{Finite, first_instant, last_instant}
 use Rattle.base.specs.Parsed.{parse}
-use Rattle.base.specs.declared.Read.TheVariants.{Value}
 use Rattle.base.proofs.Tests.{both_left, both_right}
 use Rattle.base.proofs.MomentLaws.{finite-yes}
 use Rattle.counts.specs.Groups.{read_groups}
@@ -38,7 +38,7 @@ module _ (s : List ℕ) (place : ℕ) (h : place + 2 ≤ length s) where
   number = get_or s place 0 % 128 + 128 * get_or s (place + 1) 0
 
   module _ (b : 128 ≤ get_or s place 0) (n : get_or s (place + 1) 0 ≡ 0 → ⊥) (l : get_or s (place + 1) 0 ≤ 127) where
-    count-is : read_count (drop place s) ≡ Value number 2
+    count-is : read_count (drop place s) ≡ Ok (number, 2)
     unfolding read_groups
     count-is =
         rw (

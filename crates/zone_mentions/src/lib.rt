@@ -8,24 +8,24 @@ ghost use Rattle.mentions.specs.Walk.{behind_rule, behind_end, behind_start, beh
 ghost use Rattle.mentions.specs.View.{of_skipped};
 ghost use Rattle.zone_mentions.specs.Short.{HoursAt, ShortAt, StartAt};
 
-use base::{END, FIRST, LAST, Read};
-use mentions::{Skipped, Stage};
+use base::{END, FIRST, LAST, Refusal};
+use mentions::Stage;
 use transitions::HOUR;
 
 // Behind the standard name of a tail: its rule.
-pub fn behind_rule(s: &[u8], at: usize) -> Skipped
+pub fn behind_rule(s: &[u8], at: usize) -> Result<(Stage, usize), Refusal>
     requires { at ≤ length s.now }
     ensures { Stands s.now (behind_rule (drop at s.now)) (of_skipped result) }
 {
     match places::byte_at(s, at) {
-        Read::Refused(k) => Skipped::Refused(k),
-        Read::Value(_, a) => match places::count_at(s, a) {
-            Read::Refused(k) => Skipped::Refused(k),
-            Read::Value(_, b) => match places::zigzag_at(s, b) {
-                Read::Refused(k) => Skipped::Refused(k),
-                Read::Value(_, d) => match places::sum_at(s, d) {
-                    Read::Refused(k) => Skipped::Refused(k),
-                    Read::Value(_, e) => Skipped::At(Stage::Rest, e),
+        Err(k) => Err(k),
+        Ok((_, a)) => match places::count_at(s, a) {
+            Err(k) => Err(k),
+            Ok((_, b)) => match places::zigzag_at(s, b) {
+                Err(k) => Err(k),
+                Ok((_, d)) => match places::sum_at(s, d) {
+                    Err(k) => Err(k),
+                    Ok((_, e)) => Ok((Stage::Rest, e)),
                 },
             },
         },
@@ -33,93 +33,83 @@ pub fn behind_rule(s: &[u8], at: usize) -> Skipped
 }
 
 // Behind the end transition: the tail byte, and the tail's standard offset.
-fn behind_end(s: &[u8], at: usize) -> Skipped
+fn behind_end(s: &[u8], at: usize) -> Result<(Stage, usize), Refusal>
     requires { at ≤ length s.now }
     ensures { Stands s.now (behind_end (drop at s.now)) (of_skipped result) }
 {
     match places::byte_at(s, at) {
-        Read::Refused(k) => Skipped::Refused(k),
-        Read::Value(b, a) => {
+        Err(k) => Err(k),
+        Ok((b, a)) => {
             if b != 1 {
-                return Skipped::At(Stage::Rest, s.len());
+                return Ok((Stage::Rest, s.len()));
             }
             match places::sum_at(s, a) {
-                Read::Refused(k) => Skipped::Refused(k),
-                Read::Value(_, e) => Skipped::At(Stage::Rule, e),
+                Err(k) => Err(k),
+                Ok((_, e)) => Ok((Stage::Rule, e)),
             }
         }
     }
 }
 
 // Before a transition after prev, with `left` more intervals.
-fn behind_start(s: &[u8], at: usize, prev: u64, left: u64) -> Skipped
+fn behind_start(s: &[u8], at: usize, prev: u64, left: u64) -> Result<(Stage, usize), Refusal>
     requires { at ≤ length s.now }
     ensures { Stands s.now (behind_start prev left (drop at s.now)) (of_skipped result) }
 {
-    match places::moment_at(s, at, prev) {
-        Read::Refused(k) => Skipped::Refused(k),
-        Read::Value(m, e) => {
-            if left == 0 {
-                return behind_end(s, e);
-            }
-            Skipped::At(Stage::Interval(m, left - 1), e)
-        }
+    let (m, e) = places::moment_at(s, at, prev)?;
+    if left == 0 {
+        return behind_end(s, e);
     }
+    Ok((Stage::Interval(m, left - 1), e))
 }
 
 // Behind the name of an interval: its offsets, and the transition that follows.
-pub fn behind_details(s: &[u8], at: usize, start: u64, left: u64) -> Skipped
+pub fn behind_details(s: &[u8], at: usize, start: u64, left: u64) -> Result<(Stage, usize), Refusal>
     requires { at ≤ length s.now }
     ensures { Stands s.now (behind_details start left (drop at s.now)) (of_skipped result) }
 {
     match places::sum_at(s, at) {
-        Read::Refused(k) => Skipped::Refused(k),
-        Read::Value(_, a) => match places::sum_at(s, a) {
-            Read::Refused(k) => Skipped::Refused(k),
-            Read::Value(_, b) => behind_start(s, b, start, left),
+        Err(k) => Err(k),
+        Ok((_, a)) => match places::sum_at(s, a) {
+            Err(k) => Err(k),
+            Ok((_, b)) => behind_start(s, b, start, left),
         },
     }
 }
 
 // Behind a fixed zone's flag: its offset.
-fn behind_offset(s: &[u8], at: usize) -> Skipped
+fn behind_offset(s: &[u8], at: usize) -> Result<(Stage, usize), Refusal>
     requires { at ≤ length s.now }
     ensures { Stands s.now (behind_offset (drop at s.now)) (of_skipped result) }
 {
     match places::sum_at(s, at) {
-        Read::Refused(k) => Skipped::Refused(k),
-        Read::Value(_, e) => Skipped::At(Stage::Rest, e),
+        Err(k) => Err(k),
+        Ok((_, e)) => Ok((Stage::Rest, e)),
     }
 }
 
 // Behind a listed zone's flag: the interval count.
-fn behind_interval_count(s: &[u8], at: usize) -> Skipped
+fn behind_interval_count(s: &[u8], at: usize) -> Result<(Stage, usize), Refusal>
     requires { at ≤ length s.now }
     ensures { Stands s.now (behind_interval_count (drop at s.now)) (of_skipped result) }
 {
-    match places::count_at(s, at) {
-        Read::Refused(k) => Skipped::Refused(k),
-        Read::Value(n, e) => behind_start(s, e, END, n),
-    }
+    let (n, e) = places::count_at(s, at)?;
+    behind_start(s, e, END, n)
 }
 
 // Behind a zone's ID: its flag.
-pub fn behind_id(s: &[u8], at: usize) -> Skipped
+pub fn behind_id(s: &[u8], at: usize) -> Result<(Stage, usize), Refusal>
     requires { at ≤ length s.now }
     ensures { Stands s.now (behind_id (drop at s.now)) (of_skipped result) }
 {
-    match places::byte_at(s, at) {
-        Read::Refused(k) => Skipped::Refused(k),
-        Read::Value(b, e) => {
-            if b == 1 {
-                return behind_offset(s, e);
-            }
-            if b == 2 {
-                return behind_interval_count(s, e);
-            }
-            Skipped::At(Stage::Rest, s.len())
-        }
+    let (b, e) = places::byte_at(s, at)?;
+    if b == 1 {
+        return behind_offset(s, e);
     }
+    if b == 2 {
+        return behind_interval_count(s, e);
+    }
+    Ok((Stage::Rest, s.len()))
 }
 
 // Whether a byte is an offset of half hours.
@@ -191,12 +181,12 @@ pub fn any_start(s: &[u8], at: usize, prev: u64) -> Start
     ensures { StartAt s.now at prev result }
 {
     match places::sum_at(s, at) {
-        Read::Refused(_) => Start { start: 0, place: 0 },
-        Read::Value(_, a) => match places::sum_at(s, a) {
-            Read::Refused(_) => Start { start: 0, place: 0 },
-            Read::Value(_, b) => match any_intervals::moment_at(s, b, prev) {
-                Read::Refused(_) => Start { start: 0, place: 0 },
-                Read::Value(m, e) => Start { start: m, place: e },
+        Err(_) => Start { start: 0, place: 0 },
+        Ok((_, a)) => match places::sum_at(s, a) {
+            Err(_) => Start { start: 0, place: 0 },
+            Ok((_, b)) => match any_intervals::moment_at(s, b, prev) {
+                Err(_) => Start { start: 0, place: 0 },
+                Ok((m, e)) => Start { start: m, place: e },
             },
         },
     }

@@ -1,21 +1,20 @@
-// What the C functions say of a zone found once: its five numbers, the zone that five numbers stand for, and how many rows a table of its answers has.
+// What the C functions say of a zone found once: its five numbers, and the zone that five numbers stand for.
 #![tactic(auto)]
 
 ghost use Rattle.std.specs.Prelude.{◌≡◌};
-ghost use Rattle.replies.specs.Reply.{Gives};
-ghost use Rattle.zone_replies.specs.Zones.{GivesZone, zone_by, listed_reply};
-ghost use Rattle.zone_replies.specs.Small.{SmallFinding, SmallListed};
+ghost use Rattle.zone_replies.specs.Zones.{GivesZone, zone_by};
+ghost use Rattle.zone_replies.specs.Small.{SmallFinding};
 
-use answer_tables::Listed;
-use found_zones::{Finding, FoundZone};
+use base::Fault;
+use found_zones::FoundZone;
 
 // The numbers of a found zone.
-pub fn give_zone(x: Finding, out: &mut [u64; 5]) -> u64
+pub fn give_zone(x: Result<FoundZone, Fault>, out: &mut [u64; 5]) -> u64
     requires { SmallFinding x }
     ensures { GivesZone x out.old result out.new }
 {
     match x {
-        Finding::Zone(v) => {
+        Ok(v) => {
             *out = [
                 v.pool as u64,
                 v.past as u64,
@@ -25,7 +24,7 @@ pub fn give_zone(x: Finding, out: &mut [u64; 5]) -> u64
             ];
             0
         }
-        Finding::Refused(n, p) => replies::refusal(n, p),
+        Err((n, p)) => replies::refusal(n, p),
     }
 }
 
@@ -44,19 +43,5 @@ pub fn zone_by(x: &[u64; 5]) -> FoundZone
         start: start as usize,
         end: end as usize,
         place: place as usize,
-    }
-}
-
-// How many rows a table of answers has.
-pub fn give_listed(x: Listed, count: &mut [i64; 1]) -> u64
-    requires { SmallListed x }
-    ensures { Gives (listed_reply x) count.old result count.new }
-{
-    match x {
-        Listed::Rows(n) => {
-            *count = [n as i64];
-            0
-        }
-        Listed::Refused(n, p) => replies::refusal(n, p),
     }
 }

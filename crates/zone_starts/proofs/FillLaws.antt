@@ -1,4 +1,7 @@
 -- Each way out of the zone's reader. Assumes nothing.
+use Rattle.base.specs.declared.Refusal.{Refusal}
+use Rattle.std.specs.Prelude.{Err, Ok}
+use Rattle.base.specs.declared.Refusal.TheVariants.{BadData, BadInterval}
 use mathlib.Core.Path.{◌≡◌, refl, sym, ap, ◌∙◌}
 use mathlib.Core.Bool.{Bool, true, false}
 use mathlib.Core.List.{List, [], ◌∷◌, ◌++◌}
@@ -25,7 +28,6 @@ use Rattle.zones.specs.Parse.{zone_of, after_tail, parse_tailed, after_tail_byte
 use Rattle.zones.specs.View.{FrontOf}
 use Rattle.zones.specs.declared.ZoneFront.{ZoneFront}
 use Rattle.zones.specs.declared.ZoneFront.TheVariants.{Listed}
-use Rattle.zones.specs.declared.ZoneVerdict.TheVariants.{Good, Refused as Faulty}
 use Rattle.zones.proofs.ReadLaws.{listed-front}
 use Rattle.zone_starts.specs.Starts.{list_starts, starts_of, count_of, table_of, table, Fills}
 use Rattle.zone_starts.specs.View.{intervals_at, list_of, over, ListedAt, CheckedAt}
@@ -74,14 +76,14 @@ module _ (pool id : ℕ) (is : List Interval) (z : Zone) (q : List ℕ) where
   list-starts end b s e = go (eqb b 0) (eqb b 1) e
     where
       go : (t u : Bool)
-          → pick t (pick (eqb end end_of_time) (zone_of id (listed is end untailed) s) (bad 10))
-          (pick u (pick (both (ltb (behind start_of end_of_time is) end) (ltb end end_of_time)) (parse_tailed pool id is end s) (bad 10)) (bad 9))
+          → pick t (pick (eqb end end_of_time) (zone_of id (listed is end untailed) s) (bad BadInterval))
+          (pick u (pick (both (ltb (behind start_of end_of_time is) end) (ltb end end_of_time)) (parse_tailed pool id is end s) (bad BadInterval)) (bad BadData))
           ≡ got z q
           → starts_of z.body ≡ list_starts is
       go true u k =
-          zone-starts (listed is end untailed) s refl (pick_good (eqb end end_of_time) (zone_of id (listed is end untailed) s) 10 z q k).1
+          zone-starts (listed is end untailed) s refl (pick_good (eqb end end_of_time) (zone_of id (listed is end untailed) s) BadInterval z q k).1
       go false true k =
-          let a = pick_good (both (ltb (behind start_of end_of_time is) end) (ltb end end_of_time)) (parse_tailed pool id is end s) 10 z q k in
+          let a = pick_good (both (ltb (behind start_of end_of_time is) end) (ltb end end_of_time)) (parse_tailed pool id is end s) BadInterval z q k in
           let c = bind-good (parse_tail pool end s) (after_tail id is end) z q a.1 in
           zone-starts (listed is end (tailed c.first)) c.rest refl c.on
       go false false k = bad-got k
@@ -97,7 +99,7 @@ module _ (pool : ℕ) (s : List ℕ) (d : List ℤ) where
   abbrev zone : Parsed Zone
   zone = parse_zone pool s
 
-  pub fill-bad : (k : ℕ) → zone ≡ bad k → Fills zone d (Refused k) d
+  pub fill-bad : (k : Refusal) → zone ≡ bad k → Fills zone d (Refused k) d
   fill-bad k e = rw e (refl, refl)
 
   -- a fixed zone
@@ -119,14 +121,14 @@ module _ (pool : ℕ) (s : List ℕ) (d : List ℤ) where
   pub listed_at : (h : Parsed ℕ) (r : ZoneFront) → FrontOf pool s zone h r → (id n a : ℕ) → r ≡ Listed id n a → ListedAt pool s n a
   listed_at h r f id n a e = let k = listed-front pool s zone h r f id n a e in record { id = id; goes = k.0; inside = k.1; most = k.3 }
 
-  pub verdict-bad : (k : ℕ) → Faulty k ≡ verdict_of zone → zone ≡ bad k
+  pub verdict-bad : (k : Refusal) → Err k ≡ verdict_of zone → zone ≡ bad k
   verdict-bad k e = go zone refl e
     where
-      go : (p : Parsed Zone) → zone ≡ p → Faulty k ≡ verdict_of p → zone ≡ bad k
+      go : (p : Parsed Zone) → zone ≡ p → Err k ≡ verdict_of p → zone ≡ bad k
       go (got z q) f g = clash cc
       go (bad n) f g = let x : n ≡ k = cc in f ∙ ap bad x
 
-  module _ (n at : ℕ) (l : ListedAt pool s n at) (i : ℕ) (v : Good i ≡ verdict_of zone) where
+  module _ (n at : ℕ) (l : ListedAt pool s n at) (i : ℕ) (v : Ok i ≡ verdict_of zone) where
     -- the zone, and its intervals as they are read
     record ReadAs : Type 0 where
       content : Zone
@@ -140,7 +142,7 @@ module _ (pool : ℕ) (s : List ℕ) (d : List ℤ) where
     read_as : ReadAs
     read_as = go zone refl v
       where
-        go : (p : Parsed Zone) → zone ≡ p → Good i ≡ verdict_of p → ReadAs
+        go : (p : Parsed Zone) → zone ≡ p → Ok i ≡ verdict_of p → ReadAs
         go (bad k) f g = clash cc
         go (got z q) f g =
             let x = bind-good (intervals_at pool s n at) (after_intervals pool l.id) z q (sym l.goes ∙ f) in

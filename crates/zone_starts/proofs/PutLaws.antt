@@ -1,4 +1,5 @@
 -- Where the loop over the intervals stands, and how it goes on. Assumes nothing.
+use Rattle.base.specs.declared.Refusal.{Refusal}
 use mathlib.Core.Path.{◌≡◌, refl, sym, ap, ◌∙◌}
 use mathlib.Core.List.{List, [], ◌∷◌, ◌++◌, append_assoc}
 use Prim.Native.Nat.{ℕ, suc, ◌+◌, ◌-◌, ◌≤◌, ◌<◌}
@@ -109,7 +110,7 @@ module _ (pool : ℕ) (s : List ℕ) (n from : ℕ) (d : List ℤ) where
         ap length g.out-is ∙ over-length (list_starts g.pre) d (omega (arith, starts-length g.pre, g.going.count))
 
     -- what was checked is not refused
-    pub putting-never : {G : Type 0} (k : ℕ) → 0 < left → CheckedAt pool s n from → Stands s (parse_interval pool last (drop place s)) (no k) → G
+    pub putting-never : {G : Type 0} (k : Refusal) → 0 < left → CheckedAt pool s n from → Stands s (parse_interval pool last (drop place s)) (no k) → G
     putting-never k h c b = bad-got (sym (going-bad _ _ _ _ s _ n left place last g.pre k g.going h b.means) ∙ c.read)
 
     pub putting-done : left ≡ 0 → out ≡ over (list_of pool s n from) d

@@ -6,16 +6,15 @@ ghost use Rattle.zones.specs.Parse.{parse_zone};
 ghost use Rattle.zone_starts.specs.Starts.{Fills};
 ghost use Rattle.zone_starts.specs.View.{ListedAt, CheckedAt, list_of, over};
 
-use base::END;
-use intervals::IntervalRead;
-use zones::{ZoneFront, ZoneVerdict};
+use base::{END, Refusal};
+use zones::ZoneFront;
 
-// How many starts there are; or that the table is too short; or the number of the zone's fault.
+// How many starts there are; or that the table is too short; or the zone's fault.
 #[derive(Clone, Copy)]
 pub enum ZoneStarts {
     Filled(usize),
     Short,
-    Refused(u8),
+    Refused(Refusal),
 }
 
 // The starts of the n intervals at a place, which were checked.
@@ -39,10 +38,10 @@ fn put_starts(s: &[u8], at: usize, pool: u64, n: u64, out: &mut [i64])
         }
         let item = next_intervals::read_interval(s, place, pool, last);
         match item {
-            IntervalRead::Refused(_) => {
+            Err(_) => {
                 return;
             }
-            IntervalRead::Got(x, e) => {
+            Ok((x, e)) => {
                 out[i] = signed::ticks(x.start);
                 left -= 1;
                 i += 1;
@@ -59,8 +58,8 @@ fn fill_listed(s: &[u8], at: usize, pool: u64, n: u64, out: &mut [i64]) -> ZoneS
     ensures { Fills (parse_zone pool s.now) out.old result out.new }
 {
     match zone_reads::check(s, pool) {
-        ZoneVerdict::Refused(k) => ZoneStarts::Refused(k),
-        ZoneVerdict::Good(_) => {
+        Err(k) => ZoneStarts::Refused(k),
+        Ok(_) => {
             if (out.len() as u64) < n {
                 return ZoneStarts::Short;
             }

@@ -1,4 +1,8 @@
 -- The mapping of a found zone. Assumes nothing.
+use Rattle.answers.specs.declared.Found.{Found}
+use Rattle.base.specs.declared.Refusal.{Refusal}
+use Rattle.base.specs.Coded.{Fault}
+use Rattle.std.specs.Prelude.{Err, Ok, Result}
 use mathlib.Core.Path.{◌≡◌, refl, sym, ap, ◌∙◌, subst}
 use mathlib.Core.List.{List}
 use Prim.Native.Nat.{ℕ, ◌≤◌}
@@ -18,33 +22,26 @@ use Rattle.zones.specs.Lookup.{in_zone}
 use Rattle.zones.specs.Sound.{Sound}
 use Rattle.zones.specs.declared.Edition.TheVariants.{Two}
 use Rattle.zones.proofs.SoundLaws.{zone-sound}
-use Rattle.answers.specs.declared.Answer.{Answer}
-use Rattle.answers.specs.declared.Answer.TheVariants.{In, Refused as Denied}
 use Rattle.local_times.specs.Tally.{tally_of}
 use Rattle.local_times.specs.Instants.{instants_of}
 use Rattle.local_times.specs.View.{answer_of}
 use Rattle.local_times.specs.declared.Tally.{Tally}
-use Rattle.local_times.specs.declared.LocalAnswer.{LocalAnswer}
-use Rattle.local_times.specs.declared.LocalAnswer.TheVariants.{Instants as Some, Refused as Ill}
 use Rattle.local_times.proofs.MostLaws.{instants-most}
 use Rattle.found_zones.specs.FoundZone.{zone_at, answer_in, place_in, zone_answer, ask_zone, FindsZone}
 use Rattle.found_zones.specs.declared.FoundZone.{FoundZone}
-use Rattle.found_zones.specs.declared.Finding.TheVariants.{Zone as Here}
 use Rattle.wall_times.specs.WallTime.{ask_all, ReadsBy, MapsBy, MapsTo, Lists, Counts}
 use Rattle.wall_times.specs.Facts.{Bounded}
 use Rattle.wall_times.specs.View.{local_of, mapping_of}
-use Rattle.wall_times.specs.declared.Mapping.{Mapping}
-use Rattle.wall_times.specs.declared.Mapping.TheVariants.{Instants, Refused}
 use Rattle.wall_times.proofs.MapLaws.{map-looked, map-denied, one-mapping}
 use Rattle.wall_times.proofs.MostLaws.{tally-count, mapping-bounded}
 use Rattle.zone_wall_times.specs.ZoneMapping.{MapsZone}
 
 -- BY THE FILE: on the bytes that a zone was found in, its mapping is the file's
-module _ (q p : ℤ → Answer) (same : (z : ℤ) → q z ≡ p z) (local : ℤ) where
+module _ (q p : ℤ → Result Found Fault) (same : (z : ℤ) → q z ≡ p z) (local : ℤ) where
   reads_other : (z : ℤ) → ReadsBy q local z → ReadsBy p local z
   reads_other z r = record { in-range = r.in-range; given = r.given; answer = sym (same z) ∙ r.answer; sum = r.sum }
 
-pub maps-other : (q p : ℤ → Answer) → ((z : ℤ) → q z ≡ p z) → (local : ℤ) (r : Mapping) → MapsBy q local r → MapsBy p local r
+pub maps-other : (q p : ℤ → Result Found Fault) → ((z : ℤ) → q z ≡ p z) → (local : ℤ) (r : Result (ℕ × ℤ × ℤ) Fault) → MapsBy q local r → MapsBy p local r
 maps-other q p same local r m = record {
   refuses = λ z n a i e. m.refuses z n a i (same z ∙ e);
   counts = λ z x i e. counted (m.counts z x i (same z ∙ e));
@@ -61,7 +58,7 @@ maps-other q p same local r m = record {
       is = c.is;
     }
 
-pub found-maps : (f id : List ℕ) (v : FoundZone) → FindsZone f id (Here v) → (local : ℤ) (r : Mapping) → MapsZone f v local r → MapsTo f id local r
+pub found-maps : (f id : List ℕ) (v : FoundZone) → FindsZone f id (Ok v) → (local : ℤ) (r : Result (ℕ × ℤ × ℤ) Fault) → MapsZone f v local r → MapsTo f id local r
 found-maps f id v h local r m = maps-other (λ z. ask_zone f v z Two) (ask_all f id) (λ z. h.to z Two) local r m
 
 -- the question on a zone at an instant in range
@@ -70,9 +67,9 @@ unfolding ask_zone
 in-range f v z i p e = rw (ne_eqb (instant_of z) 0 i) (ap (zone_answer f v Two (instant_of z)) e)
 
 -- what the code gives
-abbrev mapping_by : FoundZone → ℕ → Parsed Zone → Mapping
+abbrev mapping_by : FoundZone → ℕ → Parsed Zone → Result (ℕ × ℤ × ℤ) Fault
 mapping_by v l (got z r) = mapping_of (tally_of (instants_of l z.body))
-mapping_by v l (bad n) = Refused n (place_in v)
+mapping_by v l (bad n) = Err (n, place_in v)
 
 module _ (f : List ℕ) (v : FoundZone) (local : ℤ) where
   maps-by : MapsZone f v local (mapping_by v (local_of local) (zone_at f v))
@@ -85,27 +82,27 @@ module _ (f : List ℕ) (v : FoundZone) (local : ℤ) where
       go (bad n) e = map-denied (λ y. ask_zone f v y Two) local n (place_in v) (λ y i. in-range f v y i (bad n) e)
 
   -- by the lookup, in the parts that were lent
-  module _ (pool zone : List ℕ) (count l : ℕ) (a : LocalAnswer) (lent-pool : pool ≡ lent_part f v.pool v.past) (counts : count ≡ room_of pool)
+  module _ (pool zone : List ℕ) (count l : ℕ) (a : Result Tally Refusal) (lent-pool : pool ≡ lent_part f v.pool v.past) (counts : count ≡ room_of pool)
       (lent-zone : zone ≡ lent_part f v.start v.end) (at : l ≡ local_of local) (finds : a ≡ answer_of l (parse_zone count zone)) where
     found-is : a ≡ answer_of (local_of local) (zone_at f v)
     found-is = finds ∙ rw (counts, lent-pool, lent-zone, at)
 
-    pub zone-denied : (n p : ℕ) → a ≡ Ill n → p ≡ place_in v → MapsZone f v local (Refused n p)
+    pub zone-denied : (n : Refusal) (p : ℕ) → a ≡ Err n → p ≡ place_in v → MapsZone f v local (Err (n, p))
     zone-denied n p e q = subst (MapsZone f v local) (sym (go (zone_at f v) (sym e ∙ found-is))) maps-by
       where
-        go : (x : Parsed Zone) → Ill n ≡ answer_of (local_of local) x → Refused n p ≡ mapping_by v (local_of local) x
+        go : (x : Parsed Zone) → Err n ≡ answer_of (local_of local) x → ◌≡◌ {A = Result (ℕ × ℤ × ℤ) Fault} (Err (n, p)) (mapping_by v (local_of local) x)
         go (got z r) h = clash cc
         go (bad i) h = let w : n ≡ i = cc in rw (w, q)
 
-    pub zone-counted : (b : Tally) (r : Mapping) → a ≡ Some b → r ≡ mapping_of b → MapsZone f v local r
+    pub zone-counted : (b : Tally) (r : Result (ℕ × ℤ × ℤ) Fault) → a ≡ Ok b → r ≡ mapping_of b → MapsZone f v local r
     zone-counted b r e q = subst (MapsZone f v local) (sym (q ∙ go (zone_at f v) (sym e ∙ found-is))) maps-by
       where
-        go : (x : Parsed Zone) → Some b ≡ answer_of (local_of local) x → mapping_of b ≡ mapping_by v (local_of local) x
+        go : (x : Parsed Zone) → Ok b ≡ answer_of (local_of local) x → mapping_of b ≡ mapping_by v (local_of local) x
         go (got z r) h = let w : b ≡ tally_of (instants_of (local_of local) z.body) = cc in ap mapping_of w
         go (bad i) h = clash cc
 
   -- A COUNT IS AT MOST 4,098, and the place of a refusal one in a file
-  pub zone-bounded : (r : Mapping) → MapsZone f v local r → Bounded r
+  pub zone-bounded : (r : Result (ℕ × ℤ × ℤ) Fault) → MapsZone f v local r → Bounded r
   zone-bounded r m =
       subst Bounded (one-mapping (λ z. ask_zone f v z Two) local (mapping_by v (local_of local) (zone_at f v)) r maps-by m) (go (zone_at f v) refl)
     where

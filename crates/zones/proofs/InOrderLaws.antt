@@ -1,4 +1,5 @@
 -- The stages of a zone are what the paper says in its order. Assumes nothing.
+use Rattle.base.specs.declared.Refusal.TheVariants.{BadData}
 use mathlib.Core.Path.{◌≡◌, refl}
 use Prim.Native.Nat.{ℕ}
 use mathlib.Core.List.{List, [], ◌∷◌}
@@ -32,7 +33,7 @@ unfolding listed_in_order zone_of after_tail parse_tailed after_tail_byte after_
 listed-stages pool id s = refl
 
 flag-stages : (pool id flag : ℕ) (s : List ℕ)
-    → pick (eqb flag 1) (fixed_in_order pool id s) (pick (eqb flag 2) (listed_in_order pool id s) (bad 9)) ≡ after_flag pool id flag s
+    → pick (eqb flag 1) (fixed_in_order pool id s) (pick (eqb flag 2) (listed_in_order pool id s) (bad BadData)) ≡ after_flag pool id flag s
 unfolding after_flag
 flag-stages pool id flag s = rw (fixed-stages pool id s, listed-stages pool id s) refl
 
@@ -41,13 +42,13 @@ unfolding zone_in_order parse_zone after_id
 zone-stages pool s = go (parse_name pool s)
   where
     after : (id : ℕ) (p : Parsed ℕ)
-        → bind p (λ flag r. pick (eqb flag 1) (fixed_in_order pool id r) (pick (eqb flag 2) (listed_in_order pool id r) (bad 9)))
+        → bind p (λ flag r. pick (eqb flag 1) (fixed_in_order pool id r) (pick (eqb flag 2) (listed_in_order pool id r) (bad BadData)))
         ≡ bind p (after_flag pool id)
     after id (got flag r) = flag-stages pool id flag r
     after id (bad n) = refl
 
     go : (p : Parsed ℕ)
-        → bind p (λ id r. bind (parse_byte r) (λ flag r. pick (eqb flag 1) (fixed_in_order pool id r) (pick (eqb flag 2) (listed_in_order pool id r) (bad 9))))
+        → bind p (λ id r. bind (parse_byte r) (λ flag r. pick (eqb flag 1) (fixed_in_order pool id r) (pick (eqb flag 2) (listed_in_order pool id r) (bad BadData))))
         ≡ bind p (after_id pool)
     go (got id r) = after id (parse_byte r)
     go (bad n) = refl

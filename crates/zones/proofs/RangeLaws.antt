@@ -1,4 +1,5 @@
 -- What an answer of a zone says is in its ranges. Assumes nothing.
+use Rattle.std.specs.Prelude.{Ok}
 use mathlib.Core.Path.{◌≡◌, refl, sym, subst}
 use mathlib.Core.Bool.{Bool, true, false}
 use mathlib.Core.List.{List, [], ◌∷◌}
@@ -25,7 +26,6 @@ use Rattle.zones.proofs.SoundLaws.{zone-sound}
 use Rattle.zones.proofs.EditionLaws.{under-sound}
 use Rattle.zones.specs.declared.Edition.{Edition}
 use Rattle.zones.specs.declared.Found.{Found}
-use Rattle.zones.specs.declared.Answer.TheVariants.{In}
 
 until-ok : (pool : ℕ) (i : Interval) (end : ℕ) → Ranged pool i → FoundOk pool (until i end)
 until-ok pool i end h = record {
@@ -80,10 +80,10 @@ pub zone-found : (pool t : ℕ) (z : Zone) → Sound pool z → Finite t → Fou
 zone-found pool t z h f = body-found pool t z.id z.body h.id-ok h.body_ok f
 
 -- what a lookup gives
-pub found_ok : (ed : Edition) (pool t : ℕ) (s : List ℕ) (x : Found) → Finite t → In x ≡ answer_of ed t (parse_zone pool s) → FoundOk pool x
+pub found_ok : (ed : Edition) (pool t : ℕ) (s : List ℕ) (x : Found) → Finite t → Ok x ≡ answer_of ed t (parse_zone pool s) → FoundOk pool x
 found_ok ed pool t s x f e = go (parse_zone pool s) refl e
   where
-    go : (p : Parsed Zone) → p ≡ parse_zone pool s → In x ≡ answer_of ed t p → FoundOk pool x
+    go : (p : Parsed Zone) → p ≡ parse_zone pool s → Ok x ≡ answer_of ed t p → FoundOk pool x
     go (got z r) k h =
         let y : in_zone t (under ed z) ≡ x = cc in
         subst (FoundOk pool) y (zone-found pool t (under ed z) (under-sound ed pool z (zone-sound pool s z r (sym k)).0) f)

@@ -1,4 +1,6 @@
 -- Each way out of the zone's readers. Assumes nothing.
+use Rattle.base.specs.declared.Refusal.{Refusal}
+use Rattle.base.specs.declared.Refusal.TheVariants.{BadData, BadInterval, TooLarge}
 use mathlib.Core.Path.{◌≡◌, refl, sym, ap, subst}
 use mathlib.Core.Bool.{Bool, true, false}
 use mathlib.Core.List.{List, []}
@@ -35,7 +37,7 @@ pub zone-here : (id : ℕ) (b : Body) (s : List ℕ) (e : ℕ) → length s ≤ 
 unfolding zone_of
 zone-here id b s e h = ended_here _ s e h
 
-pub zone-over : (id : ℕ) (b : Body) (s : List ℕ) (e : ℕ) → e < length s → zone_of id b (drop e s) ≡ bad 9
+pub zone-over : (id : ℕ) (b : Body) (s : List ℕ) (e : ℕ) → e < length s → zone_of id b (drop e s) ≡ bad BadData
 unfolding zone_of
 zone-over id b s e h = ended-over _ s e h
 
@@ -54,7 +56,7 @@ name-present pool id offset s e h n = rw (drop-cons s e 0 (omega (arith, n)))
 
 -- the front
 module _ (pool : ℕ) (s : List ℕ) (p : Parsed Zone) (h : Parsed ℕ) where
-  pub front-bad : (k : ℕ) → p ≡ bad k → FrontOf pool s p h (FrontRefused k)
+  pub front-bad : (k : Refusal) → p ≡ bad k → FrontOf pool s p h (FrontRefused k)
   front-bad k e = record { means = e }
 
   pub front-absent : (id offset : ℕ) → h ≡ got 0 [] → p ≡ got (record { id = id; body = fixed offset absent }) [] → FrontOf pool s p h (AllFixed id offset id)
@@ -78,7 +80,7 @@ module _ (pool : ℕ) (s : List ℕ) (p : Parsed Zone) (h : Parsed ℕ) where
     front-is : (x : ZoneFront) → r ≡ x → FrontTo pool s p h x
     front-is x e = (subst (FrontOf pool s p h) e k).means
 
-    pub refused-front : (n : ℕ) → r ≡ FrontRefused n → p ≡ bad n
+    pub refused-front : (n : Refusal) → r ≡ FrontRefused n → p ≡ bad n
     refused-front n e = front-is (FrontRefused n) e
 
     pub fixed-front : (id offset n : ℕ) → r ≡ AllFixed id offset n
@@ -110,7 +112,7 @@ module _ (f : ℕ → List Interval → Parsed Zone) (last : ℕ) where
   abbrev Behind : List Interval → Type 0
   Behind is = last ≡ behind start_of end_of_time is
 
-  pub end-bad : (k : ℕ) → ((id : ℕ) (is : List Interval) → Behind is → f id is ≡ bad k) → EndOf f last (EndRefused k)
+  pub end-bad : (k : Refusal) → ((id : ℕ) (is : List Interval) → Behind is → f id is ≡ bad k) → EndOf f last (EndRefused k)
   end-bad k h = record { means = h }
 
   pub end-untailed : (end : ℕ) → end ≡ end_of_time
@@ -134,7 +136,7 @@ module _ (pool id : ℕ) (is : List Interval) (end b : ℕ) (s : List ℕ) where
   unfolding after_tail_byte
   none_kept e f = rw (eq-eqb b 0 e, eq-eqb end end_of_time f)
 
-  pub none-refused : b ≡ 0 → (end ≡ end_of_time → ⊥) → after_tail_byte pool id is end b s ≡ bad 10
+  pub none-refused : b ≡ 0 → (end ≡ end_of_time → ⊥) → after_tail_byte pool id is end b s ≡ bad BadInterval
   unfolding after_tail_byte
   none-refused e f = rw (eq-eqb b 0 e, ne_eqb end end_of_time f)
 
@@ -143,19 +145,19 @@ module _ (pool id : ℕ) (is : List Interval) (end b : ℕ) (s : List ℕ) where
   unfolding after_tail_byte
   tail-kept last l e f g = rw (ne_eqb b 0 (omega arith), eq-eqb b 1 e, ← l, lt-ltb last end f, lt-ltb end end_of_time g)
 
-  pub tail-early : (last : ℕ) → last ≡ behind start_of end_of_time is → b ≡ 1 → end ≤ last → after_tail_byte pool id is end b s ≡ bad 10
+  pub tail-early : (last : ℕ) → last ≡ behind start_of end_of_time is → b ≡ 1 → end ≤ last → after_tail_byte pool id is end b s ≡ bad BadInterval
   unfolding after_tail_byte
   tail-early last l e f = rw (ne_eqb b 0 (omega arith), eq-eqb b 1 e, ← l, le-ltb last end f)
 
-  pub tail-endless : b ≡ 1 → end_of_time ≤ end → after_tail_byte pool id is end b s ≡ bad 10
+  pub tail-endless : b ≡ 1 → end_of_time ≤ end → after_tail_byte pool id is end b s ≡ bad BadInterval
   unfolding after_tail_byte
   tail-endless e f = rw (ne_eqb b 0 (omega arith), eq-eqb b 1 e, le-ltb end end_of_time f) (go (ltb (behind start_of end_of_time is) end))
     where
-      go : (t : Bool) → pick (both t false) (parse_tailed pool id is end s) (bad 10) ≡ bad 10
+      go : (t : Bool) → pick (both t false) (parse_tailed pool id is end s) (bad BadInterval) ≡ bad BadInterval
       go true = refl
       go false = refl
 
-  pub tail-unknown : (b ≡ 0 → ⊥) → (b ≡ 1 → ⊥) → after_tail_byte pool id is end b s ≡ bad 9
+  pub tail-unknown : (b ≡ 0 → ⊥) → (b ≡ 1 → ⊥) → after_tail_byte pool id is end b s ≡ bad BadData
   unfolding after_tail_byte
   tail-unknown e f = rw (ne_eqb b 0 e, ne_eqb b 1 f)
 
@@ -167,11 +169,11 @@ after_last pool id is m s e = ap (λ (x : ℕ). bind (parse (read_moment x) s) (
 
 -- the interval count
 module _ (pool id n : ℕ) (s : List ℕ) where
-  pub count-zero : n ≡ 0 → after_count pool id n s ≡ bad 10
+  pub count-zero : n ≡ 0 → after_count pool id n s ≡ bad BadInterval
   unfolding after_count
   count-zero e = rw (eq-eqb n 0 e)
 
-  pub count_past : 4096 < n → after_count pool id n s ≡ bad 4
+  pub count_past : 4096 < n → after_count pool id n s ≡ bad TooLarge
   unfolding after_count
   count_past h = rw (ne_eqb n 0 (omega arith), lt-ltb 4096 n h)
 
@@ -190,6 +192,6 @@ module _ (pool id flag : ℕ) (s : List ℕ) where
   unfolding after_flag
   flag-listed e f = rw (ne_eqb flag 1 e, eq-eqb flag 2 f)
 
-  pub flag-unknown : (flag ≡ 1 → ⊥) → (flag ≡ 2 → ⊥) → after_flag pool id flag s ≡ bad 9
+  pub flag-unknown : (flag ≡ 1 → ⊥) → (flag ≡ 2 → ⊥) → after_flag pool id flag s ≡ bad BadData
   unfolding after_flag
   flag-unknown e f = rw (ne_eqb flag 1 e, ne_eqb flag 2 f)

@@ -1,4 +1,6 @@
 -- The content of a zone that was read is in its ranges. Assumes nothing.
+use Rattle.base.specs.declared.Refusal.{Refusal}
+use Rattle.base.specs.declared.Refusal.TheVariants.{BadData, BadInterval, TooLarge}
 use mathlib.Core.Path.{◌≡◌, refl, sym, ◌∙◌, subst}
 use mathlib.Core.Bool.{Bool, true, false}
 use mathlib.Core.List.{List, [], ◌∷◌}
@@ -75,15 +77,15 @@ module _ (pool id : ℕ) (is : List Interval) (list : ListOk pool is) (few : len
   byte-whole b s e = go (eqb b 0) (eqb b 1) e
     where
       go : (t u : Bool)
-          → pick t (pick (eqb end end_of_time) (zone_of id (listed is end untailed) s) (bad 10))
-          (pick u (pick (both (ltb (behind start_of end_of_time is) end) (ltb end end_of_time)) (parse_tailed pool id is end s) (bad 10)) (bad 9))
+          → pick t (pick (eqb end end_of_time) (zone_of id (listed is end untailed) s) (bad BadInterval))
+          (pick u (pick (both (ltb (behind start_of end_of_time is) end) (ltb end end_of_time)) (parse_tailed pool id is end s) (bad BadInterval)) (bad BadData))
           ≡ got z q
           → Whole pool id z q
       go true u k =
-          let a = pick_good (eqb end end_of_time) (zone_of id (listed is end untailed) s) 10 z q k in
+          let a = pick_good (eqb end end_of_time) (zone_of id (listed is end untailed) s) BadInterval z q k in
           zone-whole pool id (listed is end untailed) s z q (list, eqb-true end end_of_time a.0, few) a.1
       go false true k =
-          let a = pick_good (both (ltb (behind start_of end_of_time is) end) (ltb end end_of_time)) (parse_tailed pool id is end s) 10 z q k in
+          let a = pick_good (both (ltb (behind start_of end_of_time is) end) (ltb end end_of_time)) (parse_tailed pool id is end s) BadInterval z q k in
           tailed-whole s a.0 a.1
       go false false k = bad-got k
 
@@ -93,8 +95,8 @@ listed-whole pool id s z q e =
     let a = bind-good (parse read_count s) (after_count pool id) z q e in
     let n : ℕ = a.first in
     let many-of : Parsed (List Interval) = many (parse_interval pool) start_of n end_of_time a.rest in
-    let b = pick-bad (eqb n 0) (pick (ltb 4096 n) (bad 4) (bind many-of (after_intervals pool id))) 10 z q a.on in
-    let c = pick-bad (ltb 4096 n) (bind many-of (after_intervals pool id)) 4 z q b.1 in
+    let b = pick-bad (eqb n 0) (pick (ltb 4096 n) (bad TooLarge) (bind many-of (after_intervals pool id))) BadInterval z q a.on in
+    let c = pick-bad (ltb 4096 n) (bind many-of (after_intervals pool id)) TooLarge z q b.1 in
     let d = bind-good many-of (after_intervals pool id) z q c.1 in
     let is : List Interval = d.first in
     let f = bind-good (parse (read_moment (behind start_of end_of_time is)) d.rest) (after_end pool id is) z q d.on in
@@ -106,7 +108,7 @@ flag-whole : (pool id flag : ℕ) (s : List ℕ) (z : Zone) (q : List ℕ) → a
 unfolding after_flag
 flag-whole pool id flag s z q = go (eqb flag 1) (eqb flag 2)
   where
-    go : (t u : Bool) → pick t (parse_fixed pool id s) (pick u (parse_listed pool id s) (bad 9)) ≡ got z q → Whole pool id z q
+    go : (t u : Bool) → pick t (parse_fixed pool id s) (pick u (parse_listed pool id s) (bad BadData)) ≡ got z q → Whole pool id z q
     go true u k = fixed-whole pool id s z q k
     go false true k = listed-whole pool id s z q k
     go false false k = bad-got k
@@ -132,6 +134,6 @@ zone-id pool s z q i r n e =
     let j : a.first ≡ i = cc in
     w.id-is ∙ j
 
-pub zone-bad : (pool : ℕ) (s : List ℕ) (k : ℕ) → parse_name pool s ≡ bad k → parse_zone pool s ≡ bad k
+pub zone-bad : (pool : ℕ) (s : List ℕ) (k : Refusal) → parse_name pool s ≡ bad k → parse_zone pool s ≡ bad k
 unfolding parse_zone
 zone-bad pool s k e = rw e

@@ -1,5 +1,6 @@
 -- A zone in the paper's order, four definitions: what a reader is to believe of `parse_zone` (Parse.antt), which is the same by `zone-stages`
 -- (proofs/InOrderLaws.antt). Each thing that is read is judged at once, the end only after the tail byte.
+use Rattle.base.specs.declared.Refusal.TheVariants.{BadData, BadInterval, TooLarge}
 use Rattle.std.specs.Prelude.{ℕ, List, [], ◌∷◌, ltb, eqb}
 use Rattle.base.specs.Pick.{pick, both}
 use Rattle.base.specs.Parsed.{Parsed, bad, bind, parse, parse_byte, ended, many, behind}
@@ -27,19 +28,19 @@ fixed_in_order pool id s = bind (parse read_sum s) (name_in_order pool id)
 unfoldable pub listed_in_order : ℕ → ℕ → List ℕ → Parsed Zone
 listed_in_order pool id s =
     bind (parse read_count s) (λ n r.
-    pick (eqb n 0) (bad 10) (pick (ltb 4096 n) (bad 4) (
+    pick (eqb n 0) (bad BadInterval) (pick (ltb 4096 n) (bad TooLarge) (
     bind (many (interval_in_order pool) start_of n end_of_time r) (λ is r.
     bind (parse (read_moment (behind start_of end_of_time is)) r) (λ end r.
     bind (parse_byte r) (λ b r.
-    pick (eqb b 0) (pick (eqb end end_of_time) (ended (record { id = id; body = listed is end untailed }) r) (bad 10))
+    pick (eqb b 0) (pick (eqb end end_of_time) (ended (record { id = id; body = listed is end untailed }) r) (bad BadInterval))
     (pick (eqb b 1)
     (pick (both (ltb (behind start_of end_of_time is) end) (ltb end end_of_time))
-    (bind (tail_in_order pool end r) (λ t r. ended (record { id = id; body = listed is end (tailed t) }) r)) (bad 10))
-    (bad 9))))))))
+    (bind (tail_in_order pool end r) (λ t r. ended (record { id = id; body = listed is end (tailed t) }) r)) (bad BadInterval))
+    (bad BadData))))))))
 
 -- "A zone is ID, flag, rest"
 unfoldable pub zone_in_order : ℕ → List ℕ → Parsed Zone
 zone_in_order pool s =
     bind (parse_name pool s) (λ id r.
     bind (parse_byte r) (λ flag r.
-    pick (eqb flag 1) (fixed_in_order pool id r) (pick (eqb flag 2) (listed_in_order pool id r) (bad 9))))
+    pick (eqb flag 1) (fixed_in_order pool id r) (pick (eqb flag 2) (listed_in_order pool id r) (bad BadData))))

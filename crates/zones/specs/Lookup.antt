@@ -1,6 +1,7 @@
 -- The interval of a zone that holds an instant. The code's way, tied to the zone's intervals by `lookup-holds` and `lookup-only`
 -- (proofs/PartitionLaws.antt).
-use Rattle.std.specs.Prelude.{ℕ, List, [], ◌∷◌, ltb}
+use Rattle.base.specs.declared.Refusal.{Refusal}
+use Rattle.std.specs.Prelude.{ℕ, List, [], ◌∷◌, ltb, Err, Ok, Result}
 use Rattle.base.specs.Pick.{pick}
 use Rattle.base.specs.Parsed.{Parsed, got, bad}
 use Rattle.base.specs.Moment.{start_of_time, end_of_time}
@@ -12,10 +13,6 @@ use Rattle.intervals.specs.declared.Interval.{Interval}
 use Rattle.tails.specs.declared.NamedTail.{NamedTail}
 use Rattle.zones.specs.declared.Edition.{Edition}
 use Rattle.zones.specs.declared.Found.{Found}
-use Rattle.zones.specs.declared.ZoneVerdict.{ZoneVerdict}
-use Rattle.zones.specs.declared.ZoneVerdict.TheVariants.{Good, Refused}
-use Rattle.zones.specs.declared.Answer.{Answer}
-use Rattle.zones.specs.declared.Answer.TheVariants.{In, Refused as Denied}
 
 -- an offset of zero
 abbrev pub zero_offset : ℕ
@@ -30,7 +27,7 @@ unfoldable pub holding : ℕ → ℕ → Interval → List Interval → Found
 holding t end i [] = until i end
 holding t end i (j ∷ is) = pick (ltb t j.start) (until i j.start) (holding t end j is)
 
--- no zone that a parse gives lists no interval (interval count 0 is 10)
+-- no zone that a parse gives lists no interval (interval count 0 is BadInterval)
 abbrev pub nowhere : Found
 nowhere = record { wall = zero_offset; savings = zero_offset; name = 0; start = start_of_time; end = end_of_time }
 
@@ -68,10 +65,10 @@ abbrev pub in_zone : ℕ → Zone → Found
 in_zone t z = in_body t z.id z.body
 
 -- what the check makes of a parse, and the lookup under an edition
-abbrev pub verdict_of : Parsed Zone → ZoneVerdict
-verdict_of (got z r) = Good z.id
-verdict_of (bad n) = Refused n
+abbrev pub verdict_of : Parsed Zone → Result ℕ Refusal
+verdict_of (got z r) = Ok z.id
+verdict_of (bad n) = Err n
 
-abbrev pub answer_of : Edition → ℕ → Parsed Zone → Answer
-answer_of ed t (got z r) = In (in_zone t (under ed z))
-answer_of ed t (bad n) = Denied n
+abbrev pub answer_of : Edition → ℕ → Parsed Zone → Result Found Refusal
+answer_of ed t (got z r) = Ok (in_zone t (under ed z))
+answer_of ed t (bad n) = Err n

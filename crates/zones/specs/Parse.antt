@@ -1,6 +1,7 @@
--- The data of field 1, read left to right: its content, or the number of the first fault. Each thing that is read is a stage of its
+-- The data of field 1, read left to right: its content, or the first fault. Each thing that is read is a stage of its
 -- own, last stage first; "a value's code (7) comes before its use (4, 8 to 11), and each use is judged at once".
 -- The code's way, tied to InOrder.antt by `zone-stages` (proofs/InOrderLaws.antt).
+use Rattle.base.specs.declared.Refusal.TheVariants.{BadData, BadInterval, TooLarge}
 use Rattle.std.specs.Prelude.{ℕ, List, [], ◌∷◌, ltb, eqb}
 use Rattle.base.specs.Pick.{pick, both}
 use Rattle.base.specs.Parsed.{Parsed, bad, bind, parse, parse_byte, ended, many, behind}
@@ -26,13 +27,13 @@ unfoldable pub parse_tailed : ℕ → ℕ → List Interval → ℕ → List ℕ
 parse_tailed pool id is end s = bind (parse_tail pool end s) (after_tail id is end)
 
 -- "Without a tail the end is end of time; with one it is finite and after the last start"; the end is judged
--- "only after the tail byte is read and is 0 or 1"; another tail byte is 9
+-- "only after the tail byte is read and is 0 or 1"; another tail byte is BadData
 unfoldable pub after_tail_byte : ℕ → ℕ → List Interval → ℕ → ℕ → List ℕ → Parsed Zone
 after_tail_byte pool id is end b s =
-    pick (eqb b 0) (pick (eqb end end_of_time) (zone_of id (listed is end untailed) s) (bad 10))
+    pick (eqb b 0) (pick (eqb end end_of_time) (zone_of id (listed is end untailed) s) (bad BadInterval))
     (pick (eqb b 1)
-    (pick (both (ltb (behind start_of end_of_time is) end) (ltb end end_of_time)) (parse_tailed pool id is end s) (bad 10))
-    (bad 9))
+    (pick (both (ltb (behind start_of end_of_time is) end) (ltb end end_of_time)) (parse_tailed pool id is end s) (bad BadInterval))
+    (bad BadData))
 
 unfoldable pub after_end : ℕ → ℕ → List Interval → ℕ → List ℕ → Parsed Zone
 after_end pool id is end s = bind (parse_byte s) (after_tail_byte pool id is end)
@@ -43,9 +44,9 @@ after_intervals pool id is s = bind (parse (read_moment (behind start_of end_of_
 abbrev pub parse_intervals : ℕ → ℕ → ℕ → List ℕ → Parsed Zone
 parse_intervals pool id n s = bind (many (parse_interval pool) start_of n end_of_time s) (after_intervals pool id)
 
--- "4,096 intervals a zone", "interval count 0" is 10
+-- "4,096 intervals a zone", "interval count 0" is BadInterval
 unfoldable pub after_count : ℕ → ℕ → ℕ → List ℕ → Parsed Zone
-after_count pool id n s = pick (eqb n 0) (bad 10) (pick (ltb 4096 n) (bad 4) (parse_intervals pool id n s))
+after_count pool id n s = pick (eqb n 0) (bad BadInterval) (pick (ltb 4096 n) (bad TooLarge) (parse_intervals pool id n s))
 
 unfoldable pub parse_listed : ℕ → ℕ → List ℕ → Parsed Zone
 parse_listed pool id s = bind (parse read_count s) (after_count pool id)
@@ -62,10 +63,10 @@ after_fixed_offset pool id offset (b ∷ s) = bind (parse_name pool (b ∷ s)) (
 unfoldable pub parse_fixed : ℕ → ℕ → List ℕ → Parsed Zone
 parse_fixed pool id s = bind (parse read_sum s) (after_fixed_offset pool id)
 
--- "unknown zone .. flag" is 9
+-- "unknown zone .. flag" is BadData
 unfoldable pub after_flag : ℕ → ℕ → ℕ → List ℕ → Parsed Zone
 after_flag pool id flag s =
-    pick (eqb flag 1) (parse_fixed pool id s) (pick (eqb flag 2) (parse_listed pool id s) (bad 9))
+    pick (eqb flag 1) (parse_fixed pool id s) (pick (eqb flag 2) (parse_listed pool id s) (bad BadData))
 
 unfoldable pub after_id : ℕ → ℕ → List ℕ → Parsed Zone
 after_id pool id s = bind (parse_byte s) (after_flag pool id)

@@ -1,6 +1,7 @@
 // The data of field 1, a zone: what the readers of its front and its end give, which every reader of a zone shares.
 #![tactic(auto)]
 
+use base::Refusal;
 use tails::NamedTail;
 
 // The interval that holds an instant: offsets with 86,400,000 added, the name's pool number, start and end as moments.
@@ -20,26 +21,13 @@ pub enum Edition {
     Two,
 }
 
-// A well-formed zone's ID, or a refusal's number.
-#[derive(Clone, Copy)]
-pub enum ZoneVerdict {
-    Good(u64),
-    Refused(u8),
-}
-
-#[derive(Clone, Copy)]
-pub enum Answer {
-    In(Found),
-    Refused(u8),
-}
-
 // A zone up to its intervals: ID, offset and name of a fixed one, which is whole, or the ID of a listed one, how many intervals it has
 // and where they stand.
 #[derive(Clone, Copy)]
 pub enum ZoneFront {
     Fixed(u64, u64, u64),
     Listed(u64, u64, usize),
-    Refused(u8),
+    Refused(Refusal),
 }
 
 // What stands behind the intervals of a zone, to the end of its data.
@@ -47,5 +35,5 @@ pub enum ZoneFront {
 pub enum ZoneEnd {
     Untailed,
     Tailed(NamedTail),
-    Refused(u8),
+    Refused(Refusal),
 }

@@ -1,3 +1,4 @@
+use Rattle.std.proofs.lemmas.Result.{err_from_is_err_and}
 use mathlib.Core.Path.{ap}
 use Rattle.places.specs.Placed.{of_read}
 use Rattle.places.proofs.PlaceLaws.{then-in}
@@ -5,10 +6,11 @@ use Rattle.aliases.proofs.EntryLaws.{count-bad, count-read}
 use Rattle.aliases.proofs.check.Goals as goal
 
 pub take_entries-requires : goal.take_entries-requires
-take_entries-requires c = (c.requires.0, c.requires.1, then-in c.count_at.ensures _ _ (ap of_read c.in-Value.is))
+take_entries-requires c = (c.requires.0, c.requires.1, then-in c.count_at.ensures _ _ (ap of_read c.in_ok-n.was))
 
-pub returns-in-Refused : goal.returns-in-Refused
-returns-in-Refused c = count-bad _ _ _ c.count_at.ensures _ c.in-Refused.is
+pub returns-in_err-n : goal.returns-in_err-n
+returns-in_err-n c = let p = err_from_is_err_and c.from_residual.result c.from_residual.ensures.1 in
+    rw (p.1, p.2) (count-bad _ _ _ c.count_at.ensures _ c.in_err-n.was)
 
-pub returns-in-Value : goal.returns-in-Value
-returns-in-Value c = count-read _ _ _ c.count_at.ensures _ _ c.in-Value.is _ c.take_entries.ensures
+pub returns : goal.returns
+returns c = count-read _ _ _ c.count_at.ensures _ _ c.in_ok-n.was _ c.take_entries.ensures

@@ -1,3 +1,5 @@
+use Rattle.std.proofs.lemmas.Result.{err_from_is_err_and}
+use Rattle.base.specs.declared.Refusal.TheVariants.{BadInterval}
 use mathlib.Core.Path.{sym, ap, ◌∙◌}
 use Rattle.places.specs.Placed.{of_read}
 use Rattle.places.proofs.PlaceLaws.{then-in, on, off, stands-if, stands-else, refuse}
@@ -5,19 +7,20 @@ use Rattle.intervals.specs.Interval.{after_start, parse_interval}
 use Rattle.any_intervals.proofs.read_any_interval.Goals as goal
 
 pub read_details-requires : goal.read_details-requires
-read_details-requires c = then-in c.moment_at.ensures _ _ (ap of_read c.in-Value.is)
+read_details-requires c = then-in c.moment_at.ensures _ _ (ap of_read c.in_ok-m.was)
 
 pub returns-then-rises : goal.returns-then-rises
 unfolding parse_interval after_start
 returns-then-rises c = on c.moment_at.ensures _ _ _ _
-    (ap of_read c.in-Value.is)
+    (ap of_read c.in_ok-m.was)
     (stands-if _ _ _ _ _ (sym c.rises.ensures ∙ c.if-rises.true) c.read_details.ensures)
 
-pub returns-in-Refused : goal.returns-in-Refused
+pub returns-in_err-m : goal.returns-in_err-m
 unfolding parse_interval
-returns-in-Refused c = off c.moment_at.ensures _ _ (ap of_read c.in-Refused.is)
+returns-in_err-m c = let p = err_from_is_err_and c.from_residual.result c.from_residual.ensures.1 in
+    rw (p.1, p.2) (off c.moment_at.ensures _ _ (ap of_read c.in_err-m.was))
 
-pub returns-else-rises : goal.returns-else-rises
+pub returns : goal.returns
 unfolding parse_interval after_start
-returns-else-rises c = on c.moment_at.ensures _ _ _ _ (ap of_read c.in-Value.is)
-    (stands-else _ _ _ _ _ (sym c.rises.ensures ∙ c.if-rises.false) (refuse _ 10))
+returns c = on c.moment_at.ensures _ _ _ _ (ap of_read c.in_ok-m.was)
+    (stands-else _ _ _ _ _ (sym c.rises.ensures ∙ c.if-rises.false) (refuse _ BadInterval))

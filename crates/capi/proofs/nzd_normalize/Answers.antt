@@ -9,11 +9,11 @@ use Rattle.capi.proofs.nzd_normalize.Goals.{After-normalize-arg-1}
 bytes : (c : goal.After-normalize-arg-1) → Bytes c.args.file.now
 bytes c i = omega (arith, c.shared_slice_known-1.given i)
 
-pub rewritten_result-requires : goal.rewritten_result-requires
-rewritten_result-requires c = rewrite-small _ _ _ (bytes (goal.at.rewritten_result-requires c).After-normalize-arg-1) c.normalize-r.ensures.0
+pub length_result-requires : goal.length_result-requires
+length_result-requires c = rewrite-small _ _ _ (bytes (goal.at.length_result-requires c).After-normalize-arg-1) c.normalize-r.ensures.0
 
 pub returns : goal.returns
 returns c = record {
-  result = c.rewritten_result.ensures ∙ ap rewritten_result c.normalize-r.ensures.0;
+  result = c.length_result.ensures ∙ ap rewritten_result c.normalize-r.ensures.0;
   output = c.normalize-r.ensures.1;
 }

@@ -32,8 +32,8 @@ returns-in-Refused c = (step-refused _ c.args.c _ _ _ c.next_frame-f.ensures _ c
 pub returns-in-Version : goal.returns-in-Version
 returns-in-Version c = (step-version _ c.args.c _ _ _ c.next_frame-f.ensures c.in-Version.is, flags-version _ c.args.c _ _ c.next_frame-f.ensures _ c.in-Version.is)
 
-pub returns-in-Refused-t : goal.returns-in-Refused-t
-returns-in-Refused-t c = (step-bad _ c.args.c _ _ _ c.next_frame-f.ensures _ _ _ c.in-Whole.is _ _ _ c.take_field-t.ensures.0 (λ z. c.requires.5) _ c.in-Refused-t.is, flags-refused _ _ _ _ _ _)
+pub returns-in-Err : goal.returns-in-Err
+returns-in-Err c = (step-bad _ c.args.c _ _ _ c.next_frame-f.ensures _ _ _ c.in-Whole.is _ _ _ c.take_field-t.ensures.0 (λ z. c.requires.5) _ c.in-Err.is, flags-refused _ _ _ _ _ _)
 
-pub returns-in-Keep : goal.returns-in-Keep
-returns-in-Keep c = rw c.pass.ensures (stepped-passed _ _ (field_fits c.args.s.now c.args.c [] [] _ c.next_frame-f.ensures _ _ _ c.in-Whole.is c.requires.0).0 c.args.c (ends-past c.args.s.now c.args.c [] [] _ c.next_frame-f.ensures _ _ _ c.in-Whole.is) _ _ _ _ (step-keep _ c.args.c _ _ _ c.next_frame-f.ensures _ _ _ c.in-Whole.is _ _ _ c.take_field-t.ensures.0 (λ z. c.requires.5) _ c.in-Keep.is), flags-passed _ _ (field_fits c.args.s.now c.args.c [] [] _ c.next_frame-f.ensures _ _ _ c.in-Whole.is c.requires.0).0 c.args.c (ends-past c.args.s.now c.args.c [] [] _ c.next_frame-f.ensures _ _ _ c.in-Whole.is) _ _ (flags-field _ c.args.c _ _ c.next_frame-f.ensures _ _ _ _ _ _ c.in-Whole.is c.take_field-t.ensures.1 c.in-Keep.is))
+pub returns-in-Ok : goal.returns-in-Ok
+returns-in-Ok c = rw c.pass.ensures (stepped-passed _ _ (field_fits c.args.s.now c.args.c [] [] _ c.next_frame-f.ensures _ _ _ c.in-Whole.is c.requires.0).0 c.args.c (ends-past c.args.s.now c.args.c [] [] _ c.next_frame-f.ensures _ _ _ c.in-Whole.is) _ _ _ _ (step-keep _ c.args.c _ _ _ c.next_frame-f.ensures _ _ _ c.in-Whole.is _ _ _ c.take_field-t.ensures.0 (λ z. c.requires.5) _ c.in-Ok.is), flags-passed _ _ (field_fits c.args.s.now c.args.c [] [] _ c.next_frame-f.ensures _ _ _ c.in-Whole.is c.requires.0).0 c.args.c (ends-past c.args.s.now c.args.c [] [] _ c.next_frame-f.ensures _ _ _ c.in-Whole.is) _ _ (flags-field _ c.args.c _ _ c.next_frame-f.ensures _ _ _ _ _ _ c.in-Whole.is c.take_field-t.ensures.1 c.in-Ok.is))

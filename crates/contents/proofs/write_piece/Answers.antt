@@ -9,14 +9,14 @@ use Rattle.pieces.specs.View.{Put}
 use Rattle.pieces.proofs.FormLaws.{form-put, form-refused, moment-form}
 use Rattle.contents.proofs.FiveLaws.{hours-many, hours-form, five-room}
 use Rattle.contents.proofs.write_piece.Goals as goal
-use Rattle.contents.proofs.write_piece.Goals.{After-write_five-arg-1, In-Length}
+use Rattle.contents.proofs.write_piece.Goals.{After-write_five-arg-1, In-Ok}
 
 -- the transition, then the bytes behind it
-two : (c : goal.In-Length) → InTwo (write_moment c.args.prev c.args.m ++ c.args.s.now) (write_moment c.args.prev c.args.m) c.args.s.now c.args.out.now
+two : (c : goal.In-Ok) → InTwo (write_moment c.args.prev c.args.m ++ c.args.s.now) (write_moment c.args.prev c.args.m) c.args.s.now c.args.out.now
 two c = record { all = refl; room = c.requires.1 }
 
-put : (c : goal.In-Length) → Put (write_moment c.args.prev c.args.m) c.args.out.now c.in-Length.n c.write_moment.new.out
-put c = form-put _ _ _ _ _ (moment-form _ _ c.requires.0) (front-room (two c)) c.write_moment.ensures _ c.in-Length.is
+put : (c : goal.In-Ok) → Put (write_moment c.args.prev c.args.m) c.args.out.now c.in-Ok.n c.write_moment.new.out
+put c = form-put _ _ _ _ _ (moment-form _ _ c.requires.0) (front-room (two c)) c.write_moment.ensures _ c.in-Ok.is
 
 five : (c : goal.After-write_five-arg-1) → write_moment c.args.prev c.args.m ≡ write_count c.hours_to-v.result
 five c = hours-form _ _ _ c.if-m-lt-END.true c.hours_to-v.ensures c.if-v-gt0.true
@@ -35,13 +35,13 @@ pub slice_bounds-copy-start : goal.slice_bounds-copy-start
 slice_bounds-copy-start c = front-within (two c) (put c)
 
 pub copy-requires : goal.copy-requires
-copy-requires c = rest-room (two (goal.at.copy-requires c).In-Length) (put (goal.at.copy-requires c).In-Length)
+copy-requires c = rest-room (two (goal.at.copy-requires c).In-Ok) (put (goal.at.copy-requires c).In-Ok)
 
 pub overflow_add-result : goal.overflow_add-result
-overflow_add-result c = omega (arith, sum_room (two (goal.at.overflow_add-result c).In-Length), (put (goal.at.overflow_add-result c).In-Length).size, c.copy.ensures.value, c.well_formed)
+overflow_add-result c = omega (arith, sum_room (two (goal.at.overflow_add-result c).In-Ok), (put (goal.at.overflow_add-result c).In-Ok).size, c.copy.ensures.value, c.well_formed)
 
-pub returns-in-Refused : goal.returns-in-Refused
-returns-in-Refused c = absurd (form-refused _ _ _ _ _ (moment-form _ _ c.requires.0) (first-room (write_moment c.args.prev c.args.m) _ c.args.out.now c.requires.1) c.write_moment.ensures _ c.in-Refused.is)
+pub returns-in-Err : goal.returns-in-Err
+returns-in-Err c = absurd (form-refused _ _ _ _ _ (moment-form _ _ c.requires.0) (first-room (write_moment c.args.prev c.args.m) _ c.args.out.now c.requires.1) c.write_moment.ensures _ c.in-Err.is)
 
-pub returns-in-Length : goal.returns-in-Length
-returns-in-Length c = both-put (two (goal.at.returns-in-Length c).In-Length) (put (goal.at.returns-in-Length c).In-Length) (copied _ _ _ _ c.copy.ensures.value c.copy.ensures.dst_after)
+pub returns-in-Ok : goal.returns-in-Ok
+returns-in-Ok c = both-put (two (goal.at.returns-in-Ok c).In-Ok) (put (goal.at.returns-in-Ok c).In-Ok) (copied _ _ _ _ c.copy.ensures.value c.copy.ensures.dst_after)

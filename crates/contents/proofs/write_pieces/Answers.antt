@@ -13,16 +13,16 @@ use Rattle.contents.proofs.write_pieces.Goals as goal
 use Rattle.contents.proofs.write_pieces.Goals.{After-piece_end-e}
 
 -- the piece that was read
-piece : (c : goal.After-piece_end-e) → PieceAt c.args.s.now (c.loop-left.left - 1) c.loop-left.prev c.loop-left.place c.in-Value.m c.in-Value.a c.piece_end-e.result
+piece : (c : goal.After-piece_end-e) → PieceAt c.args.s.now (c.loop-left.left - 1) c.loop-left.prev c.loop-left.place c.in-Ok.m c.in-Ok.a c.piece_end-e.result
 piece c =
     going-piece _ _ c.loop-left.place _ _ _ _ _ _ c.loop-left.invariant.1 (omega arith)
-    (stands-is c.moment_at-item.ensures (ap of_read c.in-Value.is)) c.piece_end-e.ensures
+    (stands-is c.moment_at-item.ensures (ap of_read c.in-Ok.is)) c.piece_end-e.ensures
 
-next : (c : goal.After-piece_end-e) → Going c.args.s.now (c.loop-left.left - 1) c.piece_end-e.result c.in-Value.m (print_pieces end_of_time (pieces_at c.args.s.now c.args.n c.args.at)) (c.loop-left.invariant.0 ++ printed c.args.s.now c.loop-left.prev c.in-Value.m c.in-Value.a c.piece_end-e.result)
+next : (c : goal.After-piece_end-e) → Going c.args.s.now (c.loop-left.left - 1) c.piece_end-e.result c.in-Ok.m (print_pieces end_of_time (pieces_at c.args.s.now c.args.n c.args.at)) (c.loop-left.invariant.0 ++ printed c.args.s.now c.loop-left.prev c.in-Ok.m c.in-Ok.a c.piece_end-e.result)
 next c = going_next _ _ c.loop-left.place _ _ _ _ _ _ c.loop-left.invariant.1 (omega arith) (piece c)
 
 two : (c : goal.After-piece_end-e)
-    → InTwo (c.loop-left.invariant.0 ++ printed c.args.s.now c.loop-left.prev c.in-Value.m c.in-Value.a c.piece_end-e.result) c.loop-left.invariant.0 (printed c.args.s.now c.loop-left.prev c.in-Value.m c.in-Value.a c.piece_end-e.result) c.args.out.now
+    → InTwo (c.loop-left.invariant.0 ++ printed c.args.s.now c.loop-left.prev c.in-Ok.m c.in-Ok.a c.piece_end-e.result) c.loop-left.invariant.0 (printed c.args.s.now c.loop-left.prev c.in-Ok.m c.in-Ok.a c.piece_end-e.result) c.args.out.now
 two c = going-two _ _ c.loop-left.place _ _ _ _ _ _ c.loop-left.invariant.1 (omega arith) (piece c) _ c.requires.1
 
 pub loop-left-init : goal.loop-left-init
@@ -31,14 +31,14 @@ loop-left-init c = ([], going_start _ _ _ c.requires.0, put-none _)
 pub moment_at-item-requires : goal.moment_at-item-requires
 moment_at-item-requires c = c.loop-left.invariant.1.within
 
-pub shape_of-out-in-Refused : goal.shape_of-out-in-Refused
-shape_of-out-in-Refused c = put-length c.loop-left.invariant.2 (omega (arith, going-sum _ _ c.loop-left.place _ _ _ c.loop-left.invariant.1, c.requires.1))
+pub shape_of-out-in-Err : goal.shape_of-out-in-Err
+shape_of-out-in-Err c = put-length c.loop-left.invariant.2 (omega (arith, going-sum _ _ c.loop-left.place _ _ _ c.loop-left.invariant.1, c.requires.1))
 
-pub returns-in-Refused : goal.returns-in-Refused
-returns-in-Refused c = absurd (going-bad _ _ c.loop-left.place _ _ _ _ c.loop-left.invariant.1 (omega arith) (stands-is c.moment_at-item.ensures (ap of_read c.in-Refused.is)))
+pub returns-in-Err : goal.returns-in-Err
+returns-in-Err c = absurd (going-bad _ _ c.loop-left.place _ _ _ _ c.loop-left.invariant.1 (omega arith) (stands-is c.moment_at-item.ensures (ap of_read c.in-Err.is)))
 
 pub piece_end-e-requires : goal.piece_end-e-requires
-piece_end-e-requires c = then-in c.moment_at-item.ensures _ _ (ap of_read c.in-Value.is)
+piece_end-e-requires c = then-in c.moment_at-item.ensures _ _ (ap of_read c.in-Ok.is)
 
 pub slice_bounds-write_piece-count : goal.slice_bounds-write_piece-count
 slice_bounds-write_piece-count c = (piece c).first
@@ -49,11 +49,11 @@ slice_bounds-write_piece-start c = (piece c).first
 pub slice_bounds-write_piece-end : goal.slice_bounds-write_piece-end
 slice_bounds-write_piece-end c = (piece c).last
 
-pub slice_bounds-write_piece-count-in-Value : goal.slice_bounds-write_piece-count-in-Value
-slice_bounds-write_piece-count-in-Value c = front-within (two (goal.at.slice_bounds-write_piece-count-in-Value c).After-piece_end-e) c.loop-left.invariant.2
+pub slice_bounds-write_piece-count-in-Ok : goal.slice_bounds-write_piece-count-in-Ok
+slice_bounds-write_piece-count-in-Ok c = front-within (two (goal.at.slice_bounds-write_piece-count-in-Ok c).After-piece_end-e) c.loop-left.invariant.2
 
-pub slice_bounds-write_piece-start-in-Value : goal.slice_bounds-write_piece-start-in-Value
-slice_bounds-write_piece-start-in-Value c = front-within (two (goal.at.slice_bounds-write_piece-start-in-Value c).After-piece_end-e) c.loop-left.invariant.2
+pub slice_bounds-write_piece-start-in-Ok : goal.slice_bounds-write_piece-start-in-Ok
+slice_bounds-write_piece-start-in-Ok c = front-within (two (goal.at.slice_bounds-write_piece-start-in-Ok c).After-piece_end-e) c.loop-left.invariant.2
 
 pub write_piece-w-requires : goal.write_piece-w-requires
 write_piece-w-requires c = (

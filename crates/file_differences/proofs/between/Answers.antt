@@ -1,15 +1,18 @@
+use Rattle.std.proofs.lemmas.Result.{err_from_is_err_and}
 use Rattle.differences.proofs.FindLaws.{asked-zone, asked-refused}
 use Rattle.differences.proofs.GiveLaws.{left-refused, right-refused, both-listed}
 use Rattle.file_differences.proofs.between.Goals as goal
 
 pub list-requires : goal.list-requires
-list-requires c = ((asked-zone c.find.ensures _ c.in-Zone.is).0, (asked-zone c.find-in-Zone.ensures _ c.in-Zone-find.is).0, c.requires.0, c.requires.1)
+list-requires c = ((asked-zone c.find.ensures _ c.in_ok-x.was).0, (asked-zone c.find-2.ensures _ c.in_ok-y.was).0, c.requires.0, c.requires.1)
 
-pub returns-in-Refused : goal.returns-in-Refused
-returns-in-Refused c = left-refused _ _ _ _ _ _ c.requires.0 _ _ (asked-refused c.find.ensures _ _ c.in-Refused.is)
+pub returns-in_err-x : goal.returns-in_err-x
+returns-in_err-x c = let p = err_from_is_err_and c.from_residual.result c.from_residual.ensures.1 in
+    rw (p.1, p.2) (left-refused _ _ _ _ _ _ c.requires.0 _ _ (asked-refused c.find.ensures _ _ c.in_err-x.was))
 
-pub returns-in-Refused-find : goal.returns-in-Refused-find
-returns-in-Refused-find c = right-refused _ _ _ _ _ _ c.requires.0 _ _ (asked-zone c.find.ensures _ c.in-Zone.is) _ _ (asked-refused c.find-in-Zone.ensures _ _ c.in-Refused-find.is)
+pub returns-in_err-y : goal.returns-in_err-y
+returns-in_err-y c = let p = err_from_is_err_and c.from_residual-in_err-y.result c.from_residual-in_err-y.ensures.1 in
+    rw (p.1, p.2) (right-refused _ _ _ _ _ _ c.requires.0 _ _ (asked-zone c.find.ensures _ c.in_ok-x.was) _ _ (asked-refused c.find-2.ensures _ _ c.in_err-y.was))
 
-pub returns-in-Zone-find : goal.returns-in-Zone-find
-returns-in-Zone-find c = both-listed _ _ _ _ _ _ c.requires.0 _ _ (asked-zone c.find.ensures _ c.in-Zone.is) _ _ (asked-zone c.find-in-Zone.ensures _ c.in-Zone-find.is) c.requires.1 _ _ c.list.ensures
+pub returns : goal.returns
+returns c = both-listed _ _ _ _ _ _ c.requires.0 _ _ (asked-zone c.find.ensures _ c.in_ok-x.was) _ _ (asked-zone c.find-2.ensures _ c.in_ok-y.was) c.requires.1 _ _ c.list.ensures

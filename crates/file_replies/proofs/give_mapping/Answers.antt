@@ -6,24 +6,24 @@ use mir.Facts.{to_z-of_z, to_z_pos}
 use Rattle.replies.proofs.ReplyLaws.{gave, denied}
 use Rattle.file_replies.specs.Functions.{mapping_reply}
 use Rattle.file_replies.proofs.give_mapping.Goals as goal
-use Rattle.file_replies.proofs.give_mapping.Goals.{In-Instants}
+use Rattle.file_replies.proofs.give_mapping.Goals.{In-Ok}
 
-below : (c : goal.In-Instants) → c.in-Instants.n < 2 ^ 63
-below c = rw c.in-Instants.is at c.requires.to
+below : (c : goal.In-Ok) → c.in-Ok.n < 2 ^ 63
+below c = rw c.in-Ok.is at c.requires.to
 
 pub overflow_cast-out : goal.overflow_cast-out
-overflow_cast-out c = record { sfits = below c }
+overflow_cast-out c = record { sfits = below (goal.at.overflow_cast-out c).In-Ok }
 
 pub refusal-requires : goal.refusal-requires
-refusal-requires c = rw c.in-Refused.is at c.requires.to
+refusal-requires c = rw c.in-Err.is at c.requires.to
 
-pub returns-in-Instants : goal.returns-in-Instants
-returns-in-Instants c = rw (
-  to_z_pos w64 (below (goal.at.returns-in-Instants c).In-Instants),
-  to_z-of_z {w = w64} {z = c.in-Instants.first} (search rules),
-  to_z-of_z {w = w64} {z = c.in-Instants.last} (search rules),
+pub returns-in-Ok : goal.returns-in-Ok
+returns-in-Ok c = rw (
+  to_z_pos w64 (below (goal.at.returns-in-Ok c).In-Ok),
+  to_z-of_z {w = w64} {z = c.in-Ok.first} (search rules),
+  to_z-of_z {w = w64} {z = c.in-Ok.last} (search rules),
 )
-    (gave _ _ _ (ap mapping_reply c.in-Instants.is))
+    (gave _ _ _ (ap mapping_reply c.in-Ok.is))
 
-pub returns-in-Refused : goal.returns-in-Refused
-returns-in-Refused c = denied _ _ _ _ _ (ap mapping_reply c.in-Refused.is) c.refusal.ensures
+pub returns-in-Err : goal.returns-in-Err
+returns-in-Err c = denied _ _ _ _ _ (ap mapping_reply c.in-Err.is) c.refusal.ensures

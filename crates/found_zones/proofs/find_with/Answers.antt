@@ -20,8 +20,8 @@ returns-in-Cut c = out-cut _ _ _ (located-cut c.walk.ensures.0 _ c.in-Cut.is)
 pub returns-in-End : goal.returns-in-End
 returns-in-End c = out-end _ _ _ _ (located_end c.walk.ensures.0 _ c.in-End.is)
 
-pub returns-in-Refused-check : goal.returns-in-Refused-check
-returns-in-Refused-check c = out-denied _ _ _ _ _ (located-found c.walk.ensures.0 _ c.in-Found.is) _ c.check.ensures _ c.in-Refused-check.is
+pub returns-in-Err : goal.returns-in-Err
+returns-in-Err c = out-denied _ _ _ _ _ (located-found c.walk.ensures.0 _ c.in-Found.is) _ c.check.ensures _ c.in-Err.is
 
-pub returns-in-Good : goal.returns-in-Good
-returns-in-Good c = out-zone _ _ _ _ _ (located-found c.walk.ensures.0 _ c.in-Found.is) _ c.check.ensures c.requires.0 _ c.in-Good.is
+pub returns-in-Ok : goal.returns-in-Ok
+returns-in-Ok c = out-zone _ _ _ _ _ (located-found c.walk.ensures.0 _ c.in-Found.is) _ c.check.ensures c.requires.0 _ c.in-Ok.is

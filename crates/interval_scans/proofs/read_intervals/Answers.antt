@@ -50,20 +50,20 @@ loop-left-preserved-then-place-e c = rw (c.advance-c.ensures, c.short_interval-i
 pub read_usual_interval-item-requires : goal.read_usual_interval-item-requires
 read_usual_interval-item-requires c = scanning-in _ _ _ _ _ _ _ _ c.loop-left.invariant.0
 
-pub returns-in-Refused : goal.returns-in-Refused
-returns-in-Refused c = (
+pub returns-in-Err : goal.returns-in-Err
+returns-in-Err c = (
   scanning-bad _ _ _ _ _ _ _ _ c.loop-left.invariant.0 (omega arith) _
-      (stands-is c.read_usual_interval-item.ensures (ap of_interval c.in-Refused.is)),
+      (stands-is c.read_usual_interval-item.ensures (ap of_interval c.in-Err.is)),
   record { means = tt },
 )
 
 pub start_preferred-form-requires : goal.start_preferred-form-requires
 start_preferred-form-requires c = start-stands _ _ _ _ _ _ (scanning-in _ _ _ _ _ _ _ _ c.loop-left.invariant.0)
-    (stands-is c.read_usual_interval-item.ensures (ap of_interval c.in-Got.is))
+    (stands-is c.read_usual_interval-item.ensures (ap of_interval c.in-Ok.is))
 
 pub loop-left-preserved : goal.loop-left-preserved
-loop-left-preserved c = let i = stands-is c.read_usual_interval-item.ensures (ap of_interval c.in-Got.is) in
-    rw c.advance-c-in-Got.ensures (
+loop-left-preserved c = let i = stands-is c.read_usual_interval-item.ensures (ap of_interval c.in-Ok.is) in
+    rw c.advance-c-in-Ok.ensures (
       scanning-next _ _ _ _ _ _ _ _ c.loop-left.invariant.0 (omega arith) _ _ i,
       forming-next _ _ _ _ _ _ _ _ _ _ c.loop-left.invariant.1 _ _ _ (omega arith) i c.start_preferred-form.ensures,
     )

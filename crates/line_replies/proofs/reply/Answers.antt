@@ -20,25 +20,25 @@ returns-then-s-gt65536 c =
     }
 
 pub slice_bounds-ask-end : goal.slice_bounds-ask-end
-slice_bounds-ask-end c = simp length-take (omega (arith, id-within c.args.line.now _ _ _ (sym c.in-Ask.is ∙ c.parse_line.ensures)))
+slice_bounds-ask-end c = simp length-take (omega (arith, id-within c.args.line.now _ _ _ (sym c.in-Some.is ∙ c.parse_line.ensures)))
 
-pub returns-in-Ask : goal.returns-in-Ask
+pub returns-in-Some : goal.returns-in-Some
 unfolding reply_to
-returns-in-Ask c =
+returns-in-Some c =
     let small : length c.args.s.now ≤ 65536 = omega arith in
-    let ticks : SFits w64 c.in-Ask.t = search rules in
+    let ticks : SFits w64 c.in-Some.t = search rules in
     let asked = rw (to_z-of_z ticks) at c.ask.ensures in
-    let line = reply-is c.args.s.now c.args.line.now small _ (sym c.parse_line.ensures ∙ c.in-Ask.is) in
+    let line = reply-is c.args.s.now c.args.line.now small _ (sym c.parse_line.ensures ∙ c.in-Some.is) in
     record {
       value = rw (line, ← asked) c.write_line.ensures.value;
       line_len_bound = rw (line, ← asked) (c.write_line.ensures.answer_len_bound small);
     }
 
-pub returns-in-Unclear : goal.returns-in-Unclear
+pub returns-in-None : goal.returns-in-None
 unfolding reply_to
-returns-in-Unclear c =
+returns-in-None c =
     let small : length c.args.s.now ≤ 65536 = omega arith in
     record {
-      value = rw (reply-is c.args.s.now c.args.line.now small _ (sym c.parse_line.ensures ∙ c.in-Unclear.is)) c.write_refusal-in-Unclear.ensures;
-      line_len_bound = unclear-fits c.args.s.now c.args.line.now small (sym c.parse_line.ensures ∙ c.in-Unclear.is);
+      value = rw (reply-is c.args.s.now c.args.line.now small _ (sym c.parse_line.ensures ∙ c.in-None.is)) c.write_refusal-in-None.ensures;
+      line_len_bound = unclear-fits c.args.s.now c.args.line.now small (sym c.parse_line.ensures ∙ c.in-None.is);
     }

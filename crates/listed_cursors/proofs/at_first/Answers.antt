@@ -5,10 +5,10 @@ use Rattle.cursors.proofs.OpenLaws.{opened-at, first-none, first-start, first-li
 use Rattle.listed_cursors.proofs.at_first.Goals as goal
 
 pub at_interval-requires : goal.at_interval-requires
-at_interval-requires c = first-list _ _ _ _ _ c.requires _ _ (stands-is c.read_interval.ensures (ap of_interval c.in-Got.is))
+at_interval-requires c = first-list _ _ _ _ _ c.requires _ _ (stands-is c.read_interval.ensures (ap of_interval c.in-Ok.is))
 
-pub returns-in-Refused : goal.returns-in-Refused
-returns-in-Refused c = first-none _ _ _ _ _ c.requires _ (stands-is c.read_interval.ensures (ap of_interval c.in-Refused.is))
+pub returns-in-Err : goal.returns-in-Err
+returns-in-Err c = first-none _ _ _ _ _ c.requires _ (stands-is c.read_interval.ensures (ap of_interval c.in-Err.is))
 
-pub returns-in-Got : goal.returns-in-Got
-returns-in-Got c = opened-at _ _ _ _ _ (first-start _ _ _ _ _ c.requires _ _ (stands-is c.read_interval.ensures (ap of_interval c.in-Got.is))) c.at_interval.ensures
+pub returns-in-Ok : goal.returns-in-Ok
+returns-in-Ok c = opened-at _ _ _ _ _ (first-start _ _ _ _ _ c.requires _ _ (stands-is c.read_interval.ensures (ap of_interval c.in-Ok.is))) c.at_interval.ensures

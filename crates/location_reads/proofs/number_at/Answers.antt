@@ -6,18 +6,18 @@ use Rattle.location_reads.proofs.number_at.Goals as goal
 
 pub returns-then-v-ne0 : goal.returns-then-v-ne0
 returns-then-v-ne0 c = number_read _ _ _ _ c.in-Zone1970.is
-    (on c.zigzag_at.ensures _ _ _ _ (ap of_read c.in-Value.is)
+    (on c.zigzag_at.ensures _ _ _ _ (ap of_read c.in-Ok.is)
     (number-out _ _ _ c.if-v-ne0.true))
 
 pub returns-in-Zone : goal.returns-in-Zone
 returns-in-Zone c = number-one _ _ _ c.in-Zone.is c.requires
 
-pub returns-in-Refused : goal.returns-in-Refused
-returns-in-Refused c = number_read _ _ _ _ c.in-Zone1970.is
-    (off c.zigzag_at.ensures _ _ (ap of_read c.in-Refused.is))
+pub returns-in-Err : goal.returns-in-Err
+returns-in-Err c = number_read _ _ _ _ c.in-Zone1970.is
+    (off c.zigzag_at.ensures _ _ (ap of_read c.in-Err.is))
 
 pub returns-else-v-ne0 : goal.returns-else-v-ne0
 returns-else-v-ne0 c = number_read _ _ _ _ c.in-Zone1970.is
-    (on c.zigzag_at.ensures _ _ _ _ (ap of_read c.in-Value.is)
+    (on c.zigzag_at.ensures _ _ _ _ (ap of_read c.in-Ok.is)
     (number-in _ _ _ c.if-v-ne0.false
-    (then-in c.zigzag_at.ensures _ _ (ap of_read c.in-Value.is))))
+    (then-in c.zigzag_at.ensures _ _ (ap of_read c.in-Ok.is))))

@@ -11,14 +11,14 @@ loop-i-init c = seeking-start _ _ _ _ _ _ c.requires
 pub read_location-item-requires : goal.read_location-item-requires
 read_location-item-requires c = seeking-in _ _ _ _ _ _ _ _ _ c.loop-i.invariant
 
-pub returns-in-Refused : goal.returns-in-Refused
-returns-in-Refused c = seeking-bad _ _ _ _ _ _ _ _ _ c.loop-i.invariant (omega arith) _
-    (stands-is c.read_location-item.ensures (ap of_spot c.in-Refused.is))
+pub returns-in-Err : goal.returns-in-Err
+returns-in-Err c = seeking-bad _ _ _ _ _ _ _ _ _ c.loop-i.invariant (omega arith) _
+    (stands-is c.read_location-item.ensures (ap of_spot c.in-Err.is))
 
 pub loop-i-preserved : goal.loop-i-preserved
 loop-i-preserved c = rw c.kept-found.ensures
     (seeking-next _ _ _ _ _ _ _ _ _ c.loop-i.invariant (omega arith) _ _
-    (stands-is c.read_location-item.ensures (ap of_spot c.in-Got.is)))
+    (stands-is c.read_location-item.ensures (ap of_spot c.in-Ok.is)))
 
 pub returns-then-place-s : goal.returns-then-place-s
 returns-then-place-s c = seeking-over _ _ _ _ _ _ _ _ _ c.loop-i.invariant (omega arith) c.if-place-s.true

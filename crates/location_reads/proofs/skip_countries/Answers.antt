@@ -11,13 +11,13 @@ loop-left-init c = counting-start _ _ _ _ c.requires
 pub country_at-c-requires : goal.country_at-c-requires
 country_at-c-requires c = counting-in _ _ _ _ _ _ c.loop-left.invariant
 
-pub returns-in-Refused : goal.returns-in-Refused
-returns-in-Refused c = counting-bad _ _ _ _ _ _ c.loop-left.invariant (omega arith) _
-    (stands-is c.country_at-c.ensures (ap of_country c.in-Refused.is))
+pub returns-in-Err : goal.returns-in-Err
+returns-in-Err c = counting-bad _ _ _ _ _ _ c.loop-left.invariant (omega arith) _
+    (stands-is c.country_at-c.ensures (ap of_country c.in-Err.is))
 
 pub loop-left-preserved : goal.loop-left-preserved
 loop-left-preserved c = counting-next _ _ _ _ _ _ c.loop-left.invariant (omega arith) _ _
-    (stands-is c.country_at-c.ensures (ap of_country c.in-Got.is))
+    (stands-is c.country_at-c.ensures (ap of_country c.in-Ok.is))
 
 pub returns : goal.returns
 returns c = counting-done _ _ _ _ _ _ c.loop-left.invariant (omega arith)

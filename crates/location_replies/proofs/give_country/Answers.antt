@@ -1,5 +1,5 @@
 use Rattle.location_replies.proofs.LocationLaws.{gave-country}
 use Rattle.location_replies.proofs.give_country.Goals as goal
 
-pub returns-in-Given : goal.returns-in-Given
-returns-in-Given c = gave-country _ _ _ _ _ _ c.in-Given.is
+pub returns-in-Some : goal.returns-in-Some
+returns-in-Some c = gave-country _ _ _ _ _ _ c.in-Some.is

@@ -27,26 +27,26 @@ returns-then-k-eq0 c = (counted-on _ _ _ _ _ _ _ c.loop-n.invariant _ _ _ c.coun
 pub location_names-requires : goal.location_names-requires
 location_names-requires c = c.count_names-row.ensures.within
 
-pub shape_of-uses-in-Refused : goal.shape_of-uses-in-Refused
-shape_of-uses-in-Refused c = (counted-on _ _ _ _ _ _ _ c.loop-n.invariant _ _ _ c.count_names-row.ensures).all
+pub shape_of-uses-in-Err : goal.shape_of-uses-in-Err
+shape_of-uses-in-Err c = (counted-on _ _ _ _ _ _ _ c.loop-n.invariant _ _ _ c.count_names-row.ensures).all
 
-pub returns-in-Refused : goal.returns-in-Refused
-returns-in-Refused c = (counted-on _ _ _ _ _ _ _ c.loop-n.invariant _ _ _ c.count_names-row.ensures)
+pub returns-in-Err : goal.returns-in-Err
+returns-in-Err c = (counted-on _ _ _ _ _ _ _ c.loop-n.invariant _ _ _ c.count_names-row.ensures)
 
 pub count_at-requires : goal.count_at-requires
-count_at-requires c = then-in c.location_names.ensures _ _ (ap of_read c.in-Value.is)
+count_at-requires c = then-in c.location_names.ensures _ _ (ap of_read c.in-Ok.is)
 
-pub shape_of-uses-in-Refused-count_at : goal.shape_of-uses-in-Refused-count_at
-shape_of-uses-in-Refused-count_at c = (counted-on _ _ _ _ _ _ _ c.loop-n.invariant _ _ _ c.count_names-row.ensures).all
+pub shape_of-uses-in-Err-count_at : goal.shape_of-uses-in-Err-count_at
+shape_of-uses-in-Err-count_at c = (counted-on _ _ _ _ _ _ _ c.loop-n.invariant _ _ _ c.count_names-row.ensures).all
 
-pub returns-in-Refused-count_at : goal.returns-in-Refused-count_at
-returns-in-Refused-count_at c = (counted-on _ _ _ _ _ _ _ c.loop-n.invariant _ _ _ c.count_names-row.ensures)
+pub returns-in-Err-count_at : goal.returns-in-Err-count_at
+returns-in-Err-count_at c = (counted-on _ _ _ _ _ _ _ c.loop-n.invariant _ _ _ c.count_names-row.ensures)
 
 pub mention-requires : goal.mention-requires
-mention-requires c = counted-room _ _ _ _ _ _ _ (counted-on _ _ _ _ _ _ _ c.loop-n.invariant _ _ _ c.count_names-row.ensures) _ _ _ _ (location-here _ _ c.count_names-row.ensures.within _ _ _ c.if-n-gt0.false c.if-k-eq0.false _ _ (stands-is c.location_names.ensures (ap of_read c.in-Value.is)) _ _ (stands-is c.count_at.ensures (ap of_read c.in-Value-count_at.is))) c.requires.1
+mention-requires c = counted-room _ _ _ _ _ _ _ (counted-on _ _ _ _ _ _ _ c.loop-n.invariant _ _ _ c.count_names-row.ensures) _ _ _ _ (location-here _ _ c.count_names-row.ensures.within _ _ _ c.if-n-gt0.false c.if-k-eq0.false _ _ (stands-is c.location_names.ensures (ap of_read c.in-Ok.is)) _ _ (stands-is c.count_at.ensures (ap of_read c.in-Ok-count_at.is))) c.requires.1
 
 pub loop-n-smaller : goal.loop-n-smaller
-loop-n-smaller c = let x = (location-here _ _ c.count_names-row.ensures.within _ _ _ c.if-n-gt0.false c.if-k-eq0.false _ _ (stands-is c.location_names.ensures (ap of_read c.in-Value.is)) _ _ (stands-is c.count_at.ensures (ap of_read c.in-Value-count_at.is))) in omega (arith, x.first, x.rises, x.last, c.count_names-row.ensures.onward)
+loop-n-smaller c = let x = (location-here _ _ c.count_names-row.ensures.within _ _ _ c.if-n-gt0.false c.if-k-eq0.false _ _ (stands-is c.location_names.ensures (ap of_read c.in-Ok.is)) _ _ (stands-is c.count_at.ensures (ap of_read c.in-Ok-count_at.is))) in omega (arith, x.first, x.rises, x.last, c.count_names-row.ensures.onward)
 
 pub loop-n-preserved : goal.loop-n-preserved
-loop-n-preserved c = counted_next _ _ _ _ _ _ _ (counted-on _ _ _ _ _ _ _ c.loop-n.invariant _ _ _ c.count_names-row.ensures) _ _ _ _ (location-here _ _ c.count_names-row.ensures.within _ _ _ c.if-n-gt0.false c.if-k-eq0.false _ _ (stands-is c.location_names.ensures (ap of_read c.in-Value.is)) _ _ (stands-is c.count_at.ensures (ap of_read c.in-Value-count_at.is))) _ c.mention.ensures
+loop-n-preserved c = counted_next _ _ _ _ _ _ _ (counted-on _ _ _ _ _ _ _ c.loop-n.invariant _ _ _ c.count_names-row.ensures) _ _ _ _ (location-here _ _ c.count_names-row.ensures.within _ _ _ c.if-n-gt0.false c.if-k-eq0.false _ _ (stands-is c.location_names.ensures (ap of_read c.in-Ok.is)) _ _ (stands-is c.count_at.ensures (ap of_read c.in-Ok-count_at.is))) _ c.mention.ensures

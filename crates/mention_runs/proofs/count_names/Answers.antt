@@ -10,17 +10,17 @@ loop-n-init c = counted_none _ _ _ _ c.requires.0
 pub count_at-requires : goal.count_at-requires
 count_at-requires c = c.loop-n.invariant.within
 
-pub shape_of-uses-in-Refused : goal.shape_of-uses-in-Refused
-shape_of-uses-in-Refused c = c.loop-n.invariant.all
+pub shape_of-uses-in-Err : goal.shape_of-uses-in-Err
+shape_of-uses-in-Err c = c.loop-n.invariant.all
 
-pub returns-in-Refused : goal.returns-in-Refused
-returns-in-Refused c = c.loop-n.invariant
+pub returns-in-Err : goal.returns-in-Err
+returns-in-Err c = c.loop-n.invariant
 
 pub mention-requires : goal.mention-requires
-mention-requires c = counted-room _ _ _ _ _ _ _ c.loop-n.invariant _ _ _ _ (name-here _ _ c.loop-n.invariant.within _ c.loop-n-test.true _ _ _ _ (stands-is c.count_at.ensures (ap of_read c.in-Value.is))) c.requires.1
+mention-requires c = counted-room _ _ _ _ _ _ _ c.loop-n.invariant _ _ _ _ (name-here _ _ c.loop-n.invariant.within _ c.loop-n-test.true _ _ _ _ (stands-is c.count_at.ensures (ap of_read c.in-Ok.is))) c.requires.1
 
 pub loop-n-preserved : goal.loop-n-preserved
-loop-n-preserved c = counted_next _ _ _ _ _ _ _ c.loop-n.invariant _ _ _ _ (name-here _ _ c.loop-n.invariant.within _ c.loop-n-test.true _ _ _ _ (stands-is c.count_at.ensures (ap of_read c.in-Value.is))) _ c.mention.ensures
+loop-n-preserved c = counted_next _ _ _ _ _ _ _ c.loop-n.invariant _ _ _ _ (name-here _ _ c.loop-n.invariant.within _ c.loop-n-test.true _ _ _ _ (stands-is c.count_at.ensures (ap of_read c.in-Ok.is))) _ c.mention.ensures
 
 pub shape_of-uses : goal.shape_of-uses
 shape_of-uses c = c.loop-n.invariant.all

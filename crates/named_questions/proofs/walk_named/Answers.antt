@@ -7,22 +7,22 @@ use Rattle.named_questions.proofs.WalkingLaws.{named-fault, named-on}
 use Rattle.named_questions.proofs.walk_named.Goals as goal
 
 pub walk_fields-requires : goal.walk_fields-requires
-walk_fields-requires c = (c.requires.0, ready _ _ _ c.requires.1 c.check_pool.ensures.1, (taken _ _ (sym c.in-Strings.is ∙ c.check_pool.ensures.0)).many, omega (arith, c.requires.2, room-strings (part c.args.d c.args.e c.args.s.now), (taken _ _ (sym c.in-Strings.is ∙ c.check_pool.ensures.0)).many), c.requires.3)
+walk_fields-requires c = (c.requires.0, ready _ _ _ c.requires.1 c.check_pool.ensures.1, (taken _ _ (sym c.in-Ok.is ∙ c.check_pool.ensures.0)).many, omega (arith, c.requires.2, room-strings (part c.args.d c.args.e c.args.s.now), (taken _ _ (sym c.in-Ok.is ∙ c.check_pool.ensures.0)).many), c.requires.3)
 
-pub shape_of-starts-in-Refused : goal.shape_of-starts-in-Refused
-shape_of-starts-in-Refused c = c.check_pool.auto.starts
+pub shape_of-starts-in-Err : goal.shape_of-starts-in-Err
+shape_of-starts-in-Err c = c.check_pool.auto.starts
 
-pub returns-in-Refused : goal.returns-in-Refused
-returns-in-Refused c = (named-fault _ _ _ _ _ _ (failed _ _ (sym c.in-Refused.is ∙ c.check_pool.ensures.0)).fault, c.check_pool.ensures.1)
+pub returns-in-Err : goal.returns-in-Err
+returns-in-Err c = (named-fault _ _ _ _ _ _ (failed _ _ (sym c.in-Err.is ∙ c.check_pool.ensures.0)).fault, c.check_pool.ensures.1)
 
-pub shape_of-starts-in-Strings : goal.shape_of-starts-in-Strings
-shape_of-starts-in-Strings c = c.check_pool.auto.starts
+pub shape_of-starts-in-Ok : goal.shape_of-starts-in-Ok
+shape_of-starts-in-Ok c = c.check_pool.auto.starts
 
 pub shape_of-flags : goal.shape_of-flags
 shape_of-flags c = c.walk_fields.auto.flags
 
-pub returns-in-Strings : goal.returns-in-Strings
-returns-in-Strings c = (named-on _ _ _ _ _ _ _ (taken _ _ (sym c.in-Strings.is ∙ c.check_pool.ensures.0)).all c.walk_fields.ensures, c.check_pool.ensures.1)
+pub returns-in-Ok : goal.returns-in-Ok
+returns-in-Ok c = (named-on _ _ _ _ _ _ _ (taken _ _ (sym c.in-Ok.is ∙ c.check_pool.ensures.0)).all c.walk_fields.ensures, c.check_pool.ensures.1)
 
 pub slice_bounds-check_pool-count : goal.slice_bounds-check_pool-count
 slice_bounds-check_pool-count c = c.requires.0.order

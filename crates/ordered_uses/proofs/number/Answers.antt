@@ -1,4 +1,3 @@
-use Prim.Native.Nat.{◌-◌}
 use native.Mathlib.Omega.{arith}
 use Rattle.use_order.proofs.FillLaws.{numbering_start, numbering-next, numbering-end}
 use Rattle.ordered_uses.proofs.number.Goals as goal
@@ -13,4 +12,4 @@ pub shape_of-numbers : goal.shape_of-numbers
 shape_of-numbers c = c.loop-i.invariant.all
 
 pub returns : goal.returns
-returns c = numbering-end _ _ _ _ c.loop-i.invariant c.loop-i-test.false
+returns c = numbering-end _ _ _ _ c.loop-i.invariant (omega arith)

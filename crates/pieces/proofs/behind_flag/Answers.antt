@@ -9,10 +9,10 @@ pub returns-then-flag-ne2 : goal.returns-then-flag-ne2
 returns-then-flag-ne2 c = flag-other _ c.args.at _ c.if-flag-ne2.true
 
 pub overflow_add-result : goal.overflow_add-result
-overflow_add-result c = omega (arith, count_small _ _ _ (placed-got c.count_at.ensures _ _ (ap of_read c.in-Value.is)))
+overflow_add-result c = omega (arith, count_small _ _ _ (placed-got c.count_at.ensures _ _ (ap of_read c.in-Ok.is)))
 
-pub returns-in-Refused : goal.returns-in-Refused
-returns-in-Refused c = flag-cut _ c.args.at _ _ c.if-flag-ne2.false (stands-is c.count_at.ensures (ap of_read c.in-Refused.is))
+pub returns-in-Err : goal.returns-in-Err
+returns-in-Err c = flag-cut _ c.args.at _ _ c.if-flag-ne2.false (stands-is c.count_at.ensures (ap of_read c.in-Err.is))
 
-pub returns-in-Value : goal.returns-in-Value
-returns-in-Value c = flag-listed _ c.args.at _ _ _ c.if-flag-ne2.false (stands-is c.count_at.ensures (ap of_read c.in-Value.is))
+pub returns-in-Ok : goal.returns-in-Ok
+returns-in-Ok c = flag-listed _ c.args.at _ _ _ c.if-flag-ne2.false (stands-is c.count_at.ensures (ap of_read c.in-Ok.is))

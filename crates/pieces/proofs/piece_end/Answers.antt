@@ -12,8 +12,8 @@ returns-then-n-eq0 c = end-at _ _ c.args.at _ _ (end-all _ c.args.at _ (omega ar
 pub returns-then-short_details : goal.returns-then-short_details
 returns-then-short_details c = end-at _ _ _ _ _ (short-end _ _ c.args.at c.if-n-eq0.false (details-mean c.args.s.now c.args.at _ (omega arith) c.short_details.ensures c.if-short_details.true))
 
-pub returns-in-Refused : goal.returns-in-Refused
-returns-in-Refused c = end-no _ _ c.args.at _ (end-details _ c.args.at _ _ c.if-n-eq0.false (stands-is c.behind_details.ensures (ap of_read c.in-Refused.is)))
+pub returns-in-Err : goal.returns-in-Err
+returns-in-Err c = end-no _ _ c.args.at _ (end-details _ c.args.at _ _ c.if-n-eq0.false (stands-is c.behind_details.ensures (ap of_read c.in-Err.is)))
 
-pub returns-in-Value : goal.returns-in-Value
-returns-in-Value c = end-at _ _ c.args.at _ _ (end-details _ c.args.at _ _ c.if-n-eq0.false (stands-is c.behind_details.ensures (ap of_read c.in-Value.is)))
+pub returns-in-Ok : goal.returns-in-Ok
+returns-in-Ok c = end-at _ _ c.args.at _ _ (end-details _ c.args.at _ _ c.if-n-eq0.false (stands-is c.behind_details.ensures (ap of_read c.in-Ok.is)))

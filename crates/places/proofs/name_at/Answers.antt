@@ -1,3 +1,4 @@
+use Rattle.std.proofs.lemmas.Result.{err_from_is_err_and}
 use mathlib.Core.Path.{ap}
 use Rattle.places.specs.Placed.{of_read}
 use Rattle.places.specs.Name.{parse_name}
@@ -6,15 +7,16 @@ use Rattle.places.proofs.name_at.Goals as goal
 
 pub returns-then-n-pool : goal.returns-then-n-pool
 unfolding parse_name
-returns-then-n-pool c = on c.count_at.ensures _ _ _ _ (ap of_read c.in-Value.is)
+returns-then-n-pool c = on c.count_at.ensures _ _ _ _ (ap of_read c.in_ok-n.was)
     (name_in _ _ _ _ c.if-n-pool.true
-    (then-in c.count_at.ensures _ _ (ap of_read c.in-Value.is)))
+    (then-in c.count_at.ensures _ _ (ap of_read c.in_ok-n.was)))
 
-pub returns-else-n-pool : goal.returns-else-n-pool
+pub returns : goal.returns
 unfolding parse_name
-returns-else-n-pool c = on c.count_at.ensures _ _ _ _ (ap of_read c.in-Value.is)
+returns c = on c.count_at.ensures _ _ _ _ (ap of_read c.in_ok-n.was)
     (name_out _ _ _ _ c.if-n-pool.false)
 
-pub returns-in-Refused : goal.returns-in-Refused
+pub returns-in_err-n : goal.returns-in_err-n
 unfolding parse_name
-returns-in-Refused c = off c.count_at.ensures _ _ (ap of_read c.in-Refused.is)
+returns-in_err-n c = let p = err_from_is_err_and c.from_residual.result c.from_residual.ensures.1 in
+    rw (p.1, p.2) (off c.count_at.ensures _ _ (ap of_read c.in_err-n.was))

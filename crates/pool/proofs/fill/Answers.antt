@@ -50,20 +50,20 @@ pub read_text_in-t-requires : goal.read_text_in-t-requires
 read_text_in-t-requires c = rw (c.behind-known.ensures, part-from c.loop-i.at c.args.d.now)
     c.loop-i.invariant.1.1
 
-pub returns-in-Refused : goal.returns-in-Refused
-returns-in-Refused c = filling-refused _ _ _ _ _ _ _ c.loop-i.invariant.0 c.loop-i-test.true _ c.read_text_in-t.ensures _ c.in-Refused.is
+pub returns-in-Err : goal.returns-in-Err
+returns-in-Err c = filling-refused _ _ _ _ _ _ _ c.loop-i.invariant.0 c.loop-i-test.true _ c.read_text_in-t.ensures _ c.in-Err.is
 
-pub overflow_add-at-in-Part : goal.overflow_add-at-in-Part
-overflow_add-at-in-Part c = let p = here _ _ _ _ _ _ _ c.loop-i.invariant.0 c.loop-i-test.true _ c.read_text_in-t.ensures _ _ c.in-Part.is in omega (arith, p.small, p.short)
+pub overflow_add-at-in-Ok : goal.overflow_add-at-in-Ok
+overflow_add-at-in-Ok c = let p = here _ _ _ _ _ _ _ c.loop-i.invariant.0 c.loop-i-test.true _ c.read_text_in-t.ensures _ _ c.in-Ok.is in omega (arith, p.small, p.short)
 
-pub overflow_add-at-in-Part-2 : goal.overflow_add-at-in-Part-2
-overflow_add-at-in-Part-2 c = let p = here-inside _ _ _ _ _ _ _ c.loop-i.invariant.0 c.loop-i-test.true _ c.read_text_in-t.ensures _ _ c.in-Part.is in omega arith
+pub overflow_add-at-in-Ok-2 : goal.overflow_add-at-in-Ok-2
+overflow_add-at-in-Ok-2 c = let p = here-inside _ _ _ _ _ _ _ c.loop-i.invariant.0 c.loop-i-test.true _ c.read_text_in-t.ensures _ _ c.in-Ok.is in omega arith
 
 pub plain_from-plain-requires : goal.plain_from-plain-requires
-plain_from-plain-requires c = (here-inside _ _ _ _ _ _ _ c.loop-i.invariant.0 c.loop-i-test.true _ c.read_text_in-t.ensures _ _ c.in-Part.is, plain-later _ _ _ _ c.loop-i.invariant.1)
+plain_from-plain-requires c = (here-inside _ _ _ _ _ _ _ c.loop-i.invariant.0 c.loop-i-test.true _ c.read_text_in-t.ensures _ _ c.in-Ok.is, plain-later _ _ _ _ c.loop-i.invariant.1)
 
 pub loop-i-preserved : goal.loop-i-preserved
-loop-i-preserved c = (filling-next _ _ _ _ _ _ _ c.loop-i.invariant.0 c.loop-i-test.true _ c.read_text_in-t.ensures _ _ c.in-Part.is, c.plain_from-plain.ensures)
+loop-i-preserved c = (filling-next _ _ _ _ _ _ _ c.loop-i.invariant.0 c.loop-i-test.true _ c.read_text_in-t.ensures _ _ c.in-Ok.is, c.plain_from-plain.ensures)
 
 pub returns-then-at-d : goal.returns-then-at-d
 returns-then-at-d c = filling-end _ _ _ _ _ _ _ c.loop-i.invariant.0 c.loop-i-test.false c.if-at-d.true
@@ -92,14 +92,14 @@ slice_bounds-read_text_in-count c = c.loop-i.invariant.0.inside
 pub slice_bounds-read_text_in-start : goal.slice_bounds-read_text_in-start
 slice_bounds-read_text_in-start c = c.loop-i.invariant.0.inside
 
-pub shape_of-starts-in-Refused : goal.shape_of-starts-in-Refused
-shape_of-starts-in-Refused c = c.loop-i.invariant.0.size
+pub shape_of-starts-in-Err : goal.shape_of-starts-in-Err
+shape_of-starts-in-Err c = c.loop-i.invariant.0.size
 
-pub overflow_cast-starts-in-Part : goal.overflow_cast-starts-in-Part
-overflow_cast-starts-in-Part c = omega (arith, small (goal.at.overflow_cast-starts-in-Part c).In-loop-i)
+pub overflow_cast-starts-in-Ok : goal.overflow_cast-starts-in-Ok
+overflow_cast-starts-in-Ok c = omega (arith, small (goal.at.overflow_cast-starts-in-Ok c).In-loop-i)
 
-pub bounds-starts-i-in-Part : goal.bounds-starts-i-in-Part
-bounds-starts-i-in-Part c = omega (arith, c.loop-i.invariant.0.size)
+pub bounds-starts-i-in-Ok : goal.bounds-starts-i-in-Ok
+bounds-starts-i-in-Ok c = omega (arith, c.loop-i.invariant.0.size)
 
 pub shape_of-starts-then-at-d : goal.shape_of-starts-then-at-d
 shape_of-starts-then-at-d c = c.loop-i.invariant.0.size

@@ -21,8 +21,8 @@ slice_bounds-find-end c = (located-lies c.requires.3 _ c.in-Found.is).inside
 pub answered-requires : goal.answered-requires
 answered-requires c = (
   c.requires.1,
-  subst (λ (n : ℕ). FoundOk n c.in-In.x) (located-lies c.requires.3 _ c.in-Found.is).count-is
-      (found_ok _ _ _ _ _ c.requires.2 (sym c.in-In.is ∙ c.find.ensures)),
+  subst (λ (n : ℕ). FoundOk n c.in-Ok.x) (located-lies c.requires.3 _ c.in-Found.is).count-is
+      (found_ok _ _ _ _ _ c.requires.2 (sym c.in-Ok.is ∙ c.find.ensures)),
   omega (arith, c.requires.0.order, c.requires.0.limit),
   simp (length-take, length-drop) (omega (arith, c.requires.0.limit)),
 )
@@ -36,8 +36,8 @@ returns-in-Cut c = at_cut _ _ _ _ _ _ c.in-Cut.is
 pub returns-in-End : goal.returns-in-End
 returns-in-End c = at-end _ _ _ _ _ _ c.in-End.is
 
-pub returns-in-Refused-find : goal.returns-in-Refused-find
-returns-in-Refused-find c = at-denied _ _ _ _ _ _ c.in-Found.is _ (sym c.in-Refused-find.is ∙ c.find.ensures)
+pub returns-in-Err : goal.returns-in-Err
+returns-in-Err c = at-denied _ _ _ _ _ _ c.in-Found.is _ (sym c.in-Err.is ∙ c.find.ensures)
 
-pub returns-in-In : goal.returns-in-In
-returns-in-In c = ap Answered c.answered.ensures ∙ at-found _ _ _ _ _ _ c.in-Found.is _ (sym c.in-In.is ∙ c.find.ensures)
+pub returns-in-Ok : goal.returns-in-Ok
+returns-in-Ok c = ap Answered c.answered.ensures ∙ at-found _ _ _ _ _ _ c.in-Found.is _ (sym c.in-Ok.is ∙ c.find.ensures)

@@ -13,17 +13,17 @@ count_run-c-requires c = (c.loop-behind.invariant.within, run_room _ _ _ _ _ _ c
 pub next-m-requires : goal.next-m-requires
 next-m-requires c = c.count_run-c.ensures.within
 
-pub shape_of-uses-in-Nothing : goal.shape_of-uses-in-Nothing
-shape_of-uses-in-Nothing c = (counting-run _ _ _ _ _ _ c.loop-behind.invariant _ _ _ c.count_run-c.ensures).all
+pub shape_of-uses-in-None : goal.shape_of-uses-in-None
+shape_of-uses-in-None c = (counting-run _ _ _ _ _ _ c.loop-behind.invariant _ _ _ c.count_run-c.ensures).all
 
-pub returns-in-Nothing : goal.returns-in-Nothing
-returns-in-Nothing c = counting-end _ _ _ _ _ _ (counting-run _ _ _ _ _ _ c.loop-behind.invariant _ _ _ c.count_run-c.ensures) (next-none _ _ _ _ c.next-m.ensures c.in-Nothing.is)
+pub returns-in-None : goal.returns-in-None
+returns-in-None c = counting-end _ _ _ _ _ _ (counting-run _ _ _ _ _ _ c.loop-behind.invariant _ _ _ c.count_run-c.ensures) (next-none _ _ _ _ c.next-m.ensures c.in-None.is)
 
 pub mention-requires : goal.mention-requires
-mention-requires c = counting-room _ _ _ _ _ _ (counting-run _ _ _ _ _ _ c.loop-behind.invariant _ _ _ c.count_run-c.ensures) _ _ _ _ (next-some _ _ _ _ _ _ _ _ c.next-m.ensures c.in-Here.is)
+mention-requires c = counting-room _ _ _ _ _ _ (counting-run _ _ _ _ _ _ c.loop-behind.invariant _ _ _ c.count_run-c.ensures) _ _ _ _ (next-some _ _ _ _ _ _ _ _ c.next-m.ensures c.in-Some.is)
 
 pub loop-behind-smaller : goal.loop-behind-smaller
-loop-behind-smaller c = let x = (next-some _ _ _ _ _ _ _ _ c.next-m.ensures c.in-Here.is) in omega (arith, x.first, x.rises, x.last, c.count_run-c.ensures.onward)
+loop-behind-smaller c = let x = (next-some _ _ _ _ _ _ _ _ c.next-m.ensures c.in-Some.is) in omega (arith, x.first, x.rises, x.last, c.count_run-c.ensures.onward)
 
 pub loop-behind-preserved : goal.loop-behind-preserved
-loop-behind-preserved c = counting-next _ _ _ _ _ _ (counting-run _ _ _ _ _ _ c.loop-behind.invariant _ _ _ c.count_run-c.ensures) _ _ _ _ _ (next-some _ _ _ _ _ _ _ _ c.next-m.ensures c.in-Here.is) c.mention.ensures
+loop-behind-preserved c = counting-next _ _ _ _ _ _ (counting-run _ _ _ _ _ _ c.loop-behind.invariant _ _ _ c.count_run-c.ensures) _ _ _ _ _ (next-some _ _ _ _ _ _ _ _ c.next-m.ensures c.in-Some.is) c.mention.ensures

@@ -22,20 +22,20 @@ overflow_sub-result c = c.size_run-c.ensures.going.within
 pub overflow_add-result : goal.overflow_add-result
 overflow_add-result c = omega (arith, measured-bound _ _ _ _ _ _ _ (measured-on _ _ _ _ _ _ _ c.loop-behind.invariant _ _ _ c.size_run-c.ensures), c.size_run-c.ensures.going.within, c.requires)
 
-pub returns-in-Nothing : goal.returns-in-Nothing
-returns-in-Nothing c = measured-end _ _ _ _ _ _ _ (measured-on _ _ _ _ _ _ _ c.loop-behind.invariant _ _ _ c.size_run-c.ensures) (next-none _ _ _ _ c.next-m.ensures c.in-Nothing.is)
+pub returns-in-None : goal.returns-in-None
+returns-in-None c = measured-end _ _ _ _ _ _ _ (measured-on _ _ _ _ _ _ _ c.loop-behind.invariant _ _ _ c.size_run-c.ensures) (next-none _ _ _ _ c.next-m.ensures c.in-None.is)
 
 pub overflow_sub-n : goal.overflow_sub-n
-overflow_sub-n c = (next-some _ _ _ _ _ _ _ _ c.next-m.ensures c.in-Here.is).first
+overflow_sub-n c = (next-some _ _ _ _ _ _ _ _ c.next-m.ensures c.in-Some.is).first
 
-pub overflow_add-n-in-Here : goal.overflow_add-n-in-Here
-overflow_add-n-in-Here c = omega (arith, measured-most _ _ _ _ _ _ _ (measured-on _ _ _ _ _ _ _ c.loop-behind.invariant _ _ _ c.size_run-c.ensures) _ _ c.count_size.ensures _ _ _ _ (next-some _ _ _ _ _ _ _ _ c.next-m.ensures c.in-Here.is) c.renumber-k.ensures, c.requires)
+pub overflow_add-n-in-Some : goal.overflow_add-n-in-Some
+overflow_add-n-in-Some c = omega (arith, measured-most _ _ _ _ _ _ _ (measured-on _ _ _ _ _ _ _ c.loop-behind.invariant _ _ _ c.size_run-c.ensures) _ _ c.count_size.ensures _ _ _ _ (next-some _ _ _ _ _ _ _ _ c.next-m.ensures c.in-Some.is) c.renumber-k.ensures, c.requires)
 
-pub overflow_add-n-in-Here-2 : goal.overflow_add-n-in-Here-2
-overflow_add-n-in-Here-2 c = omega (arith, measured-most _ _ _ _ _ _ _ (measured-on _ _ _ _ _ _ _ c.loop-behind.invariant _ _ _ c.size_run-c.ensures) _ _ c.count_size.ensures _ _ _ _ (next-some _ _ _ _ _ _ _ _ c.next-m.ensures c.in-Here.is) c.renumber-k.ensures, c.requires)
+pub overflow_add-n-in-Some-2 : goal.overflow_add-n-in-Some-2
+overflow_add-n-in-Some-2 c = omega (arith, measured-most _ _ _ _ _ _ _ (measured-on _ _ _ _ _ _ _ c.loop-behind.invariant _ _ _ c.size_run-c.ensures) _ _ c.count_size.ensures _ _ _ _ (next-some _ _ _ _ _ _ _ _ c.next-m.ensures c.in-Some.is) c.renumber-k.ensures, c.requires)
 
 pub loop-behind-smaller : goal.loop-behind-smaller
-loop-behind-smaller c = let x = (next-some _ _ _ _ _ _ _ _ c.next-m.ensures c.in-Here.is) in omega (arith, x.first, x.rises, x.last, c.size_run-c.ensures.going.onward)
+loop-behind-smaller c = let x = (next-some _ _ _ _ _ _ _ _ c.next-m.ensures c.in-Some.is) in omega (arith, x.first, x.rises, x.last, c.size_run-c.ensures.going.onward)
 
 pub loop-behind-preserved : goal.loop-behind-preserved
-loop-behind-preserved c = measured-next _ _ _ _ _ _ _ (measured-on _ _ _ _ _ _ _ c.loop-behind.invariant _ _ _ c.size_run-c.ensures) _ _ c.count_size.ensures _ _ _ _ (next-some _ _ _ _ _ _ _ _ c.next-m.ensures c.in-Here.is) c.renumber-k.ensures
+loop-behind-preserved c = measured-next _ _ _ _ _ _ _ (measured-on _ _ _ _ _ _ _ c.loop-behind.invariant _ _ _ c.size_run-c.ensures) _ _ c.count_size.ensures _ _ _ _ (next-some _ _ _ _ _ _ _ _ c.next-m.ensures c.in-Some.is) c.renumber-k.ensures

@@ -29,47 +29,47 @@ slice_bounds-copy-count c = c.write_run-c.ensures.going.within
 pub slice_bounds-copy-start : goal.slice_bounds-copy-start
 slice_bounds-copy-start c = c.write_run-c.ensures.going.within
 
-pub slice_bounds-copy-count-in-Nothing : goal.slice_bounds-copy-count-in-Nothing
-slice_bounds-copy-count-in-Nothing c = front-within (written-end _ _ _ _ _ c.requires.1 _ _ _ _ (written_on _ _ _ _ _ c.requires.1 _ _ _ _ c.loop-out.invariant _ _ _ _ c.write_run-c.ensures) (next-none _ _ _ _ c.next-m.ensures c.in-Nothing.is)) (written_on _ _ _ _ _ c.requires.1 _ _ _ _ c.loop-out.invariant _ _ _ _ c.write_run-c.ensures).put
+pub slice_bounds-copy-count-in-None : goal.slice_bounds-copy-count-in-None
+slice_bounds-copy-count-in-None c = front-within (written-end _ _ _ _ _ c.requires.1 _ _ _ _ (written_on _ _ _ _ _ c.requires.1 _ _ _ _ c.loop-out.invariant _ _ _ _ c.write_run-c.ensures) (next-none _ _ _ _ c.next-m.ensures c.in-None.is)) (written_on _ _ _ _ _ c.requires.1 _ _ _ _ c.loop-out.invariant _ _ _ _ c.write_run-c.ensures).put
 
-pub slice_bounds-copy-start-in-Nothing : goal.slice_bounds-copy-start-in-Nothing
-slice_bounds-copy-start-in-Nothing c = front-within (written-end _ _ _ _ _ c.requires.1 _ _ _ _ (written_on _ _ _ _ _ c.requires.1 _ _ _ _ c.loop-out.invariant _ _ _ _ c.write_run-c.ensures) (next-none _ _ _ _ c.next-m.ensures c.in-Nothing.is)) (written_on _ _ _ _ _ c.requires.1 _ _ _ _ c.loop-out.invariant _ _ _ _ c.write_run-c.ensures).put
+pub slice_bounds-copy-start-in-None : goal.slice_bounds-copy-start-in-None
+slice_bounds-copy-start-in-None c = front-within (written-end _ _ _ _ _ c.requires.1 _ _ _ _ (written_on _ _ _ _ _ c.requires.1 _ _ _ _ c.loop-out.invariant _ _ _ _ c.write_run-c.ensures) (next-none _ _ _ _ c.next-m.ensures c.in-None.is)) (written_on _ _ _ _ _ c.requires.1 _ _ _ _ c.loop-out.invariant _ _ _ _ c.write_run-c.ensures).put
 
 pub copy-requires : goal.copy-requires
-copy-requires c = rest-room (written-end _ _ _ _ _ c.requires.1 _ _ _ _ (written_on _ _ _ _ _ c.requires.1 _ _ _ _ c.loop-out.invariant _ _ _ _ c.write_run-c.ensures) (next-none _ _ _ _ c.next-m.ensures c.in-Nothing.is)) (written_on _ _ _ _ _ c.requires.1 _ _ _ _ c.loop-out.invariant _ _ _ _ c.write_run-c.ensures).put
+copy-requires c = rest-room (written-end _ _ _ _ _ c.requires.1 _ _ _ _ (written_on _ _ _ _ _ c.requires.1 _ _ _ _ c.loop-out.invariant _ _ _ _ c.write_run-c.ensures) (next-none _ _ _ _ c.next-m.ensures c.in-None.is)) (written_on _ _ _ _ _ c.requires.1 _ _ _ _ c.loop-out.invariant _ _ _ _ c.write_run-c.ensures).put
 
 pub overflow_add-result : goal.overflow_add-result
-overflow_add-result c = omega (arith, both-sum (written-end _ _ _ _ _ c.requires.1 _ _ _ _ (written_on _ _ _ _ _ c.requires.1 _ _ _ _ c.loop-out.invariant _ _ _ _ c.write_run-c.ensures) (next-none _ _ _ _ c.next-m.ensures c.in-Nothing.is)) (written_on _ _ _ _ _ c.requires.1 _ _ _ _ c.loop-out.invariant _ _ _ _ c.write_run-c.ensures).put (copied _ _ _ _ c.copy.ensures.value c.copy.ensures.dst_after), c.well_formed)
+overflow_add-result c = omega (arith, both-sum (written-end _ _ _ _ _ c.requires.1 _ _ _ _ (written_on _ _ _ _ _ c.requires.1 _ _ _ _ c.loop-out.invariant _ _ _ _ c.write_run-c.ensures) (next-none _ _ _ _ c.next-m.ensures c.in-None.is)) (written_on _ _ _ _ _ c.requires.1 _ _ _ _ c.loop-out.invariant _ _ _ _ c.write_run-c.ensures).put (copied _ _ _ _ c.copy.ensures.value c.copy.ensures.dst_after), c.well_formed)
 
-pub shape_of-out-in-Nothing : goal.shape_of-out-in-Nothing
-shape_of-out-in-Nothing c = both-length (written-end _ _ _ _ _ c.requires.1 _ _ _ _ (written_on _ _ _ _ _ c.requires.1 _ _ _ _ c.loop-out.invariant _ _ _ _ c.write_run-c.ensures) (next-none _ _ _ _ c.next-m.ensures c.in-Nothing.is)) (written_on _ _ _ _ _ c.requires.1 _ _ _ _ c.loop-out.invariant _ _ _ _ c.write_run-c.ensures).put (copied _ _ _ _ c.copy.ensures.value c.copy.ensures.dst_after)
+pub shape_of-out-in-None : goal.shape_of-out-in-None
+shape_of-out-in-None c = both-length (written-end _ _ _ _ _ c.requires.1 _ _ _ _ (written_on _ _ _ _ _ c.requires.1 _ _ _ _ c.loop-out.invariant _ _ _ _ c.write_run-c.ensures) (next-none _ _ _ _ c.next-m.ensures c.in-None.is)) (written_on _ _ _ _ _ c.requires.1 _ _ _ _ c.loop-out.invariant _ _ _ _ c.write_run-c.ensures).put (copied _ _ _ _ c.copy.ensures.value c.copy.ensures.dst_after)
 
-pub returns-in-Nothing : goal.returns-in-Nothing
-returns-in-Nothing c = both-put (written-end _ _ _ _ _ c.requires.1 _ _ _ _ (written_on _ _ _ _ _ c.requires.1 _ _ _ _ c.loop-out.invariant _ _ _ _ c.write_run-c.ensures) (next-none _ _ _ _ c.next-m.ensures c.in-Nothing.is)) (written_on _ _ _ _ _ c.requires.1 _ _ _ _ c.loop-out.invariant _ _ _ _ c.write_run-c.ensures).put (copied _ _ _ _ c.copy.ensures.value c.copy.ensures.dst_after)
+pub returns-in-None : goal.returns-in-None
+returns-in-None c = both-put (written-end _ _ _ _ _ c.requires.1 _ _ _ _ (written_on _ _ _ _ _ c.requires.1 _ _ _ _ c.loop-out.invariant _ _ _ _ c.write_run-c.ensures) (next-none _ _ _ _ c.next-m.ensures c.in-None.is)) (written_on _ _ _ _ _ c.requires.1 _ _ _ _ c.loop-out.invariant _ _ _ _ c.write_run-c.ensures).put (copied _ _ _ _ c.copy.ensures.value c.copy.ensures.dst_after)
 
 pub slice_bounds-write_mention-count : goal.slice_bounds-write_mention-count
-slice_bounds-write_mention-count c = (next-some _ _ _ _ _ _ _ _ c.next-m.ensures c.in-Here.is).first
+slice_bounds-write_mention-count c = (next-some _ _ _ _ _ _ _ _ c.next-m.ensures c.in-Some.is).first
 
 pub slice_bounds-write_mention-start : goal.slice_bounds-write_mention-start
-slice_bounds-write_mention-start c = (next-some _ _ _ _ _ _ _ _ c.next-m.ensures c.in-Here.is).first
+slice_bounds-write_mention-start c = (next-some _ _ _ _ _ _ _ _ c.next-m.ensures c.in-Some.is).first
 
 pub slice_bounds-write_mention-end : goal.slice_bounds-write_mention-end
-slice_bounds-write_mention-end c = let x = (next-some _ _ _ _ _ _ _ _ c.next-m.ensures c.in-Here.is) in omega (arith, x.rises, x.last)
+slice_bounds-write_mention-end c = let x = (next-some _ _ _ _ _ _ _ _ c.next-m.ensures c.in-Some.is) in omega (arith, x.rises, x.last)
 
-pub slice_bounds-write_mention-count-in-Here : goal.slice_bounds-write_mention-count-in-Here
-slice_bounds-write_mention-count-in-Here c = front-within (written-two _ _ _ _ _ _ _ _ _ (written_on _ _ _ _ _ c.requires.1 _ _ _ _ c.loop-out.invariant _ _ _ _ c.write_run-c.ensures) _ _ _ _ (next-some _ _ _ _ _ _ _ _ c.next-m.ensures c.in-Here.is) _ c.renumber-k.ensures c.requires.1) (written_on _ _ _ _ _ c.requires.1 _ _ _ _ c.loop-out.invariant _ _ _ _ c.write_run-c.ensures).put
+pub slice_bounds-write_mention-count-in-Some : goal.slice_bounds-write_mention-count-in-Some
+slice_bounds-write_mention-count-in-Some c = front-within (written-two _ _ _ _ _ _ _ _ _ (written_on _ _ _ _ _ c.requires.1 _ _ _ _ c.loop-out.invariant _ _ _ _ c.write_run-c.ensures) _ _ _ _ (next-some _ _ _ _ _ _ _ _ c.next-m.ensures c.in-Some.is) _ c.renumber-k.ensures c.requires.1) (written_on _ _ _ _ _ c.requires.1 _ _ _ _ c.loop-out.invariant _ _ _ _ c.write_run-c.ensures).put
 
-pub slice_bounds-write_mention-start-in-Here : goal.slice_bounds-write_mention-start-in-Here
-slice_bounds-write_mention-start-in-Here c = front-within (written-two _ _ _ _ _ _ _ _ _ (written_on _ _ _ _ _ c.requires.1 _ _ _ _ c.loop-out.invariant _ _ _ _ c.write_run-c.ensures) _ _ _ _ (next-some _ _ _ _ _ _ _ _ c.next-m.ensures c.in-Here.is) _ c.renumber-k.ensures c.requires.1) (written_on _ _ _ _ _ c.requires.1 _ _ _ _ c.loop-out.invariant _ _ _ _ c.write_run-c.ensures).put
+pub slice_bounds-write_mention-start-in-Some : goal.slice_bounds-write_mention-start-in-Some
+slice_bounds-write_mention-start-in-Some c = front-within (written-two _ _ _ _ _ _ _ _ _ (written_on _ _ _ _ _ c.requires.1 _ _ _ _ c.loop-out.invariant _ _ _ _ c.write_run-c.ensures) _ _ _ _ (next-some _ _ _ _ _ _ _ _ c.next-m.ensures c.in-Some.is) _ c.renumber-k.ensures c.requires.1) (written_on _ _ _ _ _ c.requires.1 _ _ _ _ c.loop-out.invariant _ _ _ _ c.write_run-c.ensures).put
 
 pub write_mention-w-requires : goal.write_mention-w-requires
-write_mention-w-requires c = (rw c.renumber-k.ensures (c.requires.0.carried _), rest-room (written-two _ _ _ _ _ _ _ _ _ (written_on _ _ _ _ _ c.requires.1 _ _ _ _ c.loop-out.invariant _ _ _ _ c.write_run-c.ensures) _ _ _ _ (next-some _ _ _ _ _ _ _ _ c.next-m.ensures c.in-Here.is) _ c.renumber-k.ensures c.requires.1) (written_on _ _ _ _ _ c.requires.1 _ _ _ _ c.loop-out.invariant _ _ _ _ c.write_run-c.ensures).put)
+write_mention-w-requires c = (rw c.renumber-k.ensures (c.requires.0.carried _), rest-room (written-two _ _ _ _ _ _ _ _ _ (written_on _ _ _ _ _ c.requires.1 _ _ _ _ c.loop-out.invariant _ _ _ _ c.write_run-c.ensures) _ _ _ _ (next-some _ _ _ _ _ _ _ _ c.next-m.ensures c.in-Some.is) _ c.renumber-k.ensures c.requires.1) (written_on _ _ _ _ _ c.requires.1 _ _ _ _ c.loop-out.invariant _ _ _ _ c.write_run-c.ensures).put)
 
-pub overflow_add-w-in-Here : goal.overflow_add-w-in-Here
-overflow_add-w-in-Here c = omega (arith, both-sum (written-two _ _ _ _ _ _ _ _ _ (written_on _ _ _ _ _ c.requires.1 _ _ _ _ c.loop-out.invariant _ _ _ _ c.write_run-c.ensures) _ _ _ _ (next-some _ _ _ _ _ _ _ _ c.next-m.ensures c.in-Here.is) _ c.renumber-k.ensures c.requires.1) (written_on _ _ _ _ _ c.requires.1 _ _ _ _ c.loop-out.invariant _ _ _ _ c.write_run-c.ensures).put c.write_mention-w.ensures, c.well_formed)
+pub overflow_add-w-in-Some : goal.overflow_add-w-in-Some
+overflow_add-w-in-Some c = omega (arith, both-sum (written-two _ _ _ _ _ _ _ _ _ (written_on _ _ _ _ _ c.requires.1 _ _ _ _ c.loop-out.invariant _ _ _ _ c.write_run-c.ensures) _ _ _ _ (next-some _ _ _ _ _ _ _ _ c.next-m.ensures c.in-Some.is) _ c.renumber-k.ensures c.requires.1) (written_on _ _ _ _ _ c.requires.1 _ _ _ _ c.loop-out.invariant _ _ _ _ c.write_run-c.ensures).put c.write_mention-w.ensures, c.well_formed)
 
 pub loop-out-smaller : goal.loop-out-smaller
-loop-out-smaller c = let x = (next-some _ _ _ _ _ _ _ _ c.next-m.ensures c.in-Here.is) in omega (arith, x.first, x.rises, x.last, c.write_run-c.ensures.going.onward)
+loop-out-smaller c = let x = (next-some _ _ _ _ _ _ _ _ c.next-m.ensures c.in-Some.is) in omega (arith, x.first, x.rises, x.last, c.write_run-c.ensures.going.onward)
 
 pub loop-out-preserved : goal.loop-out-preserved
-loop-out-preserved c = written_next _ _ _ _ _ _ _ _ _ (written_on _ _ _ _ _ c.requires.1 _ _ _ _ c.loop-out.invariant _ _ _ _ c.write_run-c.ensures) _ _ _ _ (next-some _ _ _ _ _ _ _ _ c.next-m.ensures c.in-Here.is) _ _ (both-put (written-two _ _ _ _ _ _ _ _ _ (written_on _ _ _ _ _ c.requires.1 _ _ _ _ c.loop-out.invariant _ _ _ _ c.write_run-c.ensures) _ _ _ _ (next-some _ _ _ _ _ _ _ _ c.next-m.ensures c.in-Here.is) _ c.renumber-k.ensures c.requires.1) (written_on _ _ _ _ _ c.requires.1 _ _ _ _ c.loop-out.invariant _ _ _ _ c.write_run-c.ensures).put c.write_mention-w.ensures)
+loop-out-preserved c = written_next _ _ _ _ _ _ _ _ _ (written_on _ _ _ _ _ c.requires.1 _ _ _ _ c.loop-out.invariant _ _ _ _ c.write_run-c.ensures) _ _ _ _ (next-some _ _ _ _ _ _ _ _ c.next-m.ensures c.in-Some.is) _ _ (both-put (written-two _ _ _ _ _ _ _ _ _ (written_on _ _ _ _ _ c.requires.1 _ _ _ _ c.loop-out.invariant _ _ _ _ c.write_run-c.ensures) _ _ _ _ (next-some _ _ _ _ _ _ _ _ c.next-m.ensures c.in-Some.is) _ c.renumber-k.ensures c.requires.1) (written_on _ _ _ _ _ c.requires.1 _ _ _ _ c.loop-out.invariant _ _ _ _ c.write_run-c.ensures).put c.write_mention-w.ensures)

@@ -23,35 +23,35 @@ returns-then-p-eq0 c = c.loop-n.invariant
 pub count_at-requires : goal.count_at-requires
 count_at-requires c = (c.next_start-next.ensures.ahead c.if-p-eq0.false 1 (λ z. omega arith)).within
 
-pub shape_of-out-in-Refused : goal.shape_of-out-in-Refused
-shape_of-out-in-Refused c = written-length _ _ _ _ _ _ _ _ _ c.loop-n.invariant c.requires.2
+pub shape_of-out-in-Err : goal.shape_of-out-in-Err
+shape_of-out-in-Err c = written-length _ _ _ _ _ _ _ _ _ c.loop-n.invariant c.requires.2
 
-pub returns-in-Refused : goal.returns-in-Refused
-returns-in-Refused c = c.loop-n.invariant
+pub returns-in-Err : goal.returns-in-Err
+returns-in-Err c = c.loop-n.invariant
 
 pub slice_bounds-write_mention-count : goal.slice_bounds-write_mention-count
-slice_bounds-write_mention-count c = (start-here _ _ c.loop-n.invariant.going.within _ _ (not_none c.loop-n-test.true) _ c.next_start-next.ensures c.if-p-eq0.false _ _ (stands-is c.count_at.ensures (ap of_read c.in-Value.is))).first
+slice_bounds-write_mention-count c = (start-here _ _ c.loop-n.invariant.going.within _ _ (not_none c.loop-n-test.true) _ c.next_start-next.ensures c.if-p-eq0.false _ _ (stands-is c.count_at.ensures (ap of_read c.in-Ok.is))).first
 
 pub slice_bounds-write_mention-start : goal.slice_bounds-write_mention-start
-slice_bounds-write_mention-start c = (start-here _ _ c.loop-n.invariant.going.within _ _ (not_none c.loop-n-test.true) _ c.next_start-next.ensures c.if-p-eq0.false _ _ (stands-is c.count_at.ensures (ap of_read c.in-Value.is))).first
+slice_bounds-write_mention-start c = (start-here _ _ c.loop-n.invariant.going.within _ _ (not_none c.loop-n-test.true) _ c.next_start-next.ensures c.if-p-eq0.false _ _ (stands-is c.count_at.ensures (ap of_read c.in-Ok.is))).first
 
 pub slice_bounds-write_mention-end : goal.slice_bounds-write_mention-end
-slice_bounds-write_mention-end c = let x = (start-here _ _ c.loop-n.invariant.going.within _ _ (not_none c.loop-n-test.true) _ c.next_start-next.ensures c.if-p-eq0.false _ _ (stands-is c.count_at.ensures (ap of_read c.in-Value.is))) in omega (arith, x.rises, x.last)
+slice_bounds-write_mention-end c = let x = (start-here _ _ c.loop-n.invariant.going.within _ _ (not_none c.loop-n-test.true) _ c.next_start-next.ensures c.if-p-eq0.false _ _ (stands-is c.count_at.ensures (ap of_read c.in-Ok.is))) in omega (arith, x.rises, x.last)
 
-pub slice_bounds-write_mention-count-in-Value : goal.slice_bounds-write_mention-count-in-Value
-slice_bounds-write_mention-count-in-Value c = front-within (written-two _ _ _ _ _ _ _ _ _ c.loop-n.invariant _ _ _ _ (start-here _ _ c.loop-n.invariant.going.within _ _ (not_none c.loop-n-test.true) _ c.next_start-next.ensures c.if-p-eq0.false _ _ (stands-is c.count_at.ensures (ap of_read c.in-Value.is))) _ c.renumber-k.ensures c.requires.2) c.loop-n.invariant.put
+pub slice_bounds-write_mention-count-in-Ok : goal.slice_bounds-write_mention-count-in-Ok
+slice_bounds-write_mention-count-in-Ok c = front-within (written-two _ _ _ _ _ _ _ _ _ c.loop-n.invariant _ _ _ _ (start-here _ _ c.loop-n.invariant.going.within _ _ (not_none c.loop-n-test.true) _ c.next_start-next.ensures c.if-p-eq0.false _ _ (stands-is c.count_at.ensures (ap of_read c.in-Ok.is))) _ c.renumber-k.ensures c.requires.2) c.loop-n.invariant.put
 
-pub slice_bounds-write_mention-start-in-Value : goal.slice_bounds-write_mention-start-in-Value
-slice_bounds-write_mention-start-in-Value c = front-within (written-two _ _ _ _ _ _ _ _ _ c.loop-n.invariant _ _ _ _ (start-here _ _ c.loop-n.invariant.going.within _ _ (not_none c.loop-n-test.true) _ c.next_start-next.ensures c.if-p-eq0.false _ _ (stands-is c.count_at.ensures (ap of_read c.in-Value.is))) _ c.renumber-k.ensures c.requires.2) c.loop-n.invariant.put
+pub slice_bounds-write_mention-start-in-Ok : goal.slice_bounds-write_mention-start-in-Ok
+slice_bounds-write_mention-start-in-Ok c = front-within (written-two _ _ _ _ _ _ _ _ _ c.loop-n.invariant _ _ _ _ (start-here _ _ c.loop-n.invariant.going.within _ _ (not_none c.loop-n-test.true) _ c.next_start-next.ensures c.if-p-eq0.false _ _ (stands-is c.count_at.ensures (ap of_read c.in-Ok.is))) _ c.renumber-k.ensures c.requires.2) c.loop-n.invariant.put
 
 pub write_mention-w-requires : goal.write_mention-w-requires
-write_mention-w-requires c = (rw c.renumber-k.ensures (c.requires.1.carried _), rest-room (written-two _ _ _ _ _ _ _ _ _ c.loop-n.invariant _ _ _ _ (start-here _ _ c.loop-n.invariant.going.within _ _ (not_none c.loop-n-test.true) _ c.next_start-next.ensures c.if-p-eq0.false _ _ (stands-is c.count_at.ensures (ap of_read c.in-Value.is))) _ c.renumber-k.ensures c.requires.2) c.loop-n.invariant.put)
+write_mention-w-requires c = (rw c.renumber-k.ensures (c.requires.1.carried _), rest-room (written-two _ _ _ _ _ _ _ _ _ c.loop-n.invariant _ _ _ _ (start-here _ _ c.loop-n.invariant.going.within _ _ (not_none c.loop-n-test.true) _ c.next_start-next.ensures c.if-p-eq0.false _ _ (stands-is c.count_at.ensures (ap of_read c.in-Ok.is))) _ c.renumber-k.ensures c.requires.2) c.loop-n.invariant.put)
 
 pub overflow_add-w : goal.overflow_add-w
-overflow_add-w c = omega (arith, both-sum (written-two _ _ _ _ _ _ _ _ _ c.loop-n.invariant _ _ _ _ (start-here _ _ c.loop-n.invariant.going.within _ _ (not_none c.loop-n-test.true) _ c.next_start-next.ensures c.if-p-eq0.false _ _ (stands-is c.count_at.ensures (ap of_read c.in-Value.is))) _ c.renumber-k.ensures c.requires.2) c.loop-n.invariant.put c.write_mention-w.ensures, c.well_formed)
+overflow_add-w c = omega (arith, both-sum (written-two _ _ _ _ _ _ _ _ _ c.loop-n.invariant _ _ _ _ (start-here _ _ c.loop-n.invariant.going.within _ _ (not_none c.loop-n-test.true) _ c.next_start-next.ensures c.if-p-eq0.false _ _ (stands-is c.count_at.ensures (ap of_read c.in-Ok.is))) _ c.renumber-k.ensures c.requires.2) c.loop-n.invariant.put c.write_mention-w.ensures, c.well_formed)
 
 pub loop-n-preserved : goal.loop-n-preserved
-loop-n-preserved c = written_next _ _ _ _ _ _ _ _ _ c.loop-n.invariant _ _ _ _ (start-here _ _ c.loop-n.invariant.going.within _ _ (not_none c.loop-n-test.true) _ c.next_start-next.ensures c.if-p-eq0.false _ _ (stands-is c.count_at.ensures (ap of_read c.in-Value.is))) _ _ (both-put (written-two _ _ _ _ _ _ _ _ _ c.loop-n.invariant _ _ _ _ (start-here _ _ c.loop-n.invariant.going.within _ _ (not_none c.loop-n-test.true) _ c.next_start-next.ensures c.if-p-eq0.false _ _ (stands-is c.count_at.ensures (ap of_read c.in-Value.is))) _ c.renumber-k.ensures c.requires.2) c.loop-n.invariant.put c.write_mention-w.ensures)
+loop-n-preserved c = written_next _ _ _ _ _ _ _ _ _ c.loop-n.invariant _ _ _ _ (start-here _ _ c.loop-n.invariant.going.within _ _ (not_none c.loop-n-test.true) _ c.next_start-next.ensures c.if-p-eq0.false _ _ (stands-is c.count_at.ensures (ap of_read c.in-Ok.is))) _ _ (both-put (written-two _ _ _ _ _ _ _ _ _ c.loop-n.invariant _ _ _ _ (start-here _ _ c.loop-n.invariant.going.within _ _ (not_none c.loop-n-test.true) _ c.next_start-next.ensures c.if-p-eq0.false _ _ (stands-is c.count_at.ensures (ap of_read c.in-Ok.is))) _ c.renumber-k.ensures c.requires.2) c.loop-n.invariant.put c.write_mention-w.ensures)
 
 pub shape_of-out : goal.shape_of-out
 shape_of-out c = written-length _ _ _ _ _ _ _ _ _ c.loop-n.invariant c.requires.2

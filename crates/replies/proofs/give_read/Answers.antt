@@ -3,21 +3,21 @@ use mathlib.Core.Path.{ap}
 use mir.Syntax.{w64}
 use mir.Facts.{to_z_pos}
 use Rattle.replies.specs.Functions.{read_reply}
-use Rattle.replies.proofs.ReplyLaws.{gave, denied-code}
+use Rattle.replies.proofs.ReplyLaws.{gave, denied-number}
 use Rattle.replies.proofs.give_read.Goals as goal
-use Rattle.replies.proofs.give_read.Goals.{In-Value}
+use Rattle.replies.proofs.give_read.Goals.{In-Ok}
 
-below : (c : goal.In-Value) → (c.in-Value.v < 2 ^ 63) × (c.in-Value.n < 2 ^ 63)
-below c = rw c.in-Value.is at c.requires.to
+below : (c : goal.In-Ok) → (c.in-Ok.v < 2 ^ 63) × (c.in-Ok.n < 2 ^ 63)
+below c = rw c.in-Ok.is at c.requires.to
 
 pub overflow_cast-out : goal.overflow_cast-out
-overflow_cast-out c = record { sfits = (below c).0 }
+overflow_cast-out c = record { sfits = (below (goal.at.overflow_cast-out c).In-Ok).0 }
 
-pub overflow_cast-out-in-Value : goal.overflow_cast-out-in-Value
-overflow_cast-out-in-Value c = record { sfits = (below c).1 }
+pub overflow_cast-out-in-Ok : goal.overflow_cast-out-in-Ok
+overflow_cast-out-in-Ok c = record { sfits = (below (goal.at.overflow_cast-out-in-Ok c).In-Ok).1 }
 
-pub returns-in-Value : goal.returns-in-Value
-returns-in-Value c = rw (to_z_pos w64 (below (goal.at.returns-in-Value c).In-Value).0, to_z_pos w64 (below (goal.at.returns-in-Value c).In-Value).1) (gave _ _ _ (ap read_reply c.in-Value.is))
+pub returns-in-Ok : goal.returns-in-Ok
+returns-in-Ok c = rw (to_z_pos w64 (below (goal.at.returns-in-Ok c).In-Ok).0, to_z_pos w64 (below (goal.at.returns-in-Ok c).In-Ok).1) (gave _ _ _ (ap read_reply c.in-Ok.is))
 
-pub returns-in-Refused : goal.returns-in-Refused
-returns-in-Refused c = denied-code _ _ _ (ap read_reply c.in-Refused.is)
+pub returns-in-Err : goal.returns-in-Err
+returns-in-Err c = denied-number _ _ _ _ (ap read_reply c.in-Err.is) c.number.ensures

@@ -16,8 +16,8 @@ kept c = rw (to_z-of_z c.ranges.ticks) at c.kept_row.ensures
 pub returns-then-instant-eq0 : goal.returns-then-instant-eq0
 returns-then-instant-eq0 c = listed-outside _ _ _ _ _ _ (asked (goal.at.returns-then-instant-eq0 c).After-instant) c.if-instant-eq0.true
 
-pub returns-in-Row : goal.returns-in-Row
-returns-in-Row c = listed-row _ _ _ _ _ _ (asked (goal.at.returns-in-Row c).After-instant) c.if-instant-eq0.false _ (kept (goal.at.returns-in-Row c).After-kept_row) _ c.in-Row.is
+pub returns-in-Some : goal.returns-in-Some
+returns-in-Some c = listed-row _ _ _ _ _ _ (asked (goal.at.returns-in-Some c).After-instant) c.if-instant-eq0.false _ (kept (goal.at.returns-in-Some c).After-kept_row) _ c.in-Some.is
 
-pub returns-in-Nothing : goal.returns-in-Nothing
-returns-in-Nothing c = listed-asked _ _ _ _ _ _ (asked (goal.at.returns-in-Nothing c).After-instant) c.if-instant-eq0.false _ (kept (goal.at.returns-in-Nothing c).After-kept_row) c.in-Nothing.is _ (rw (to_z-of_z c.ranges.ticks) at c.ask_zone.ensures)
+pub returns-in-None : goal.returns-in-None
+returns-in-None c = listed-asked _ _ _ _ _ _ (asked (goal.at.returns-in-None c).After-instant) c.if-instant-eq0.false _ (kept (goal.at.returns-in-None c).After-kept_row) c.in-None.is _ (rw (to_z-of_z c.ranges.ticks) at c.ask_zone.ensures)

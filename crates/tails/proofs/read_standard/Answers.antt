@@ -6,34 +6,34 @@ use Rattle.tails.specs.Tail.{after_standard_name, after_offset, parse_standard}
 use Rattle.tails.proofs.read_standard.Goals as goal
 
 pub name_at-requires : goal.name_at-requires
-name_at-requires c = then-in c.sum_at.ensures _ _ (ap of_read c.in-Value.is)
+name_at-requires c = then-in c.sum_at.ensures _ _ (ap of_read c.in-Ok.is)
 
 pub read_rule-requires : goal.read_rule-requires
-read_rule-requires c = then-in c.name_at.ensures _ _ (ap of_read c.in-Value-name_at.is)
+read_rule-requires c = then-in c.name_at.ensures _ _ (ap of_read c.in-Ok-name_at.is)
 
-pub returns-in-Refused : goal.returns-in-Refused
+pub returns-in-Err : goal.returns-in-Err
 unfolding parse_standard
-returns-in-Refused c = off c.sum_at.ensures _ _ (ap of_read c.in-Refused.is)
+returns-in-Err c = off c.sum_at.ensures _ _ (ap of_read c.in-Err.is)
 
-pub returns-in-Refused-name_at : goal.returns-in-Refused-name_at
+pub returns-in-Err-name_at : goal.returns-in-Err-name_at
 unfolding parse_standard after_offset
-returns-in-Refused-name_at c = on c.sum_at.ensures _ _ _ _
-    (ap of_read c.in-Value.is)
-    (off c.name_at.ensures _ _ (ap of_read c.in-Refused-name_at.is))
+returns-in-Err-name_at c = on c.sum_at.ensures _ _ _ _
+    (ap of_read c.in-Ok.is)
+    (off c.name_at.ensures _ _ (ap of_read c.in-Err-name_at.is))
 
-pub returns-in-Refused-read_rule : goal.returns-in-Refused-read_rule
+pub returns-in-Err-read_rule : goal.returns-in-Err-read_rule
 unfolding parse_standard after_offset after_standard_name
-returns-in-Refused-read_rule c = on c.sum_at.ensures _ _ _ _
-    (ap of_read c.in-Value.is)
+returns-in-Err-read_rule c = on c.sum_at.ensures _ _ _ _
+    (ap of_read c.in-Ok.is)
     (on c.name_at.ensures _ _ _ _
-    (ap of_read c.in-Value-name_at.is)
-    (off c.read_rule.ensures _ _ (ap of_rule c.in-Refused-read_rule.is)))
+    (ap of_read c.in-Ok-name_at.is)
+    (off c.read_rule.ensures _ _ (ap of_rule c.in-Err-read_rule.is)))
 
-pub returns-in-Got : goal.returns-in-Got
+pub returns-in-Ok-read_rule : goal.returns-in-Ok-read_rule
 unfolding parse_standard after_offset after_standard_name
-returns-in-Got c = on c.sum_at.ensures _ _ _ _
-    (ap of_read c.in-Value.is)
+returns-in-Ok-read_rule c = on c.sum_at.ensures _ _ _ _
+    (ap of_read c.in-Ok.is)
     (on c.name_at.ensures _ _ _ _
-    (ap of_read c.in-Value-name_at.is)
-    (on c.read_rule.ensures _ _ _ _ (ap of_rule c.in-Got.is)
-    (here _ _ _ _ refl (then-in c.read_rule.ensures _ _ (ap of_rule c.in-Got.is)))))
+    (ap of_read c.in-Ok-name_at.is)
+    (on c.read_rule.ensures _ _ _ _ (ap of_rule c.in-Ok-read_rule.is)
+    (here _ _ _ _ refl (then-in c.read_rule.ensures _ _ (ap of_rule c.in-Ok-read_rule.is)))))

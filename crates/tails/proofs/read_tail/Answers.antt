@@ -1,3 +1,4 @@
+use Rattle.std.proofs.lemmas.Result.{err_from_is_err_and}
 use Rattle.tails.proofs.TailLaws.{standard-high}
 use mathlib.Core.Path.{ap}
 use Rattle.places.proofs.PlaceLaws.{then-in, on, off}
@@ -7,16 +8,17 @@ use Rattle.tails.proofs.read_tail.Goals as goal
 
 pub read_daylight-requires : goal.read_daylight-requires
 read_daylight-requires c = (
-  then-in c.read_standard.ensures _ _ (ap of_standard c.in-Got.is),
+  then-in c.read_standard.ensures _ _ (ap of_standard c.in_ok-x.was),
   standard-high _ _ _ _
-      c.read_standard.ensures _ _ (ap of_standard c.in-Got.is),
+      c.read_standard.ensures _ _ (ap of_standard c.in_ok-x.was),
 )
 
-pub returns-in-Refused : goal.returns-in-Refused
+pub returns-in_err-x : goal.returns-in_err-x
 unfolding parse_tail
-returns-in-Refused c = off c.read_standard.ensures _ _ (ap of_standard c.in-Refused.is)
+returns-in_err-x c = let p = err_from_is_err_and c.from_residual.result c.from_residual.ensures.1 in
+    rw (p.1, p.2) (off c.read_standard.ensures _ _ (ap of_standard c.in_err-x.was))
 
-pub returns-in-Got : goal.returns-in-Got
+pub returns : goal.returns
 unfolding parse_tail
-returns-in-Got c = on c.read_standard.ensures _ _ _ _ (ap of_standard c.in-Got.is)
+returns c = on c.read_standard.ensures _ _ _ _ (ap of_standard c.in_ok-x.was)
     c.read_daylight.ensures

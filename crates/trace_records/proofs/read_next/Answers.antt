@@ -23,8 +23,8 @@ returns-in-Refused c = next-refused _ _ _ _ c.requires.0 c.requires.1 _ c.read_f
 pub returns-in-Version : goal.returns-in-Version
 returns-in-Version c = next-version c.args.s.now c.args.count _ _ c.requires.0 c.requires.1 _ c.read_frame-f.ensures c.in-Version.is
 
-pub returns-in-Refused-check : goal.returns-in-Refused-check
-returns-in-Refused-check c = next-bad _ _ _ _ c.requires.0 c.requires.1 _ c.read_frame-f.ensures _ _ _ c.in-Whole.is _ c.check.ensures _ c.in-Refused-check.is
+pub returns-in-Err : goal.returns-in-Err
+returns-in-Err c = next-bad _ _ _ _ c.requires.0 c.requires.1 _ c.read_frame-f.ensures _ _ _ c.in-Whole.is _ c.check.ensures _ c.in-Err.is
 
-pub returns-in-Good : goal.returns-in-Good
-returns-in-Good c = next-zone _ _ _ _ c.requires.0 c.requires.1 _ c.read_frame-f.ensures _ _ _ c.in-Whole.is _ c.check.ensures _ c.in-Good.is
+pub returns-in-Ok : goal.returns-in-Ok
+returns-in-Ok c = next-zone _ _ _ _ c.requires.0 c.requires.1 _ c.read_frame-f.ensures _ _ _ c.in-Whole.is _ c.check.ensures _ c.in-Ok.is

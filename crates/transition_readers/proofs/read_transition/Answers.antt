@@ -1,3 +1,4 @@
+use Rattle.std.proofs.lemmas.Result.{err_from_is_err_and}
 use mathlib.Core.Path.{◌≡◌, ap, sym, ◌∙◌}
 use Prim.Native.Nat.{ℕ}
 use mir.Syntax.{w64}
@@ -14,9 +15,10 @@ read c =
     c.read_moment.ensures
     ∙ ap (λ (p : ℕ). read_moment p c.args.s.now) (rw (to_z-of_z c.ranges.previous) at c.instant.ensures)
 
-pub returns-in-Value : goal.returns-in-Value
-returns-in-Value c = rw (to_z-of_z {w = w64} {z = c.ticks.result} (record { sfits = c.ticks.type_inv }), c.ticks.ensures)
-    (ap (number ticks_of) (sym c.in-Value.is ∙ read (goal.at.returns-in-Value c).After-read_moment))
+pub returns : goal.returns
+returns c = rw (to_z-of_z {w = w64} {z = c.ticks.result} (record { sfits = c.ticks.type_inv }), c.ticks.ensures)
+    (ap (number ticks_of) (sym c.in_ok-m.was ∙ read (goal.at.returns c).After-read_moment))
 
-pub returns-in-Refused : goal.returns-in-Refused
-returns-in-Refused c = ap (number ticks_of) (sym c.in-Refused.is ∙ read (goal.at.returns-in-Refused c).After-read_moment)
+pub returns-in_err-m : goal.returns-in_err-m
+returns-in_err-m c = let p = err_from_is_err_and c.from_residual.result c.from_residual.ensures.1 in
+    rw (p.1, p.2) (ap (number ticks_of) (sym c.in_err-m.was ∙ read (goal.at.returns-in_err-m c).After-read_moment))

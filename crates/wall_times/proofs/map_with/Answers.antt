@@ -21,8 +21,8 @@ returns-in-Cut c = out-cut _ _ _ (located-cut c.walk.ensures.0 _ c.in-Cut.is)
 pub returns-in-End : goal.returns-in-End
 returns-in-End c = out-end _ _ _ _ (located_end c.walk.ensures.0 _ c.in-End.is)
 
-pub returns-in-Refused-find : goal.returns-in-Refused-find
-returns-in-Refused-find c = out-denied _ _ _ _ _ (located-found c.walk.ensures.0 _ c.in-Found.is) _ (sym c.in-Refused-find.is ∙ c.find.ensures)
+pub returns-in-Err : goal.returns-in-Err
+returns-in-Err c = out-denied _ _ _ _ _ (located-found c.walk.ensures.0 _ c.in-Found.is) _ (sym c.in-Err.is ∙ c.find.ensures)
 
-pub returns-in-Instants : goal.returns-in-Instants
-returns-in-Instants c = out-found _ _ _ _ _ (located-found c.walk.ensures.0 _ c.in-Found.is) _ _ (sym c.in-Instants.is ∙ c.find.ensures) c.in_ticks.ensures
+pub returns-in-Ok : goal.returns-in-Ok
+returns-in-Ok c = out-found _ _ _ _ _ (located-found c.walk.ensures.0 _ c.in-Found.is) _ _ (sym c.in-Ok.is ∙ c.find.ensures) c.in_ticks.ensures

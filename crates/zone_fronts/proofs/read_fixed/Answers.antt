@@ -8,34 +8,34 @@ use Rattle.zone_fronts.proofs.read_fixed.Goals as goal
 pub returns-then-a-s : goal.returns-then-a-s
 unfolding parse_fixed
 returns-then-a-s c = front-absent _ _ _ _ _ _ refl
-    (then-got c.sum_at.ensures _ _ _ (ap of_read c.in-Value.is) ∙ name-absent _ _ _ _ _ c.if-a-s.true)
+    (then-got c.sum_at.ensures _ _ _ (ap of_read c.in-Ok.is) ∙ name-absent _ _ _ _ _ c.if-a-s.true)
 
 pub name_at-requires : goal.name_at-requires
-name_at-requires c = then-in c.sum_at.ensures _ _ (ap of_read c.in-Value.is)
+name_at-requires c = then-in c.sum_at.ensures _ _ (ap of_read c.in-Ok.is)
 
 pub returns-then-e-s : goal.returns-then-e-s
 unfolding parse_fixed
 returns-then-e-s c = front-bad _ _ _ _ _
-    (then-got c.sum_at.ensures _ _ _ (ap of_read c.in-Value.is) ∙
-    name-present _ _ _ _ _ (then-in c.sum_at.ensures _ _ (ap of_read c.in-Value.is)) c.if-a-s.false ∙
-    then-got c.name_at.ensures _ _ _ (ap of_read c.in-Value-name_at.is) ∙
+    (then-got c.sum_at.ensures _ _ _ (ap of_read c.in-Ok.is) ∙
+    name-present _ _ _ _ _ (then-in c.sum_at.ensures _ _ (ap of_read c.in-Ok.is)) c.if-a-s.false ∙
+    then-got c.name_at.ensures _ _ _ (ap of_read c.in-Ok-name_at.is) ∙
     zone-over _ _ _ _ c.if-e-s.true)
 
-pub returns-in-Refused : goal.returns-in-Refused
+pub returns-in-Err : goal.returns-in-Err
 unfolding parse_fixed
-returns-in-Refused c = front-bad _ _ _ _ _ (then-bad c.sum_at.ensures _ _ (ap of_read c.in-Refused.is))
+returns-in-Err c = front-bad _ _ _ _ _ (then-bad c.sum_at.ensures _ _ (ap of_read c.in-Err.is))
 
-pub returns-in-Refused-name_at : goal.returns-in-Refused-name_at
+pub returns-in-Err-name_at : goal.returns-in-Err-name_at
 unfolding parse_fixed
-returns-in-Refused-name_at c = front-bad _ _ _ _ _
-    (then-got c.sum_at.ensures _ _ _ (ap of_read c.in-Value.is) ∙
-    name-present _ _ _ _ _ (then-in c.sum_at.ensures _ _ (ap of_read c.in-Value.is)) c.if-a-s.false ∙
-    then-bad c.name_at.ensures _ _ (ap of_read c.in-Refused-name_at.is))
+returns-in-Err-name_at c = front-bad _ _ _ _ _
+    (then-got c.sum_at.ensures _ _ _ (ap of_read c.in-Ok.is) ∙
+    name-present _ _ _ _ _ (then-in c.sum_at.ensures _ _ (ap of_read c.in-Ok.is)) c.if-a-s.false ∙
+    then-bad c.name_at.ensures _ _ (ap of_read c.in-Err-name_at.is))
 
 pub returns-else-e-s : goal.returns-else-e-s
 unfolding parse_fixed
 returns-else-e-s c = front-present _ _ _ _ _ _ _ refl
-    (then-got c.sum_at.ensures _ _ _ (ap of_read c.in-Value.is) ∙
-    name-present _ _ _ _ _ (then-in c.sum_at.ensures _ _ (ap of_read c.in-Value.is)) c.if-a-s.false ∙
-    then-got c.name_at.ensures _ _ _ (ap of_read c.in-Value-name_at.is) ∙
+    (then-got c.sum_at.ensures _ _ _ (ap of_read c.in-Ok.is) ∙
+    name-present _ _ _ _ _ (then-in c.sum_at.ensures _ _ (ap of_read c.in-Ok.is)) c.if-a-s.false ∙
+    then-got c.name_at.ensures _ _ _ (ap of_read c.in-Ok-name_at.is) ∙
     zone-here _ _ _ _ c.if-e-s.false)

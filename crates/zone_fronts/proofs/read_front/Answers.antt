@@ -7,55 +7,55 @@ use Rattle.zones.proofs.ReadLaws.{head_fixed, head-listed}
 use Rattle.zone_fronts.proofs.read_front.Goals as goal
 
 pub byte_at-requires : goal.byte_at-requires
-byte_at-requires c = then-in c.name_at.ensures _ _ (ap of_read c.in-Value.is)
+byte_at-requires c = then-in c.name_at.ensures _ _ (ap of_read c.in-Ok.is)
 
 pub read_fixed-requires : goal.read_fixed-requires
-read_fixed-requires c = then-in c.byte_at.ensures _ _ (ap of_read c.in-Value-byte_at.is)
+read_fixed-requires c = then-in c.byte_at.ensures _ _ (ap of_read c.in-Ok-byte_at.is)
 
 pub returns-then-flag-eq1 : goal.returns-then-flag-eq1
 unfolding parse_zone after_id
 returns-then-flag-eq1 c = front-on _ _ _ _ _ _ _
     (then-got c.name_at.ensures _ _ _
-    (ap of_read c.in-Value.is) ∙
+    (ap of_read c.in-Ok.is) ∙
     then-got c.byte_at.ensures _ _ _
-    (ap of_read c.in-Value-byte_at.is) ∙ flag-fixed _ _ _ _ c.if-flag-eq1.true)
-    (head_fixed _ _ _ c.in-Value.a _ c.in-Value-byte_at.e
-    (placed-got c.name_at.ensures _ _ (ap of_read c.in-Value.is))
-    (placed-got c.byte_at.ensures _ _ (ap of_read c.in-Value-byte_at.is)) c.if-flag-eq1.true)
+    (ap of_read c.in-Ok-byte_at.is) ∙ flag-fixed _ _ _ _ c.if-flag-eq1.true)
+    (head_fixed _ _ _ c.in-Ok.a _ c.in-Ok-byte_at.e
+    (placed-got c.name_at.ensures _ _ (ap of_read c.in-Ok.is))
+    (placed-got c.byte_at.ensures _ _ (ap of_read c.in-Ok-byte_at.is)) c.if-flag-eq1.true)
     c.read_fixed.ensures
 
 pub read_interval_count-requires : goal.read_interval_count-requires
 read_interval_count-requires c = then-in c.byte_at.ensures _ _
-    (ap of_read c.in-Value-byte_at.is)
+    (ap of_read c.in-Ok-byte_at.is)
 
 pub returns-then-flag-eq2 : goal.returns-then-flag-eq2
 unfolding parse_zone after_id
 returns-then-flag-eq2 c = front-on _ _ _ _ _ _ _
     (then-got c.name_at.ensures _ _ _
-    (ap of_read c.in-Value.is) ∙
+    (ap of_read c.in-Ok.is) ∙
     then-got c.byte_at.ensures _ _ _
-    (ap of_read c.in-Value-byte_at.is) ∙
+    (ap of_read c.in-Ok-byte_at.is) ∙
     flag-listed _ _ _ _ c.if-flag-eq1.false c.if-flag-eq2.true)
-    (head-listed _ _ _ c.in-Value.a _ c.in-Value-byte_at.e
-    (placed-got c.name_at.ensures _ _ (ap of_read c.in-Value.is))
-    (placed-got c.byte_at.ensures _ _ (ap of_read c.in-Value-byte_at.is)) c.if-flag-eq2.true)
+    (head-listed _ _ _ c.in-Ok.a _ c.in-Ok-byte_at.e
+    (placed-got c.name_at.ensures _ _ (ap of_read c.in-Ok.is))
+    (placed-got c.byte_at.ensures _ _ (ap of_read c.in-Ok-byte_at.is)) c.if-flag-eq2.true)
     c.read_interval_count.ensures
 
-pub returns-in-Refused : goal.returns-in-Refused
+pub returns-in-Err : goal.returns-in-Err
 unfolding parse_zone
-returns-in-Refused c = front-bad _ _ _ _ _ (then-bad c.name_at.ensures _ _ (ap of_read c.in-Refused.is))
+returns-in-Err c = front-bad _ _ _ _ _ (then-bad c.name_at.ensures _ _ (ap of_read c.in-Err.is))
 
-pub returns-in-Refused-byte_at : goal.returns-in-Refused-byte_at
+pub returns-in-Err-byte_at : goal.returns-in-Err-byte_at
 unfolding parse_zone after_id
-returns-in-Refused-byte_at c = front-bad _ _ _ _ _
+returns-in-Err-byte_at c = front-bad _ _ _ _ _
     (then-got c.name_at.ensures _ _ _
-    (ap of_read c.in-Value.is) ∙
-    then-bad c.byte_at.ensures _ _ (ap of_read c.in-Refused-byte_at.is))
+    (ap of_read c.in-Ok.is) ∙
+    then-bad c.byte_at.ensures _ _ (ap of_read c.in-Err-byte_at.is))
 
 pub returns-else-flag-eq2 : goal.returns-else-flag-eq2
 unfolding parse_zone after_id
 returns-else-flag-eq2 c = front-bad _ _ _ _ _
     (then-got c.name_at.ensures _ _ _
-    (ap of_read c.in-Value.is) ∙
+    (ap of_read c.in-Ok.is) ∙
     then-got c.byte_at.ensures _ _ _
-    (ap of_read c.in-Value-byte_at.is) ∙ flag-unknown _ _ _ _ c.if-flag-eq1.false c.if-flag-eq2.false)
+    (ap of_read c.in-Ok-byte_at.is) ∙ flag-unknown _ _ _ _ c.if-flag-eq1.false c.if-flag-eq2.false)

@@ -1,5 +1,5 @@
+use Rattle.std.specs.Prelude.{Ok}
 use mathlib.Core.Path.{sym, ap, ◌∙◌}
-use Rattle.zones.specs.declared.Answer.TheVariants.{In}
 use Rattle.lookups.proofs.LookupLaws.{answer-is, fixed-is, before-tail, from_tail, tail-ok}
 use Rattle.zone_lookups.proofs.find.Goals as goal
 
@@ -25,7 +25,7 @@ returns-in-Fixed c = fixed-is _ _ _ _ _ _ _ _ _ _ c.requires
     (sym c.in-Fixed.is ∙ c.read_zone.ensures) c.fixed_name-name.ensures
 
 pub returns-in-Listed : goal.returns-in-Listed
-returns-in-Listed c = ap In c.held_until.ensures ∙
+returns-in-Listed c = ap Ok c.held_until.ensures ∙
     answer-is _ _ _ _ _ _ c.requires
     (sym c.in-Listed.is ∙ c.read_zone.ensures)
 

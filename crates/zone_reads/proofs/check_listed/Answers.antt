@@ -7,32 +7,32 @@ use Rattle.lookups.proofs.WalkLaws.{read-bad, scan-bad, scan-got, ended-bad, end
 use Rattle.zone_reads.proofs.check_listed.Goals as goal
 
 pub code_preferred-form-requires : goal.code_preferred-form-requires
-code_preferred-form-requires c = then-in c.read_intervals.ensures.0 _ _ (ap of_scan c.in-Got.is)
+code_preferred-form-requires c = then-in c.read_intervals.ensures.0 _ _ (ap of_scan c.in-Ok.is)
 
 pub is_untailed-requires : goal.is_untailed-requires
-is_untailed-requires c = then-in c.read_intervals.ensures.0 _ _ (ap of_scan c.in-Got.is)
+is_untailed-requires c = then-in c.read_intervals.ensures.0 _ _ (ap of_scan c.in-Ok.is)
 
 pub returns-then-is_untailed : goal.returns-then-is_untailed
-returns-then-is_untailed c = let x = scan-got _ _ _ (after_intervals c.args.pool c.args.id) _ _ (stands-is c.read_intervals.ensures.0 (ap of_scan c.in-Got.is)) in
+returns-then-is_untailed c = let x = scan-got _ _ _ (after_intervals c.args.pool c.args.id) _ _ (stands-is c.read_intervals.ensures.0 (ap of_scan c.in-Ok.is)) in
     form-is _ _ _ _ (ended-untailed _ _ _ _ _ _ x.list x.scans x.goes (c.is_untailed.ensures.to c.if-is_untailed.true _ _) _
-    (end-form _ _ _ _ _ _ _ _ _ c.read_intervals.ensures.1 c.in-Got.is c.code_preferred-form.ensures))
+    (end-form _ _ _ _ _ _ _ _ _ c.read_intervals.ensures.1 c.in-Ok.is c.code_preferred-form.ensures))
 
 pub read_end-requires : goal.read_end-requires
-read_end-requires c = then-in c.read_intervals.ensures.0 _ _ (ap of_scan c.in-Got.is)
+read_end-requires c = then-in c.read_intervals.ensures.0 _ _ (ap of_scan c.in-Ok.is)
+
+pub returns-in-Err : goal.returns-in-Err
+returns-in-Err c = form-is _ _ _ _ (read-bad 0 _ _ _ (scan-bad _ _ _ _ _ (stands-is c.read_intervals.ensures.0 (ap of_scan c.in-Err.is))))
 
 pub returns-in-Refused : goal.returns-in-Refused
-returns-in-Refused c = form-is _ _ _ _ (read-bad 0 _ _ _ (scan-bad _ _ _ _ _ (stands-is c.read_intervals.ensures.0 (ap of_scan c.in-Refused.is))))
-
-pub returns-in-Refused-read_end : goal.returns-in-Refused-read_end
-returns-in-Refused-read_end c = let x = scan-got _ _ _ (after_intervals c.args.pool c.args.id) _ _ (stands-is c.read_intervals.ensures.0 (ap of_scan c.in-Got.is)) in
-    form-is _ _ _ _ (ended-bad _ _ _ _ _ _ x.list x.scans x.goes _ (end_is c.read_end.ensures c.in-Refused-read_end.is))
+returns-in-Refused c = let x = scan-got _ _ _ (after_intervals c.args.pool c.args.id) _ _ (stands-is c.read_intervals.ensures.0 (ap of_scan c.in-Ok.is)) in
+    form-is _ _ _ _ (ended-bad _ _ _ _ _ _ x.list x.scans x.goes _ (end_is c.read_end.ensures c.in-Refused.is))
 
 pub returns-in-Untailed : goal.returns-in-Untailed
-returns-in-Untailed c = let x = scan-got _ _ _ (after_intervals c.args.pool c.args.id) _ _ (stands-is c.read_intervals.ensures.0 (ap of_scan c.in-Got.is)) in
+returns-in-Untailed c = let x = scan-got _ _ _ (after_intervals c.args.pool c.args.id) _ _ (stands-is c.read_intervals.ensures.0 (ap of_scan c.in-Ok.is)) in
     form-is _ _ _ _ (ended-untailed _ _ _ _ _ _ x.list x.scans x.goes (end_is c.read_end.ensures c.in-Untailed.is) _
-    (end-form _ _ _ _ _ _ _ _ _ c.read_intervals.ensures.1 c.in-Got.is c.code_preferred-form.ensures))
+    (end-form _ _ _ _ _ _ _ _ _ c.read_intervals.ensures.1 c.in-Ok.is c.code_preferred-form.ensures))
 
 pub returns-in-Tailed : goal.returns-in-Tailed
-returns-in-Tailed c = let x = scan-got _ _ _ (after_intervals c.args.pool c.args.id) _ _ (stands-is c.read_intervals.ensures.0 (ap of_scan c.in-Got.is)) in
+returns-in-Tailed c = let x = scan-got _ _ _ (after_intervals c.args.pool c.args.id) _ _ (stands-is c.read_intervals.ensures.0 (ap of_scan c.in-Ok.is)) in
     form-is _ _ _ _ (ended-tailed _ _ _ _ _ _ x.list x.scans x.goes _ (end_is c.read_end.ensures c.in-Tailed.is) _
-    (end-form _ _ _ _ _ _ _ _ _ c.read_intervals.ensures.1 c.in-Got.is c.code_preferred-form.ensures))
+    (end-form _ _ _ _ _ _ _ _ _ c.read_intervals.ensures.1 c.in-Ok.is c.code_preferred-form.ensures))

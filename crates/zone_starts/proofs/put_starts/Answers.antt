@@ -32,27 +32,27 @@ loop-left-preserved-then-m-ne0 c = putting-usual _ _ _ _ _ _ _ _ _ _ c.loop-left
 pub read_interval-item-requires : goal.read_interval-item-requires
 read_interval-item-requires c = putting-in _ _ _ _ _ _ _ _ _ _ c.loop-left.invariant
 
-pub shape_of-out-in-Refused : goal.shape_of-out-in-Refused
-shape_of-out-in-Refused c = putting-never _ _ _ _ _ _ _ _ _ _ c.loop-left.invariant _ c.loop-left-test.true c.requires.0
-    (stands-is c.read_interval-item.ensures (ap of_interval c.in-Refused.is))
+pub shape_of-out-in-Err : goal.shape_of-out-in-Err
+shape_of-out-in-Err c = putting-never _ _ _ _ _ _ _ _ _ _ c.loop-left.invariant _ c.loop-left-test.true c.requires.0
+    (stands-is c.read_interval-item.ensures (ap of_interval c.in-Err.is))
 
-pub returns-in-Refused : goal.returns-in-Refused
-returns-in-Refused c = putting-never _ _ _ _ _ _ _ _ _ _ c.loop-left.invariant _ c.loop-left-test.true c.requires.0
-    (stands-is c.read_interval-item.ensures (ap of_interval c.in-Refused.is))
+pub returns-in-Err : goal.returns-in-Err
+returns-in-Err c = putting-never _ _ _ _ _ _ _ _ _ _ c.loop-left.invariant _ c.loop-left-test.true c.requires.0
+    (stands-is c.read_interval-item.ensures (ap of_interval c.in-Err.is))
 
-pub offset_bounds-out-i-in-Got : goal.offset_bounds-out-i-in-Got
-offset_bounds-out-i-in-Got c = omega (arith, putting-few _ _ _ _ _ _ _ _ _ _ c.loop-left.invariant c.loop-left-test.true c.requires.1, c.requires.0.most)
+pub offset_bounds-out-i-in-Ok : goal.offset_bounds-out-i-in-Ok
+offset_bounds-out-i-in-Ok c = omega (arith, putting-few _ _ _ _ _ _ _ _ _ _ c.loop-left.invariant c.loop-left-test.true c.requires.1, c.requires.0.most)
 
-pub bounds-out-i-in-Got : goal.bounds-out-i-in-Got
-bounds-out-i-in-Got c = putting-room _ _ _ _ _ _ _ _ _ _ c.loop-left.invariant c.loop-left-test.true c.requires.1
+pub bounds-out-i-in-Ok : goal.bounds-out-i-in-Ok
+bounds-out-i-in-Ok c = putting-room _ _ _ _ _ _ _ _ _ _ c.loop-left.invariant c.loop-left-test.true c.requires.1
 
-pub overflow_add-i-in-Got : goal.overflow_add-i-in-Got
-overflow_add-i-in-Got c = omega (arith, putting-few _ _ _ _ _ _ _ _ _ _ c.loop-left.invariant c.loop-left-test.true c.requires.1, c.requires.0.most)
+pub overflow_add-i-in-Ok : goal.overflow_add-i-in-Ok
+overflow_add-i-in-Ok c = omega (arith, putting-few _ _ _ _ _ _ _ _ _ _ c.loop-left.invariant c.loop-left-test.true c.requires.1, c.requires.0.most)
 
 pub loop-left-preserved : goal.loop-left-preserved
 loop-left-preserved c = putting-next _ _ _ _ _ _ _ _ _ _ c.loop-left.invariant c.loop-left-test.true c.requires.1 _ _
-    (stands-is c.read_interval-item.ensures (ap of_interval c.in-Got.is)) _
-    (to_z-of_z {w = w64} {z = c.ticks-in-Got.result} (record { sfits = c.ticks-in-Got.type_inv }) ∙ c.ticks-in-Got.ensures)
+    (stands-is c.read_interval-item.ensures (ap of_interval c.in-Ok.is)) _
+    (to_z-of_z {w = w64} {z = c.ticks-in-Ok.result} (record { sfits = c.ticks-in-Ok.type_inv }) ∙ c.ticks-in-Ok.ensures)
 
 pub shape_of-out : goal.shape_of-out
 shape_of-out c = putting-length _ _ _ _ _ _ _ _ _ _ c.loop-left.invariant c.requires.1

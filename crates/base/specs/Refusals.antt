@@ -1,7 +1,7 @@
 -- "The numbers given back": the number of each refusal. To be believed.
 use Rattle.std.specs.Prelude.{ℕ}
 use Rattle.base.specs.declared.Refusal.{Refusal}
-use Rattle.base.specs.declared.Refusal.TheVariants.{NotYet, CutShort, WrongVersion, TooLarge, FieldOrder, FirstField, BadCode, BadText, BadData, BadInterval, BadRecurrence, NotFound, SecondZone, OutOfRange, TooShort, NoInstant, TooManySteps, SecondAlias, BadLocation, BadTrace, UnreadField}
+use Rattle.base.specs.declared.Refusal.TheVariants.{NotYet, CutShort, WrongVersion, TooLarge, FieldOrder, FirstField, BadCode, BadText, BadData, BadInterval, BadRecurrence, NotFound, SecondZone, OutOfRange, TooShort, NoInstant, TooManySteps, SecondAlias, BadLocation, BadTrace, UnreadField, Other}
 
 abbrev pub refusal_number : Refusal → ℕ
 refusal_number NotYet = 1
@@ -25,3 +25,4 @@ refusal_number SecondAlias = 19
 refusal_number BadLocation = 20
 refusal_number BadTrace = 21
 refusal_number UnreadField = 22
+refusal_number (Other k) = k

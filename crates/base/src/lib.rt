@@ -8,47 +8,49 @@ ghost use Rattle.base.specs.Refusals.{refusal_number};
 #[derive(Clone, Copy, PartialEq, Eq)]
 pub enum Refusal {
     // More may come: more bytes are needed.
-    NotYet = 1,
+    NotYet,
     // This is all, and the bytes end in the version or in a field.
-    CutShort = 2,
+    CutShort,
     // The version is not 0.
-    WrongVersion = 3,
+    WrongVersion,
     // A largest size is passed.
-    TooLarge = 4,
+    TooLarge,
     // A field is out of order or stands twice.
-    FieldOrder = 5,
+    FieldOrder,
     // The first field is not the string pool.
-    FirstField = 6,
+    FirstField,
     // A count, size, offset or transition code that is not allowed, or a value without a code.
-    BadCode = 7,
+    BadCode,
     // A string is not UTF-8, or a pool number is too high.
-    BadText = 8,
+    BadText,
     // An unknown flag, or data that end early or are left over.
-    BadData = 9,
+    BadData,
     // An interval count, start, end or standard offset that is not allowed.
-    BadInterval = 10,
+    BadInterval,
     // A recurrence or a tail sum is out of its ranges.
-    BadRecurrence = 11,
+    BadRecurrence,
     // No such zone, text, location or entry.
-    NotFound = 12,
+    NotFound,
     // A second zone has the same ID.
-    SecondZone = 13,
+    SecondZone,
     // The instant is outside years 1 to 9999.
-    OutOfRange = 14,
+    OutOfRange,
     // The output, or the buffer of a receiver, is too short.
-    TooShort = 15,
+    TooShort,
     // No instant reads as the local time.
-    NoInstant = 17,
+    NoInstant,
     // The eighth target of an alias is again only an alias.
-    TooManySteps = 18,
+    TooManySteps,
     // A second alias or key has the same bytes.
-    SecondAlias = 19,
+    SecondAlias,
     // A location is out of its ranges.
-    BadLocation = 20,
+    BadLocation,
     // A part of the trace leaves it, or a name leaves the names.
-    BadTrace = 21,
+    BadTrace,
     // A field that is not read stands in the way of closing up the pool.
-    UnreadField = 22,
+    UnreadField,
+    // A number that nothing here gives: what only passes a refusal on takes any.
+    Other(u8),
 }
 
 impl Refusal {
@@ -56,7 +58,30 @@ impl Refusal {
     pub fn number(self) -> u8
         ensures { result ≡ refusal_number self }
     {
-        self as u8
+        match self {
+            Refusal::NotYet => 1,
+            Refusal::CutShort => 2,
+            Refusal::WrongVersion => 3,
+            Refusal::TooLarge => 4,
+            Refusal::FieldOrder => 5,
+            Refusal::FirstField => 6,
+            Refusal::BadCode => 7,
+            Refusal::BadText => 8,
+            Refusal::BadData => 9,
+            Refusal::BadInterval => 10,
+            Refusal::BadRecurrence => 11,
+            Refusal::NotFound => 12,
+            Refusal::SecondZone => 13,
+            Refusal::OutOfRange => 14,
+            Refusal::TooShort => 15,
+            Refusal::NoInstant => 17,
+            Refusal::TooManySteps => 18,
+            Refusal::SecondAlias => 19,
+            Refusal::BadLocation => 20,
+            Refusal::BadTrace => 21,
+            Refusal::UnreadField => 22,
+            Refusal::Other(k) => k,
+        }
     }
 }
 
